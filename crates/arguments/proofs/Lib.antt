@@ -1,0 +1,4 @@
+mod NumberLemmas
+mod FaultLemmas
+mod TextLemmas
+mod ReadLemmas

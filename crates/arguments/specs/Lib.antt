@@ -1,0 +1,4 @@
+pub mod RuleNames
+pub mod Within
+pub mod Faults
+pub mod Texts

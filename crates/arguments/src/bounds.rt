@@ -1,0 +1,66 @@
+ghost use Rattle.std.specs.Prelude.{◌≡◌, ◌↔◌};
+ghost use Rattle.arguments.specs.Faults.{fault_of, rule_of, rule_of_words};
+ghost use Rattle.arguments.specs.Within.{AreWithin, greatest_of};
+
+use crate::{ArgumentFault, ArgumentRule};
+use syntax::{Arg, Args, Form, Kind, Param};
+
+/// The greatest value that a word of a kind has.
+pub(crate) fn greatest(kind: Kind) -> u32
+    ensures { result ≡ greatest_of kind }
+{
+    match kind {
+        Kind::Boolean => 1,
+        Kind::Uint8 => u32::from(u8::MAX),
+        Kind::Uint16 => u32::from(u16::MAX),
+        Kind::Uint32 => u32::MAX,
+    }
+}
+
+/// The rule that words of the right count break.
+fn rule_of_values(kind: Kind, words: &[u32]) -> Option<ArgumentRule>
+    ensures { result ≡ rule_of_words kind words.now }
+{
+    let greatest = greatest(kind);
+    if words.iter().all(|word| *word <= greatest) {
+        None
+    } else {
+        Some(ArgumentRule::Value)
+    }
+}
+
+/// The rule that an argument breaks at its parameter.
+fn broken_rule(param: &Param, arg: &Arg) -> Option<ArgumentRule>
+    ensures { result ≡ rule_of param.now arg.now }
+{
+    match (param.form, arg) {
+        (Form::SingleWord, Arg::Word(word)) => rule_of_values(param.kind, &[*word]),
+        (Form::FixedArray | Form::MutableArray, Arg::Array(words)) => {
+            let words = words.as_slice();
+            if words.len() == usize::from(param.length) {
+                rule_of_values(param.kind, words)
+            } else {
+                Some(ArgumentRule::Shape)
+            }
+        }
+        _ => Some(ArgumentRule::Shape),
+    }
+}
+
+/// The first fault of arguments: their count before all else, then the leftmost faulty argument, its
+/// shape before its values.
+pub fn first_fault(params: &[Param], args: &Args) -> Option<ArgumentFault>
+    ensures first { result ≡ fault_of params.now args.now }
+    ensures within { (result ≡ None) ↔ AreWithin params.now args.now }
+{
+    let args = args.as_slice();
+    if args.len() != params.len() {
+        return Some(ArgumentFault::count());
+    }
+    for (index, param) in params.iter().enumerate() {
+        if let Some(rule) = broken_rule(param, &args[index]) {
+            return Some(ArgumentFault::at(rule, index));
+        }
+    }
+    None
+}

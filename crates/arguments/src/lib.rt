@@ -1,0 +1,16 @@
+// Arguments: what their texts spell, and whether they are within the parameter types.
+// It promises the first fault exactly, and that what is read from texts is what they spell, within
+// the types. It stands on the shapes of parameters and arguments of `syntax`.
+#![tactic(auto)]
+
+mod bounds;
+mod fault;
+mod numerals;
+mod texts;
+
+pub use bounds::first_fault;
+pub use fault::{ArgumentFault, ArgumentRule};
+pub use texts::{ReadError, read};
+
+#[cfg(test)]
+mod tests;

@@ -1,0 +1,149 @@
+ghost use Rattle.std.specs.Prelude.{◌≡◌, ◌↔◌, ◌==◌, map, IfOk, OnOk};
+ghost use Rattle.std.specs.List.{filter_map, slice_split};
+ghost use Rattle.arguments.specs.Texts.{count_of, fault_of_texts, numbers_of, rule_of_text, word_of};
+ghost use Rattle.arguments.specs.Faults.{fault_by};
+ghost use Rattle.arguments.specs.Within.{AreWithin, IsWithin, words_of};
+ghost use Rattle.arguments.specs.declared.texts.ReadError.TheVariants.{Memory};
+
+use crate::bounds::greatest;
+use crate::numerals::number;
+use crate::{ArgumentFault, ArgumentRule};
+use std::alloc::{AllocError, AllocFailed, Global};
+use std::fmt;
+use syntax::{Arg, Args, Form, Numbers, Param};
+
+/// Why texts give no arguments.
+#[derive(Clone, Copy, Debug, PartialEq, Eq)]
+pub enum ReadError {
+    /// The first fault of the texts.
+    Argument(ArgumentFault),
+    /// A growth was refused.
+    Memory,
+}
+
+impl From<AllocError> for ReadError {
+    ghost from_gives = { λ _ error. error ≡ Memory };
+
+    fn from(_: AllocError) -> Self {
+        ReadError::Memory
+    }
+}
+
+impl<T: Drop> From<AllocFailed<T>> for ReadError {
+    ghost from_gives = { λ _ error. error ≡ Memory };
+
+    fn from(_: AllocFailed<T>) -> Self {
+        ReadError::Memory
+    }
+}
+
+/// `A3 at argument 0: value outside type`, or `M1: memory`.
+impl fmt::Display for ReadError {
+    fn fmt<W: fmt::Write>(&self, f: &mut fmt::Formatter<W>) -> fmt::Result {
+        match self {
+            ReadError::Argument(fault) => write!(f, "{fault}"),
+            ReadError::Memory => f.write_str("M1: memory"),
+        }
+    }
+}
+
+/// How many numbers a parameter takes.
+fn number_count(param: &Param) -> usize
+    ensures { result ≡ count_of param.now.form param.now.length }
+{
+    match param.form {
+        Form::SingleWord => 1,
+        Form::FixedArray | Form::MutableArray => usize::from(param.length),
+    }
+}
+
+/// The rule that a text breaks at its parameter.
+fn broken_rule(param: &Param, text: &str) -> Option<ArgumentRule>
+    ensures { result ≡ rule_of_text param.now text.now }
+{
+    if text.split(',').count() != number_count(param) {
+        return Some(ArgumentRule::Shape);
+    }
+    if !text.split(',').all(|part| number(part).is_some()) {
+        return Some(ArgumentRule::Shape);
+    }
+    let greatest = u64::from(greatest(param.kind));
+    if text
+        .split(',')
+        .all(|part| number(part).is_some_and(|value| value <= greatest))
+    {
+        None
+    } else {
+        Some(ArgumentRule::Value)
+    }
+}
+
+/// The first fault of texts.
+fn first_fault(params: &[Param], texts: &[&str]) -> Option<ArgumentFault>
+    ensures { result ≡ fault_by (λ param text. rule_of_text param text.now) params.now texts.now }
+{
+    if texts.len() != params.len() {
+        return Some(ArgumentFault::count());
+    }
+    for (index, param) in params.iter().enumerate() {
+        if let Some(rule) = broken_rule(param, texts[index]) {
+            return Some(ArgumentFault::at(rule, index));
+        }
+    }
+    None
+}
+
+/// The number that a text spells, where it fits a word.
+fn word(text: &str) -> Option<u32>
+    ensures { result ≡ word_of text.now }
+{
+    match number(text) {
+        Some(value) if value <= u64::from(u32::MAX) => Some(value as u32),
+        _ => None,
+    }
+}
+
+/// The words that a text spells between its commas, those that are words.
+fn words(alloc: Global, text: &str) -> Result<Vec<u32>, AllocError>
+    ensures { IfOk result (λ words. words.items ≡ filter_map word_of (slice_split (λ byte. byte == 44) text.now)) }
+{
+    let mut words = Vec::new(alloc);
+    for part in text.split(',') {
+        if let Some(word) = word(part) {
+            words.push(word)?;
+        }
+    }
+    Ok(words)
+}
+
+/// The argument that a text without fault spells.
+fn argument(alloc: Global, param: &Param, text: &str) -> Result<Arg, AllocError>
+    requires { rule_of_text param.now text.now ≡ None }
+    ensures spelled { IfOk result (λ arg. Some (words_of arg) ≡ numbers_of text.now) }
+    ensures within { IfOk result (IsWithin param.now) }
+{
+    let words = words(alloc, text)?;
+    match param.form {
+        Form::SingleWord => Ok(Arg::Word(words[0])),
+        Form::FixedArray | Form::MutableArray => Ok(Arg::Array(Numbers::new(words))),
+    }
+}
+
+/// The arguments that texts spell, else the first fault: their count before all else, then the
+/// leftmost faulty text, its shape before its values. Memory is asked for only once the texts have
+/// no fault.
+pub fn read(alloc: Global, params: &[Param], texts: &[&str]) -> Result<Args, ReadError>
+    ensures found { IfOk result (λ args. map (λ arg. Some (words_of arg)) args ≡ map (λ text. numbers_of text.now) texts.now) }
+    ensures within { IfOk result (AreWithin params.now) }
+    ensures fault { (fault : ArgumentFault) → (result ≡ Err (ReadError.Argument fault)) ↔ (fault_of_texts params.now (map (λ text. text.now) texts.now) ≡ Some fault) }
+    ensures only { OnOk result (fault_of_texts params.now (map (λ text. text.now) texts.now) ≡ None) }
+{
+    if let Some(fault) = first_fault(params, texts) {
+        return Err(ReadError::Argument(fault));
+    }
+    let mut args = Vec::new(alloc);
+    for (index, param) in params.iter().enumerate() {
+        args.push(argument(alloc, param, texts[index])?)?;
+    }
+    Ok(Args::new(args))
+}

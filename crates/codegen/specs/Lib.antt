@@ -1,0 +1,3 @@
+pub mod Emitted
+pub mod Layout
+pub mod Generated

@@ -1,0 +1,97 @@
+// Instructions for slots and numbers, each appended to the code so far.
+
+ghost use Rattle.std.specs.Prelude.{◌≡◌, ◌++◌, ◌^◌, ◌<◌, OnOk};
+ghost use Rattle.codegen.specs.Emitted.{upper_part, lower_part, load_code, store_code, constant_code, choice_code, operator_code};
+
+use rv_code::{
+    Immediate12, ImmediateOperation, Instr, LoadOperation, Reg, RegisterOperation, StoreOperation,
+    UpperImmediate, UpperOperation,
+};
+use std::alloc::AllocError;
+use syntax::BinaryOperator;
+
+/// What 12 bits hold as a number that is not negative.
+const NEAR: u32 = 2048;
+
+/// The upper part of a number, whose lower part is sign-extended when it is added.
+fn upper_part(n: u32) -> UpperImmediate
+    ensures { result ≡ upper_part n }
+{
+    UpperImmediate::from_bits(((u64::from(n) + 2048) / 4096) as u32)
+}
+
+fn lower_part(n: u32) -> Immediate12
+    ensures { result ≡ lower_part n }
+{
+    Immediate12::from_bits(n)
+}
+
+/// A slot's word into a register.
+pub fn load(code: &mut Vec<Instr>, register: Reg, offset: u32) -> Result<(), AllocError>
+    ensures { OnOk result (code.new.items ≡ code.old.items ++ load_code register offset) }
+{
+    let low = lower_part(offset);
+    if offset < NEAR {
+        code.push(Instr::Load(LoadOperation::Lw, register, Reg::X2, low))?;
+        return Ok(());
+    }
+    code.push(Instr::Upper(UpperOperation::Lui, register, upper_part(offset)))?;
+    code.push(Instr::Register(RegisterOperation::Add, register, register, Reg::X2))?;
+    code.push(Instr::Load(LoadOperation::Lw, register, register, low))?;
+    Ok(())
+}
+
+/// A register into a slot.
+pub fn store(code: &mut Vec<Instr>, register: Reg, offset: u32) -> Result<(), AllocError>
+    ensures { OnOk result (code.new.items ≡ code.old.items ++ store_code register offset) }
+{
+    let low = lower_part(offset);
+    if offset < NEAR {
+        code.push(Instr::Store(StoreOperation::Sw, register, Reg::X2, low))?;
+        return Ok(());
+    }
+    let address = Reg::X28;
+    code.push(Instr::Upper(UpperOperation::Lui, address, upper_part(offset)))?;
+    code.push(Instr::Register(RegisterOperation::Add, address, address, Reg::X2))?;
+    code.push(Instr::Store(StoreOperation::Sw, register, address, low))?;
+    Ok(())
+}
+
+/// A number into a register.
+pub fn constant(code: &mut Vec<Instr>, register: Reg, n: u32) -> Result<(), AllocError>
+    ensures { OnOk result (code.new.items ≡ code.old.items ++ constant_code register n) }
+{
+    let low = lower_part(n);
+    if n < NEAR {
+        code.push(Instr::Immediate(ImmediateOperation::Addi, register, Reg::X0, low))?;
+        return Ok(());
+    }
+    code.push(Instr::Upper(UpperOperation::Lui, register, upper_part(n)))?;
+    code.push(Instr::Immediate(ImmediateOperation::Addi, register, register, low))?;
+    Ok(())
+}
+
+/// The left operand and the value into the value.
+pub fn operator(code: &mut Vec<Instr>, operator: BinaryOperator) -> Result<(), AllocError>
+    ensures { OnOk result (code.new.items ≡ code.old.items ++ operator_code operator) }
+{
+    let operation = match operator {
+        BinaryOperator::BitXor => RegisterOperation::Xor,
+        BinaryOperator::BitAnd => RegisterOperation::And,
+        BinaryOperator::Add => RegisterOperation::Add,
+        BinaryOperator::Subtract => RegisterOperation::Sub,
+    };
+    code.push(Instr::Register(operation, Reg::X5, Reg::X6, Reg::X5))?;
+    Ok(())
+}
+
+/// Of the left operand and the value, the left where the condition is 1 and the value where it is 0.
+pub fn choice(code: &mut Vec<Instr>) -> Result<(), AllocError>
+    ensures { OnOk result (code.new.items ≡ code.old.items ++ choice_code) }
+{
+    code.push(Instr::Register(RegisterOperation::Sub, Reg::X7, Reg::X0, Reg::X7))?;
+    code.push(Instr::Register(RegisterOperation::Xor, Reg::X6, Reg::X6, Reg::X5))?;
+    code.push(Instr::Register(RegisterOperation::And, Reg::X6, Reg::X6, Reg::X7))?;
+    code.push(Instr::Register(RegisterOperation::Xor, Reg::X5, Reg::X5, Reg::X6))?;
+    Ok(())
+}

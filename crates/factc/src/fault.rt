@@ -1,0 +1,114 @@
+use hepurita::RunFault;
+use image::ImageFault;
+use std::alloc::{AllocError, AllocFailed};
+use std::fmt;
+use syntax::{Refusal, Rule};
+use thiserror::Error;
+
+/// What a file failed by, with its path; that of standard output is `-`.
+#[derive(Debug, Drop, Error)]
+pub enum FileFault<'a> {
+    #[error("cannot read {0}")]
+    CannotRead(&'a str),
+    #[error("cannot write {0}")]
+    CannotWrite(&'a str),
+    #[error("not UTF-8 {0}")]
+    NotUtf8(&'a str),
+}
+
+/// Why a command was not done.
+#[derive(Debug, Drop)]
+pub enum Fault<'a> {
+    Text(Refusal),
+    Image(ImageFault),
+    Run(RunFault),
+    File(FileFault<'a>),
+}
+
+impl Fault<'_> {
+    ghost use Rattle.std.specs.Prelude.{◌≡◌, ◌≢◌, ◌≤◌, ◌<◌};
+
+    /// The exit status: 1 refused by a rule, 3 a file failed, 4 memory, 5 stopped otherwise than by
+    /// ECALL.
+    pub fn status(&self) -> u8
+        ensures low { 0 < result }
+        ensures high { result ≤ 5 }
+        ensures text { (refusal : _) → self.now ≡ Fault.Text refusal
+            → refusal.rule ≢ Rule.OutOfMemory → result ≡ 1 }
+        ensures text_memory { (refusal : _) → self.now ≡ Fault.Text refusal
+            → refusal.rule ≡ Rule.OutOfMemory → result ≡ 4 }
+        ensures image { (rule : _) (offset : _)
+            → self.now ≡ Fault.Image (ImageFault.Field rule offset) → result ≡ 1 }
+        ensures image_memory { self.now ≡ Fault.Image ImageFault.Memory → result ≡ 4 }
+        ensures argument { (rule : _) (index : _)
+            → self.now ≡ Fault.Run (RunFault.Argument rule index) → result ≡ 1 }
+        ensures run_memory { self.now ≡ Fault.Run RunFault.Memory → result ≡ 4 }
+        ensures stopped { (stop : _) → self.now ≡ Fault.Run (RunFault.Stopped stop) → result ≡ 5 }
+        ensures file { (fault : _) → self.now ≡ Fault.File fault → result ≡ 3 }
+    {
+        match self {
+            Fault::Text(refusal) => {
+                if refusal.rule == Rule::OutOfMemory {
+                    4
+                } else {
+                    1
+                }
+            }
+            Fault::Image(ImageFault::Field { .. }) => 1,
+            Fault::Image(ImageFault::Memory) => 4,
+            Fault::Run(RunFault::Argument { .. }) => 1,
+            Fault::Run(RunFault::Memory) => 4,
+            Fault::Run(RunFault::Stopped(_)) => 5,
+            Fault::File(_) => 3,
+        }
+    }
+}
+
+/// Its line for standard error, without the line's end.
+impl fmt::Display for Fault<'_> {
+    fn fmt<W: fmt::Write>(&self, f: &mut fmt::Formatter<W>) -> fmt::Result {
+        match self {
+            Fault::Text(refusal) => write!(f, "refused: {refusal}"),
+            Fault::Image(fault) => write!(f, "refused: {fault}"),
+            Fault::Run(RunFault::Stopped(stop)) => write!(f, "stopped: {stop:?}"),
+            Fault::Run(fault) => write!(f, "refused: {fault}"),
+            Fault::File(fault) => write!(f, "file: {fault}"),
+        }
+    }
+}
+
+impl From<Refusal> for Fault<'_> {
+    fn from(refusal: Refusal) -> Self {
+        Fault::Text(refusal)
+    }
+}
+
+impl From<ImageFault> for Fault<'_> {
+    fn from(fault: ImageFault) -> Self {
+        Fault::Image(fault)
+    }
+}
+
+impl From<RunFault> for Fault<'_> {
+    fn from(fault: RunFault) -> Self {
+        Fault::Run(fault)
+    }
+}
+
+impl<'a> From<FileFault<'a>> for Fault<'a> {
+    fn from(fault: FileFault<'a>) -> Self {
+        Fault::File(fault)
+    }
+}
+
+impl From<AllocError> for Fault<'_> {
+    fn from(_: AllocError) -> Self {
+        Fault::Text(Refusal::memory())
+    }
+}
+
+impl<T: Drop> From<AllocFailed<T>> for Fault<'_> {
+    fn from(_: AllocFailed<T>) -> Self {
+        Fault::Text(Refusal::memory())
+    }
+}

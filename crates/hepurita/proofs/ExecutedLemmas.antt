@@ -1,0 +1,33 @@
+-- What is answered to arguments, case by case.
+use Rattle.std.proofs.Common.{◌≡◌, ℕ, Bool, List, Option, Some, None, Result, Ok, Err, refl, sym, ap, subst, ◌∙◌}
+use Rattle.arguments.specs.Faults.{fault_of}
+use Rattle.arguments.specs.declared.fault.ArgumentFault.{ArgumentFault}
+use Rattle.image.specs.Fields.{Fields}
+use Rattle.rv_machine.specs.Leakage.{Ran}
+use Rattle.rv_machine.specs.Machine.{State, Code}
+use Rattle.rv_machine.specs.declared.observation.Observation.{Observation}
+use Rattle.rv_machine.specs.declared.stops.Stop.{Stop}
+use Rattle.syntax.specs.Results.{Results}
+use Rattle.syntax.specs.declared.values.Arg.{Arg}
+use Rattle.hepurita.specs.declared.fault.RunFault.{RunFault}
+use Rattle.hepurita.specs.declared.fault.RunFault.TheVariants.{Argument, Memory}
+use Rattle.simulation.specs.Bases.{code_base, frame_base}
+use Rattle.simulation.specs.Loaded.{params_of, code_at, loaded_at}
+use Rattle.hepurita.specs.Executed.{Executed, refused, out_of_memory, ran, answer_at}
+
+-- want of memory
+pub memory_executed : (image : Fields) (args : List Arg) (keeps : Bool) (list : List Observation) (r : Result Results RunFault) → r ≡ Err Memory → Executed image args keeps list r list
+memory_executed image args keeps list r is = subst (λ (x : Result Results RunFault). Executed image args keeps list x list) (sym is) out_of_memory
+
+-- the first fault
+pub refused_executed : (image : Fields) (args : List Arg) (keeps : Bool) (list : List Observation) (fault : ArgumentFault) (e : RunFault) → e ≡ Argument fault.rule fault.index → fault_of (params_of image) args ≡ Some fault → Executed image args keeps list (Err e) list
+refused_executed image args keeps list fault e is first = subst (λ (x : RunFault). Executed image args keeps list (Err x) list) (sym is) (refused first)
+
+-- a run
+pub ran_executed : (image : Fields) (args : List Arg) (keeps : Bool) (list after : List Observation) (r : Result Results RunFault) (code : Code) (steps : ℕ) (s t : State) (stop : Stop) → fault_of (params_of image) args ≡ None → code ≡ code_at code_base image → steps ≡ image.max_steps → s ≡ loaded_at code_base frame_base image args → Ran code keeps steps s list stop t after → r ≡ answer_at frame_base image stop t.bytes → Executed image args keeps list r after
+ran_executed image args keeps list after r code steps s t stop none code_is steps_is s_is run answer =
+    ran none
+    (subst (λ (x : State). Ran (code_at code_base image) keeps image.max_steps x list stop t after) s_is
+    (subst (λ (x : ℕ). Ran (code_at code_base image) keeps x s list stop t after) steps_is
+    (subst (λ (x : Code). Ran x keeps steps s list stop t after) code_is run)))
+    answer

@@ -1,0 +1,33 @@
+use Rattle.std.proofs.Common.{◌≡◌, List, Option, None, Some, Err, ap, sym, ◌∙◌}
+use Rattle.std.proofs.lemmas.Result.{err_from_is_err_and}
+use Rattle.arguments.specs.Faults.{fault_of}
+use Rattle.rv_machine.specs.Flat.{flat_bytes}
+use Rattle.rv_machine.specs.Harts.{state_of}
+use Rattle.rv_machine.specs.Regions.{code_of}
+use Rattle.syntax.specs.declared.signature.Param.{Param}
+use Rattle.simulation.specs.Loaded.{params_of}
+use Rattle.hepurita.proofs.ExecutedLemmas.{memory_executed, refused_executed, ran_executed}
+use Rattle.hepurita.proofs.executing.execute.Goals as goal
+
+pub returns-in_err-params-clause-executed : goal.returns-in_err-params-clause-executed
+returns-in_err-params-clause-executed g c =
+    let p = err_from_is_err_and c.from_residual.result c.from_residual.ensures.1 in
+    memory_executed c.args.image.now c.args.args.now g.R.Recorder.KEEPS (g.R.Recorder.list c.args.recorder.now) c.from_residual.result (p.1 ∙ ap Err p.2)
+
+pub returns-in-Some-clause-executed : goal.returns-in-Some-clause-executed
+returns-in-Some-clause-executed g c =
+    refused_executed c.args.image.now c.args.args.now g.R.Recorder.KEEPS (g.R.Recorder.list c.args.recorder.now) c.in-Some.fault c.from.result c.from.ensures
+    (ap (λ (ps : List Param). fault_of ps c.args.args.now) (sym (c.as_slice.ensures.value ∙ c.in_ok-params.ensures.params)) ∙ (sym c.first_fault.ensures.first ∙ c.in-Some.is))
+
+pub returns-in_err-machine-clause-executed : goal.returns-in_err-machine-clause-executed
+returns-in_err-machine-clause-executed g c =
+    let p = err_from_is_err_and c.from_residual-in_err-machine.result c.from_residual-in_err-machine.ensures.1 in
+    memory_executed c.args.image.now c.args.args.now g.R.Recorder.KEEPS (g.R.Recorder.list c.args.recorder.now) c.from_residual-in_err-machine.result (p.1 ∙ ap Err p.2)
+
+pub returns-clause-executed : goal.returns-clause-executed
+returns-clause-executed g c =
+    ran_executed c.args.image.now c.args.args.now g.R.Recorder.KEEPS (g.R.Recorder.list c.args.recorder.now) (g.R.Recorder.list c.run-stop.new.recorder) c.answer.result
+    (code_of c.in_ok-machine.machine.code) c.max_steps.result (state_of c.in_ok-machine.machine.hart (flat_bytes c.in_ok-machine.machine.frame))
+    (state_of c.run-stop.new.hart (flat_bytes c.run-stop.new.memory)) c.run-stop.result
+    (ap (λ (ps : List Param). fault_of ps c.args.args.now) (sym (c.as_slice.ensures.value ∙ c.in_ok-params.ensures.params)) ∙ (sym c.first_fault.ensures.first ∙ c.in_default.is))
+    c.in_ok-machine.ensures.code c.max_steps.ensures.steps c.in_ok-machine.ensures.state c.run-stop.ensures.turns c.answer.ensures

@@ -1,0 +1,48 @@
+-- What the compiler answers to a text: the passes are asked in order, and each names its first violation.
+use Rattle.std.specs.Prelude.{◌≡◌, ◌⊎◌, ℕ, List, length, Some}
+use Rattle.image.specs.Fields.{Fields, IsImage}
+use Rattle.image.specs.Spelling.{spelling}
+use Rattle.simulation.specs.Compiled.{IsCompiled}
+use Rattle.syntax.specs.declared.place.Place.{Place}
+use Rattle.syntax.specs.declared.refusal.Refusal.{Refusal}
+use Rattle.syntax.specs.declared.rule.Rule.{Rule}
+use Rattle.syntax.specs.declared.rule.Rule.TheVariants.{OutOfMemory}
+use Rattle.syntax.specs.declared.typing.Violation.{Violation}
+use Rattle.syntax.specs.FirstViolation.{IsFirst}
+use Rattle.syntax.specs.Reading.{Reads, accepted, refused}
+use Rattle.syntax.specs.Size.{size_violations}
+use Rattle.syntax.specs.Tree.{ProcedureTree, ProgramTree}
+use Rattle.syntax.specs.Typing.{violations}
+
+pub data Judgement : Type 0 where
+  accepts : (export : ProcedureTree) → Judgement
+  refuses : (rule : Rule) (place : Place) → Judgement
+
+-- the judgement on a program
+pub data JudgesProgram (program : ProgramTree) : Judgement → Type 0 where
+  -- it violates a rule on names, types and labels
+  ill_typed : {first : Violation} → IsFirst (violations program) first → JudgesProgram program (refuses first.rule first.place)
+  -- it passes a limit on size
+  too_large : {export : ProcedureTree} {first : Violation} → length (violations program) ≡ 0 → program.export ≡ Some export → IsFirst (size_violations export) first → JudgesProgram program (refuses first.rule first.place)
+  -- nothing is violated
+  fine : {export : ProcedureTree} → length (violations program) ≡ 0 → program.export ≡ Some export → length (size_violations export) ≡ 0 → JudgesProgram program (accepts export)
+
+-- the judgement on a text
+pub data Judges (text : List ℕ) : Judgement → Type 0 where
+  -- it is no program
+  unreadable : {rule : Rule} {place : Place} → Reads text (refused rule place) → Judges text (refuses rule place)
+  -- it is one
+  readable : {program : ProgramTree} {judgement : Judgement} → Reads text (accepted program) → JudgesProgram program judgement → Judges text judgement
+
+-- the refusal is want of memory, or it has a place and is the judgement
+abbrev pub IsRefusal : (Judgement → Type 0) → Refusal → Type 0
+IsRefusal J refusal = (refusal.rule ≡ OutOfMemory) ⊎ ((place : Place) × (refusal.place ≡ Some place) × J (refuses refusal.rule place))
+
+-- the bytes are the image of an accepted text: they spell fields, which are those of the exported procedure, compiled
+pub record IsBuilt (text bytes : List ℕ) : Type 0 where
+  pub export : ProcedureTree
+  pub image : Fields
+  pub judged : Judges text (accepts export)
+  pub allowed : IsImage image
+  pub spelled : bytes ≡ spelling image
+  pub compiled : IsCompiled export image

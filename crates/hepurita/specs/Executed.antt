@@ -1,0 +1,33 @@
+-- What a run of an image gives.
+use Rattle.std.specs.Prelude.{◌≡◌, ℕ, Bool, List, Some, None, Result, Ok, Err}
+use Rattle.arguments.specs.Faults.{fault_of}
+use Rattle.arguments.specs.declared.fault.ArgumentFault.{ArgumentFault}
+use Rattle.image.specs.Fields.{Fields}
+use Rattle.rv_machine.specs.Bytes.{ByteMap}
+use Rattle.rv_machine.specs.Leakage.{Ran}
+use Rattle.rv_machine.specs.Machine.{State}
+use Rattle.rv_machine.specs.declared.observation.Observation.{Observation}
+use Rattle.rv_machine.specs.declared.stops.Stop.{Stop}
+use Rattle.rv_machine.specs.declared.stops.Stop.TheVariants.{Ecall, Break, Illegal, AccessFault, Misaligned, Budget, RecorderRefused}
+use Rattle.syntax.specs.Results.{Results}
+use Rattle.syntax.specs.declared.values.Arg.{Arg}
+use Rattle.hepurita.specs.declared.fault.RunFault.{RunFault}
+use Rattle.hepurita.specs.declared.fault.RunFault.TheVariants.{Argument, Memory, Stopped}
+use Rattle.simulation.specs.Bases.{code_base, frame_base}
+use Rattle.simulation.specs.Loaded.{params_of, code_at, loaded_at, results_in}
+
+-- what is answered where the machine stops so
+abbrev pub answer_at : ℕ → Fields → Stop → ByteMap → Result Results RunFault
+answer_at frame image Ecall bytes = Ok (results_in frame image bytes)
+answer_at frame image Break bytes = Err (Stopped Break)
+answer_at frame image Illegal bytes = Err (Stopped Illegal)
+answer_at frame image AccessFault bytes = Err (Stopped AccessFault)
+answer_at frame image Misaligned bytes = Err (Stopped Misaligned)
+answer_at frame image Budget bytes = Err (Stopped Budget)
+answer_at frame image RecorderRefused bytes = Err (Stopped RecorderRefused)
+
+-- what is answered, and the recorder's list after it: arguments are refused by their first fault; else the image runs as loaded
+pub data Executed (image : Fields) (args : List Arg) (keeps : Bool) (list : List Observation) : Result Results RunFault → List Observation → Type 0 where
+  refused : {fault : ArgumentFault} → fault_of (params_of image) args ≡ Some fault → Executed image args keeps list (Err (Argument fault.rule fault.index)) list
+  out_of_memory : Executed image args keeps list (Err Memory) list
+  ran : {stop : Stop} {end : State} {after : List Observation} {answer : Result Results RunFault} → fault_of (params_of image) args ≡ None → Ran (code_at code_base image) keeps image.max_steps (loaded_at code_base frame_base image args) list stop end after → answer ≡ answer_at frame_base image stop end.bytes → Executed image args keeps list answer after

@@ -1,0 +1,4 @@
+pub mod Faults
+pub mod Executed
+pub mod Paired
+pub mod Built

@@ -1,0 +1,52 @@
+-- What two runs of an image look like side by side.
+use Rattle.std.specs.Prelude.{◌≡◌, ◌≢◌, ℕ, ◌+◌, ◌==◌, ◌&&◌, true, List, [], length, Option, Some, None, Result, Ok, Err, if◌then◌else◌}
+use Rattle.std.specs.Option.{option_map}
+use Rattle.arguments.specs.Faults.{fault_of, count_fault}
+use Rattle.arguments.specs.declared.fault.ArgumentFault.{ArgumentFault}
+use Rattle.image.specs.Fields.{Fields}
+use Rattle.observing.specs.Entries.{Entry, entries_of, IsFirstDifference}
+use Rattle.observing.specs.declared.pairing.Pairing.{Pairing}
+use Rattle.observing.specs.declared.pairing.Pairing.TheVariants.{Same, Differ}
+use Rattle.rv_machine.specs.Leakage.{Ran}
+use Rattle.rv_machine.specs.Machine.{State}
+use Rattle.rv_machine.specs.declared.observation.Observation.{Observation}
+use Rattle.rv_machine.specs.declared.stops.Stop.{Stop}
+use Rattle.rv_machine.specs.declared.stops.Stop.TheVariants.{RecorderRefused}
+use Rattle.syntax.specs.declared.signature.Param.{Param}
+use Rattle.syntax.specs.declared.values.Arg.{Arg}
+use Rattle.hepurita.specs.declared.fault.RunFault.{RunFault}
+use Rattle.hepurita.specs.declared.fault.RunFault.TheVariants.{Argument, Memory}
+use Rattle.simulation.specs.Bases.{code_base, frame_base}
+use Rattle.simulation.specs.Loaded.{params_of, code_at, loaded_at}
+
+-- a fault of the second list: its arguments are numbered after those of the first
+abbrev pub shifted : ℕ → ArgumentFault → ArgumentFault
+shifted count fault = record { rule = fault.rule; index = option_map (λ i. i + count) fault.index }
+
+abbrev pub first_of : Option ArgumentFault → Option ArgumentFault → Option ArgumentFault
+first_of (Some fault) later = Some fault
+first_of None later = later
+
+-- the first fault of two lists: the count of either before all else, then the first list's, then the second's
+abbrev pub pair_fault : List Param → List Arg → List Arg → Option ArgumentFault
+pair_fault params one other =
+    if length one == length params && length other == length params
+    then first_of (fault_of params one) (option_map (shifted (length params)) (fault_of params other))
+    else Some count_fault
+
+-- what an observer sees of the image's run on arguments
+abbrev pub Observed : Fields → List Arg → List Observation → Type 0
+Observed image args list =
+    (stop : Stop) × (end : State) × (stop ≢ RecorderRefused)
+    × Ran (code_at code_base image) true image.max_steps (loaded_at code_base frame_base image args) [] stop end list
+
+-- two lists of entries are one, or differ first at a place
+abbrev pub Compares : List Entry → List Entry → Pairing → Type 0
+Compares one other Same = one ≡ other
+Compares one other (Differ place) = IsFirstDifference one other place
+
+-- what is answered for two lists of arguments
+pub data Paired (image : Fields) (one other : List Arg) : Result Pairing RunFault → Type 0 where
+  refused : {fault : ArgumentFault} → pair_fault (params_of image) one other ≡ Some fault → Paired image one other (Err (Argument fault.rule fault.index))
+  out_of_memory : Paired image one other (Err Memory)
+  compared : {seen seen' : List Observation} {pairing : Pairing} → pair_fault (params_of image) one other ≡ None → Observed image one seen → Observed image other seen' → Compares (entries_of seen) (entries_of seen') pairing → Paired image one other (Ok pairing)

@@ -1,0 +1,55 @@
+ghost use Rattle.std.specs.Prelude.{◌≡◌, ◌≢◌, Err};
+ghost use Rattle.hepurita.specs.Executed.{Executed, answer_at};
+ghost use Rattle.rv_machine.specs.Recording.{HasRefused};
+ghost use Rattle.rv_machine.specs.Flat.{flat_bytes};
+ghost use Rattle.simulation.specs.Bases.{frame_base};
+
+use crate::fault::RunFault;
+use crate::loading::{load, outcome, params};
+use arguments::first_fault;
+use image::Image;
+use rv_machine::recording::Recorder;
+use rv_machine::{FlatMemory, Stop, run};
+use std::alloc::Global;
+use syntax::{Args, Outcome};
+
+/// What is answered where the machine stops so.
+fn answer(alloc: Global, image: &Image, stop: Stop, frame: &FlatMemory) -> Result<Outcome, RunFault>
+    ensures { result ≡ answer_at frame_base image.now stop (flat_bytes frame.now) }
+{
+    match stop {
+        Stop::Ecall => Ok(outcome(alloc, image, frame)),
+        Stop::Break => Err(RunFault::Stopped(Stop::Break)),
+        Stop::Illegal => Err(RunFault::Stopped(Stop::Illegal)),
+        Stop::AccessFault => Err(RunFault::Stopped(Stop::AccessFault)),
+        Stop::Misaligned => Err(RunFault::Stopped(Stop::Misaligned)),
+        Stop::Budget => Err(RunFault::Stopped(Stop::Budget)),
+        Stop::RecorderRefused => Err(RunFault::Stopped(Stop::RecorderRefused)),
+    }
+}
+
+/// Runs an image on arguments, and answers the outcome. The recorder takes what an observer sees of
+/// the run. Arguments are refused by their first fault, before anything runs.
+pub fn execute<R: Recorder>(
+    alloc: Global,
+    image: &Image,
+    args: &Args,
+    recorder: &mut R,
+) -> Result<Outcome, RunFault>
+    ensures executed { Executed image.now args.now R.KEEPS (R.list recorder.old) result (R.list recorder.new) }
+    ensures refused { result ≡ Err (RunFault.Stopped Stop.RecorderRefused) → HasRefused (R.refusals recorder.old) (R.refusals recorder.new) }
+{
+    let params = params(alloc, image)?;
+    if let Some(fault) = first_fault(params.as_slice(), args) {
+        return Err(RunFault::from(fault));
+    }
+    let mut machine = load(alloc, image, args)?;
+    let stop = run(
+        &mut machine.hart,
+        &machine.code,
+        &mut machine.frame,
+        recorder,
+        image.max_steps(),
+    );
+    answer(alloc, image, stop, &machine.frame)
+}

@@ -1,0 +1,19 @@
+// The calls of the compiler and of its simulator: a text to an image's bytes, an image run on
+// arguments, and two runs compared by what an observer sees. Each pass is a library below this one;
+// here they are put together, and what the whole promises is said.
+#![tactic(auto)]
+
+mod building;
+mod comparing;
+mod executing;
+mod fault;
+mod loading;
+mod reading;
+mod sizes;
+
+pub use building::{accepted_or_refused, build};
+pub use comparing::pair;
+pub use executing::execute;
+pub use fault::RunFault;
+pub use loading::{CODE_BASE, FRAME_BASE, params};
+pub use reading::read_args;

@@ -1,0 +1,5 @@
+pub mod Steps
+pub mod Numbers
+pub mod Slots
+pub mod Images
+pub mod Loop

@@ -1,0 +1,76 @@
+-- The fields of an image, and which values they may have.
+use Rattle.std.specs.Prelude.{◌≡◌, ℕ, ◌+◌, ◌*◌, ◌/◌, ◌%◌, ◌^◌, ◌<◌, ◌≤◌, List, [], ◌∷◌, length, Option, IfSome}
+use Rattle.std.specs.List.{AllByRecursion}
+use Rattle.syntax.specs.declared.signature.Kind.{Kind}
+use Rattle.syntax.specs.declared.signature.Kind.TheVariants.{Boolean, Uint8, Uint16, Uint32}
+use Rattle.syntax.specs.declared.signature.Form.{Form}
+use Rattle.syntax.specs.declared.signature.Form.TheVariants.{SingleWord, FixedArray, MutableArray}
+use Rattle.image.specs.declared.slot.Slot.{Slot}
+use Rattle.image.specs.declared.slot.ResultSlot.{ResultSlot}
+
+pub record Fields : Type 0 where
+  pub slots : List Slot
+  pub returned : Option ResultSlot
+  pub frame_bytes : ℕ
+  pub max_steps : ℕ
+  pub words : List ℕ
+
+-- how many bytes an element of an array takes
+abbrev pub element_bytes : Kind → ℕ
+element_bytes Boolean = 1
+element_bytes Uint8 = 1
+element_bytes Uint16 = 2
+element_bytes Uint32 = 4
+
+-- how many bytes the slot of a parameter takes: a word takes 4, and an array its elements, rounded up to a multiple of 4
+abbrev pub slot_bytes : Form → Kind → ℕ → ℕ
+slot_bytes SingleWord kind count = 4
+slot_bytes FixedArray kind count = (count * element_bytes kind + 3) / 4 * 4
+slot_bytes MutableArray kind count = (count * element_bytes kind + 3) / 4 * 4
+
+-- where a slot ends: the offset of the first byte after it
+abbrev pub slot_end : Slot → ℕ
+slot_end slot = slot.offset + slot_bytes slot.param.form slot.param.kind slot.param.length
+
+-- a result is a word
+abbrev pub result_end : ResultSlot → ℕ
+result_end slot = slot.offset + 4
+
+-- where the last of the slots ends, those before them ending at `low`
+abbrev pub slots_end : ℕ → List Slot → ℕ
+slots_end low [] = low
+slots_end low (slot ∷ slots) = slots_end (slot_end slot) slots
+
+-- a slot that begins not below `low`. Arrays have no images yet.
+pub record IsSlot (low : ℕ) (slot : Slot) : Type 0 where
+  pub form : slot.param.form ≡ SingleWord
+  pub length : slot.param.length ≡ 1
+  pub aligned : slot.offset % 4 ≡ 0
+  pub above : low ≤ slot.offset
+  pub fits : slot.offset < 2 ^ 32
+
+-- each slot begins not below the end of the slot before it
+abbrev pub AreSlots : ℕ → List Slot → Type 0
+AreSlots low [] = Unit {0}
+AreSlots low (slot ∷ slots) = IsSlot low slot × AreSlots (slot_end slot) slots
+
+-- the slot of a result, which begins not below `low`
+pub record IsResultSlot (low : ℕ) (slot : ResultSlot) : Type 0 where
+  pub aligned : slot.offset % 4 ≡ 0
+  pub above : low ≤ slot.offset
+  pub fits : slot.offset < 2 ^ 32
+
+-- fields that an image may have
+pub record IsImage (fields : Fields) : Type 0 where
+  pub count : length fields.slots ≤ 8192
+  pub slots : AreSlots 0 fields.slots
+  pub returned : IfSome fields.returned (λ slot. IsResultSlot (slots_end 0 fields.slots) slot)
+  pub frame_aligned : fields.frame_bytes % 4 ≡ 0
+  pub frame_size : fields.frame_bytes ≤ 65536
+  pub slots_inside : AllByRecursion (λ slot. slot_end slot ≤ fields.frame_bytes) fields.slots
+  pub returned_inside : IfSome fields.returned (λ slot. result_end slot ≤ fields.frame_bytes)
+  pub some_step : 1 ≤ fields.max_steps
+  pub steps : fields.max_steps ≤ 137438953536
+  pub some_word : 1 ≤ length fields.words
+  pub word_count : length fields.words ≤ 192064
+  pub words : AllByRecursion (λ word. word < 2 ^ 32) fields.words

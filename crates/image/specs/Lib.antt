@@ -1,0 +1,4 @@
+pub mod RuleNames
+pub mod Fields
+pub mod Spelling
+pub mod Reading

@@ -1,0 +1,23 @@
+// Images: a program for the machine as bytes.
+// Bytes and fields determine each other: `write` gives the one spelling of an image's fields, and
+// `read` gives the fields of each spelling, and of other bytes the first fault from the left.
+// It stands on the parameters' shapes of `syntax`, and writes and reads numbers by `byteorder`.
+#![tactic(auto)]
+
+mod fault;
+mod fields;
+mod image;
+mod laws;
+mod reading;
+mod slot;
+mod writing;
+
+pub use fault::{ImageFault, ImageRule};
+pub use image::Image;
+pub use laws::{no_spelling_begins_another, one_spelling, spelling_is_read};
+pub use reading::read;
+pub use slot::{ResultSlot, Slot};
+pub use writing::write;
+
+#[cfg(test)]
+mod tests;

@@ -1,0 +1,150 @@
+ghost use Rattle.std.specs.Prelude.{◌≡◌, length, IfOk, Ok};
+ghost use Rattle.image.specs.Fields.{Fields, IsImage, slots_end};
+ghost use Rattle.image.specs.Spelling.{spelling};
+ghost use Rattle.image.specs.Reading.{Gives, IsUnlessMemory, slots_at, words_at, layout_at, code_at, layout_end, layout_fields, code_fields, fields_of, all_of, reading};
+
+use crate::fields::{
+    ReadError, fault_of, read_frame_bytes, read_max_steps, read_parameter_count, read_preamble,
+    read_returned, read_slot, read_u32, read_word_count,
+};
+use crate::{Image, ImageFault, ImageRule, ResultSlot, Slot};
+use std::alloc::Global;
+
+/// How many bytes a parameter's fields take.
+const PARAMETER_BYTES: usize = 9;
+
+const WORD_BYTES: usize = 4;
+
+/// So many slots.
+fn read_slots(alloc: Global, count: u16, bytes: &[u8]) -> Result<(Vec<Slot>, &[u8]), ReadError>
+    ensures { Gives (λ x. (x.0.items, x.1.now)) result (slots_at count 0 bytes.now) }
+{
+    let room = usize::from(count).min(bytes.len() / PARAMETER_BYTES);
+    let mut slots = Vec::with_capacity(alloc, room)?;
+    let mut low = 0;
+    let mut rest = bytes;
+    'slots: for _ in 0..count {
+        let (slot, after) = read_slot(low, rest)?;
+        slots.push(slot)?;
+        low = slot.end();
+        rest = after;
+    }
+    Ok((slots, rest))
+}
+
+/// So many code words.
+fn read_words(alloc: Global, count: u32, bytes: &[u8]) -> Result<(Vec<u32>, &[u8]), ReadError>
+    ensures { Gives (λ x. (x.0.items, x.1.now)) result (words_at count bytes.now) }
+{
+    let room = (count as usize).min(bytes.len() / WORD_BYTES);
+    let mut words = Vec::with_capacity(alloc, room)?;
+    let mut rest = bytes;
+    'words: for _ in 0..count {
+        let (word, after) = read_u32(rest)?;
+        words.push(word)?;
+        rest = after;
+    }
+    Ok((words, rest))
+}
+
+/// Where the last of the slots ends.
+fn end_of(slots: &[Slot]) -> u64
+    ensures { result ≡ slots_end 0 slots.now }
+{
+    match slots {
+        [] => 0,
+        [.., last] => last.end(),
+    }
+}
+
+/// Where words lie.
+#[derive(Drop)]
+struct Layout {
+    slots: Vec<Slot>,
+    returned: Option<ResultSlot>,
+    frame_bytes: u32,
+}
+
+#[tactic(auto, unfolding(crate::specs::Reading::layout_at))]
+fn read_layout(alloc: Global, bytes: &[u8]) -> Result<(Layout, &[u8]), ReadError>
+    ensures { Gives (λ x. (layout_fields x.0, x.1.now)) result (layout_at bytes.now) }
+{
+    let (count, rest) = read_parameter_count(bytes)?;
+    let (slots, rest) = read_slots(alloc, count, rest)?;
+    let low = end_of(&slots);
+    let (returned, rest) = read_returned(low, rest)?;
+    let low = match returned {
+        None => low,
+        Some(slot) => slot.end(),
+    };
+    let (frame_bytes, rest) = read_frame_bytes(low, rest)?;
+    let layout = Layout {
+        slots,
+        returned,
+        frame_bytes,
+    };
+    Ok((layout, rest))
+}
+
+/// What runs.
+#[derive(Drop)]
+struct Code {
+    max_steps: u64,
+    words: Vec<u32>,
+}
+
+#[tactic(auto, unfolding(crate::specs::Reading::code_at))]
+fn read_code(alloc: Global, bytes: &[u8]) -> Result<(Code, &[u8]), ReadError>
+    ensures { Gives (λ x. (code_fields x.0, x.1.now)) result (code_at bytes.now) }
+{
+    let (max_steps, rest) = read_max_steps(bytes)?;
+    let (count, rest) = read_word_count(rest)?;
+    let (words, rest) = read_words(alloc, count, rest)?;
+    Ok((Code { max_steps, words }, rest))
+}
+
+#[tactic(auto, unfolding(crate::specs::Reading::fields_at, crate::specs::Reading::all_of))]
+fn read_all(alloc: Global, bytes: &[u8]) -> Result<(Layout, Code), ReadError>
+    ensures { Gives (λ x. fields_of (layout_fields x.0) (code_fields x.1)) result (all_of bytes.now) }
+{
+    let rest = read_preamble(bytes)?;
+    let (layout, rest) = read_layout(alloc, rest)?;
+    let (code, rest) = read_code(alloc, rest)?;
+    if !rest.is_empty() {
+        return Err(fault_of(ImageRule::TrailingBytes, rest));
+    }
+    Ok((layout, code))
+}
+
+/// The image of these bytes, or the first fault and the offset of its field.
+fn image_of(alloc: Global, bytes: &[u8]) -> Result<Image, ImageFault>
+    ensures { IsUnlessMemory result (reading bytes.now) }
+{
+    match read_all(alloc, bytes) {
+        Ok((layout, code)) => Ok(Image::new(
+            layout.slots,
+            layout.returned,
+            layout.frame_bytes,
+            code.max_steps,
+            code.words,
+        )),
+        Err(ReadError::Memory) => Err(ImageFault::Memory),
+        Err(ReadError::Fault(fault)) => Err(ImageFault::Field {
+            rule: fault.rule,
+            offset: bytes.len().saturating_sub(fault.left),
+        }),
+    }
+}
+
+/// The image that the bytes spell, all of the bytes. Else it names the first field that is not
+/// wholly there or has a value that it may not have, or the first byte after the last code word.
+pub fn read(alloc: Global, bytes: &[u8]) -> Result<Image, ImageFault>
+    // What is read is allowed, and spelled so.
+    ensures found { IfOk result (λ image. IsImage image × (bytes.now ≡ spelling image)) }
+    // What is spelled so is read, unless memory runs out.
+    ensures only { (fields : Fields) → IsImage fields → bytes.now ≡ spelling fields → IsUnlessMemory result (Ok fields) }
+    // Which fault it is, and where.
+    ensures exact { IsUnlessMemory result (reading bytes.now) }
+{
+    image_of(alloc, bytes)
+}

@@ -1,0 +1,167 @@
+ghost use Rattle.std.specs.Prelude.{◌≡◌, ◌++◌, [], ◌∷◌, length, None, OnOk, IfOk, IfErr};
+ghost use Rattle.std.specs.List.{flat_map};
+ghost use Rattle.byteorder.specs.Endian.{little_bytes};
+ghost use Rattle.image.specs.Spelling.{spelling, preamble, kind_code, label_code, form_code, spelled_slot, spelled_result, spelled_layout, spelled_code};
+
+use crate::{Image, ResultSlot, Slot};
+use byteorder::{ByteOrder, LittleEndian};
+use std::alloc::{AllocError, Global};
+use syntax::{Form, Kind, Label, Refusal, Rule};
+
+/// How many bytes an image takes at most beside its parameters and its code words.
+const FIXED_BYTES: usize = 33;
+/// How many bytes a parameter's fields take.
+const PARAMETER_BYTES: usize = 9;
+
+const WORD_BYTES: usize = 4;
+
+fn code_of_kind(kind: Kind) -> u8
+    ensures { result ≡ kind_code kind }
+{
+    match kind {
+        Kind::Boolean => 0,
+        Kind::Uint8 => 1,
+        Kind::Uint16 => 2,
+        Kind::Uint32 => 3,
+    }
+}
+
+fn code_of_label(label: Label) -> u8
+    ensures { result ≡ label_code label }
+{
+    match label {
+        Label::Public => 0,
+        Label::Secret => 1,
+    }
+}
+
+fn code_of_form(form: Form) -> u8
+    ensures { result ≡ form_code form }
+{
+    match form {
+        Form::SingleWord => 0,
+        Form::FixedArray => 1,
+        Form::MutableArray => 2,
+    }
+}
+
+fn put_u16(out: &mut Vec<u8>, n: u16) -> Result<(), AllocError>
+    ensures { OnOk result (out.new.items ≡ out.old.items ++ little_bytes 2 n) }
+{
+    let mut bytes = [0; 2];
+    LittleEndian::write_u16(&mut bytes, n);
+    out.extend_from_slice(&bytes)
+}
+
+fn put_u32(out: &mut Vec<u8>, n: u32) -> Result<(), AllocError>
+    ensures { OnOk result (out.new.items ≡ out.old.items ++ little_bytes 4 n) }
+{
+    let mut bytes = [0; 4];
+    LittleEndian::write_u32(&mut bytes, n);
+    out.extend_from_slice(&bytes)
+}
+
+fn put_u64(out: &mut Vec<u8>, n: u64) -> Result<(), AllocError>
+    ensures { OnOk result (out.new.items ≡ out.old.items ++ little_bytes 8 n) }
+{
+    let mut bytes = [0; 8];
+    LittleEndian::write_u64(&mut bytes, n);
+    out.extend_from_slice(&bytes)
+}
+
+fn put_preamble(out: &mut Vec<u8>) -> Result<(), AllocError>
+    ensures { OnOk result (out.new.items ≡ out.old.items ++ preamble) }
+{
+    out.extend_from_slice(b"FACI\x01\x00\x01\x00")
+}
+
+fn put_slot(out: &mut Vec<u8>, slot: &Slot) -> Result<(), AllocError>
+    ensures { OnOk result (out.new.items ≡ out.old.items ++ spelled_slot slot.now) }
+{
+    let param = slot.param;
+    out.extend_from_slice(&[
+        code_of_kind(param.kind),
+        code_of_label(param.label),
+        code_of_form(param.form),
+    ])?;
+    put_u16(out, param.length)?;
+    put_u32(out, slot.offset)
+}
+
+fn put_returned(out: &mut Vec<u8>, returned: Option<ResultSlot>) -> Result<(), AllocError>
+    ensures { OnOk result (out.new.items ≡ out.old.items ++ spelled_result returned) }
+{
+    match returned {
+        None => {
+            out.push(0)?;
+            Ok(())
+        }
+        Some(slot) => {
+            out.extend_from_slice(&[1, code_of_kind(slot.kind), code_of_label(slot.label)])?;
+            put_u32(out, slot.offset)
+        }
+    }
+}
+
+fn put_slots(out: &mut Vec<u8>, slots: &[Slot]) -> Result<(), AllocError>
+    ensures { OnOk result (out.new.items ≡ out.old.items ++ flat_map spelled_slot slots.now) }
+{
+    for slot in slots {
+        put_slot(out, slot)?;
+    }
+    Ok(())
+}
+
+fn put_words(out: &mut Vec<u8>, words: &[u32]) -> Result<(), AllocError>
+    ensures { OnOk result (out.new.items ≡ out.old.items ++ flat_map (λ word. little_bytes 4 word) words.now) }
+{
+    for word in words {
+        put_u32(out, *word)?;
+    }
+    Ok(())
+}
+
+/// Where words lie.
+fn put_layout(out: &mut Vec<u8>, image: &Image) -> Result<(), AllocError>
+    ensures { OnOk result (out.new.items ≡ out.old.items ++ spelled_layout image.now) }
+{
+    let slots = image.slots();
+    put_u16(out, slots.len() as u16)?;
+    put_slots(out, slots)?;
+    put_returned(out, image.returned())?;
+    put_u32(out, image.frame_bytes())
+}
+
+/// What runs.
+fn put_code(out: &mut Vec<u8>, image: &Image) -> Result<(), AllocError>
+    ensures { OnOk result (out.new.items ≡ out.old.items ++ spelled_code image.now) }
+{
+    let words = image.words();
+    put_u64(out, image.max_steps())?;
+    put_u32(out, words.len() as u32)?;
+    put_words(out, words)
+}
+
+fn spelled(alloc: Global, image: &Image) -> Result<Vec<u8>, AllocError>
+    ensures { IfOk result (λ bytes. bytes.items ≡ spelling image.now) }
+{
+    let room = FIXED_BYTES
+        + PARAMETER_BYTES * image.slots().len()
+        + WORD_BYTES * image.words().len();
+    let mut out = Vec::with_capacity(alloc, room)?;
+    put_preamble(&mut out)?;
+    put_layout(&mut out, image)?;
+    put_code(&mut out, image)?;
+    Ok(out)
+}
+
+/// The one spelling of an image.
+pub fn write(alloc: Global, image: &Image) -> Result<Vec<u8>, Refusal>
+    ensures spelled { IfOk result (λ bytes. bytes.items ≡ spelling image.now) }
+    ensures memory { IfErr result (λ refusal. (refusal.rule ≡ Rule.OutOfMemory) × (refusal.place ≡ None)) }
+{
+    match spelled(alloc, image) {
+        Ok(bytes) => Ok(bytes),
+        Err(AllocError) => Err(Refusal::memory()),
+    }
+}

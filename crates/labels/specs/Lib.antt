@@ -1,0 +1,2 @@
+pub mod Sooner
+pub mod Answer

@@ -1,0 +1,14 @@
+-- The first of the violations seen so far, kept as they come.
+use Rattle.std.specs.Prelude.{Bool, ◌==◌, ◌&&◌, ◌||◌, nat_lt, Option, None, Some, if◌then◌else◌}
+use Rattle.syntax.specs.declared.typing.Violation.{Violation}
+use Rattle.syntax.specs.RuleOrder.{rank_of}
+
+-- whether u is named rather than v
+abbrev pub comes_before : Violation → Violation → Bool
+comes_before u v =
+    nat_lt u.place.offset v.place.offset
+    || ((u.place.offset == v.place.offset) && nat_lt (rank_of u.rule) (rank_of v.rule))
+
+abbrev pub sooner : Option Violation → Violation → Option Violation
+sooner None v = Some v
+sooner (Some u) v = if comes_before v u then Some v else Some u

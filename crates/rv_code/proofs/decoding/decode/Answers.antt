@@ -1,0 +1,12 @@
+use Rattle.std.proofs.Common.{◌∙◌, ap, sym}
+use Rattle.rv_code.specs.Reading.{reading}
+use Rattle.rv_code.specs.WordLaws.{reading-word_of}
+use Rattle.rv_code.proofs.Found.{group_at-has}
+use Rattle.rv_code.proofs.decoding.decode.Goals as goal
+
+pub returns-clause-found : goal.returns-clause-found
+returns-clause-found c = rw c.in_group.ensures (group_at-has c.args.word c.ranges.word.fits)
+
+pub returns-clause-only : goal.returns-clause-only
+unfolding reading
+returns-clause-only c = λ i is_i same. c.in_group.ensures ∙ (sym (ap reading same) ∙ reading-word_of i is_i)

@@ -1,0 +1,5 @@
+use Rattle.rv_code.specs.WordLaws as laws
+use Rattle.rv_code.proofs.laws.words_differ.Goals as goal
+
+pub returns : goal.returns
+returns c = laws.words_differ

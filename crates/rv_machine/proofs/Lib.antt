@@ -1,0 +1,5 @@
+pub mod Calls
+pub mod Fresh
+pub mod SizedNumbers
+pub mod Stretch
+pub mod Turns

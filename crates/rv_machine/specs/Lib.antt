@@ -1,0 +1,16 @@
+pub mod ByteLaws
+pub mod Bytes
+pub mod Effects
+pub mod EndingLaws
+pub mod Flat
+pub mod Harts
+pub mod Leakage
+pub mod ListRecording
+pub mod Machine
+pub mod Recording
+pub mod Regions
+pub mod Registers
+pub mod RunLaws
+pub mod Sizes
+pub mod Stops
+pub mod TurnLaws

@@ -1,0 +1,60 @@
+// A hart: the program counter and the registers.
+
+ghost use Rattle.std.specs.Prelude.{◌≡◌, ◌+◌, ◌%◌, ◌^◌, slice_index};
+
+use rv_code::Reg;
+
+/// A program counter and 32 registers, of which x0 holds 0.
+#[derive(Drop)]
+pub struct Hart {
+    pc: u32,
+    registers: [u32; 32],
+    ghost zero: { slice_index registers 0 ≡ 0 },
+}
+
+impl Hart {
+    ghost use Rattle.rv_machine.specs.Harts.{pc_of, regs_of};
+    ghost use Rattle.rv_machine.specs.Registers.{register, with_register, initial_registers};
+
+    /// A hart at this program counter, with this number in x2 and 0 in the other registers.
+    pub fn new(pc: u32, x2: u32) -> Hart
+        ensures pc { pc_of result ≡ pc }
+        ensures registers { regs_of result ≡ initial_registers x2 }
+    {
+        let mut registers = [0; 32];
+        registers[2] = x2;
+        Hart { pc, registers }
+    }
+
+    /// The program counter.
+    pub fn pc(&self) -> u32
+        ensures { result ≡ pc_of self.now }
+    {
+        self.pc
+    }
+
+    /// What a register reads as. x0 reads as 0.
+    pub fn reg(&self, r: Reg) -> u32
+        ensures { result ≡ register (regs_of self.now) r }
+    {
+        self.registers[r.number() as usize]
+    }
+
+    // Writes a register.
+    pub(crate) fn set(&mut self, rd: Reg, value: u32)
+        ensures pc { pc_of self.new ≡ pc_of self.old }
+        ensures registers { regs_of self.new ≡ with_register (regs_of self.old) rd value }
+    {
+        if rd != Reg::X0 {
+            self.registers[rd.number() as usize] = value;
+        }
+    }
+
+    // Goes on to the next instruction.
+    pub(crate) fn advance(&mut self)
+        ensures pc { pc_of self.new ≡ (pc_of self.old + 4) % 2 ^ 32 }
+        ensures registers { regs_of self.new ≡ regs_of self.old }
+    {
+        self.pc = self.pc.wrapping_add(4);
+    }
+}

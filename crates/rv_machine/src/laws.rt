@@ -1,0 +1,81 @@
+// Laws of the machine, which hold of the definitions alone.
+
+ghost use Rattle.std.specs.Prelude.{◌≡◌, ◌≢◌, ℕ, ◌+◌, ◌%◌, ◌^◌, ◌≤◌, ◌⊎◌, Bool, true, List, ◌∷◌, [], ◌++◌, Some, is_some};
+ghost use Rattle.rv_code.specs.declared.instructions.Instr.{Instr};
+ghost use Rattle.rv_code.specs.declared.operations.UpperOperation.{UpperOperation};
+ghost use Rattle.rv_code.specs.declared.operations.ImmediateOperation.{ImmediateOperation};
+ghost use Rattle.rv_code.specs.declared.operations.RegisterOperation.{RegisterOperation};
+ghost use Rattle.rv_code.specs.declared.operations.LoadOperation.{LoadOperation};
+ghost use Rattle.rv_code.specs.declared.operations.StoreOperation.{StoreOperation};
+ghost use Rattle.rv_machine.specs.declared.observation.Observation.{Observation};
+ghost use Rattle.rv_machine.specs.declared.stops.Stop.{Stop};
+ghost use Rattle.rv_machine.specs.Bytes.{ByteMap, number_at, with_number};
+ghost use Rattle.rv_machine.specs.Effects.{sign_extended, upper_value, immediate_value, register_value, load_size, store_size, address_of};
+ghost use Rattle.rv_machine.specs.Leakage.{Leads, Halts, Ran};
+ghost use Rattle.rv_machine.specs.Machine.{State, Code, Ending, Turn, here, observed, with_value, with_stored};
+ghost use Rattle.rv_machine.specs.Recording.{kept};
+ghost use Rattle.rv_machine.specs.Registers.{register};
+ghost use Rattle.rv_machine.specs.Sizes.{byte_count};
+ghost use Rattle.rv_machine.specs.TurnLaws.{IsAt};
+
+use crate::observation::Event;
+use crate::stops::Stop;
+use rv_code::Instr;
+
+/// A state has one turn.
+pub fn one_turn()
+    ensures { (code : Code) (s : State) (e f : Ending) → Turn code s e → Turn code s f → e ≡ f }
+{}
+
+/// Runs follow one another.
+pub fn runs_compose()
+    ensures leads { (code : Code) (m n : ℕ) (s t u : State) (a b : List Observation)
+        → Leads code m s a t → Leads code n t b u → Leads code (m + n) s (a ++ b) u }
+    ensures halts { (code : Code) (m n : ℕ) (s t u : State) (a b : List Observation) (stop : Stop)
+        → Leads code m s a t → Halts code n t b stop u → Halts code (m + n) s (a ++ b) stop u }
+{}
+
+/// The runs from one state agree.
+pub fn one_run()
+    ensures leads { (code : Code) (n : ℕ) (s t u : State) (a b : List Observation)
+        → Leads code n s a t → Leads code n s b u → (a ≡ b) × (t ≡ u) }
+    ensures halts { (code : Code) (m n : ℕ) (s t u : State) (a b : List Observation) (stop other : Stop)
+        → Halts code m s a stop t → Halts code n s b other u → (m ≡ n) × (a ≡ b) × (stop ≡ other) × (t ≡ u) }
+    ensures ran { (code : Code) (keeps : Bool) (n budget : ℕ) (s t u : State) (a list list' : List Observation) (stop other : Stop)
+        → Halts code n s a stop t → n ≤ budget → Ran code keeps budget s list other u list' → other ≢ Stop.RecorderRefused
+        → (other ≡ stop) × (u ≡ t) × (list' ≡ kept keeps list a) }
+{}
+
+/// The turn of each kind of instruction, where it stands at the program counter.
+pub fn instructions_turn()
+    ensures upper { (code : Code) (s : State) (operation : UpperOperation) (rd immediate : ℕ)
+        → IsAt code s.pc (Instr.Upper operation rd immediate)
+        → Leads code 1 s (here s) (with_value s rd (upper_value operation immediate)) }
+    ensures immediate { (code : Code) (s : State) (operation : ImmediateOperation) (rd rs1 immediate : ℕ)
+        → IsAt code s.pc (Instr.Immediate operation rd rs1 immediate)
+        → Leads code 1 s (here s) (with_value s rd (immediate_value operation (register s.regs rs1) (sign_extended 12 immediate))) }
+    ensures register { (code : Code) (s : State) (operation : RegisterOperation) (rd rs1 rs2 : ℕ)
+        → IsAt code s.pc (Instr.Register operation rd rs1 rs2)
+        → Leads code 1 s (here s) (with_value s rd (register_value operation (register s.regs rs1) (register s.regs rs2))) }
+    ensures load { (code : Code) (s : State) (operation : LoadOperation) (rd rs1 offset value : ℕ)
+        → let a = address_of s.regs rs1 offset in let n = load_size operation in
+        IsAt code s.pc (Instr.Load operation rd rs1 offset)
+        → a % byte_count n ≡ 0 → number_at s.bytes (byte_count n) a ≡ Some value
+        → Leads code 1 s (observed s (Some (Event.Load a n)) ∷ []) (with_value s rd value) }
+    ensures store { (code : Code) (s : State) (operation : StoreOperation) (rs2 rs1 offset : ℕ)
+        → let a = address_of s.regs rs1 offset in let n = store_size operation in
+        IsAt code s.pc (Instr.Store operation rs2 rs1 offset)
+        → a % byte_count n ≡ 0 → is_some (number_at s.bytes (byte_count n) a) ≡ true
+        → Leads code 1 s (observed s (Some (Event.Store a n)) ∷ []) (with_stored s n a (register s.regs rs2)) }
+    ensures ecall { (code : Code) (s : State) → IsAt code s.pc Instr.Ecall → Halts code 1 s (here s) Stop.Ecall s }
+    ensures ebreak { (code : Code) (s : State) → IsAt code s.pc Instr.Ebreak → Halts code 1 s (here s) Stop.Break s }
+{}
+
+/// What was stored is loaded, and what lies apart from it is as it was.
+pub fn numbers_in_bytes()
+    ensures there { (bytes : ByteMap) (n a v : ℕ) → number_at (with_number bytes n a v) n a ≡ Some (v % 256 ^ n) }
+    ensures apart { (bytes : ByteMap) (n a v m x : ℕ) → (x + m ≤ a) ⊎ (a + n ≤ x)
+        → number_at (with_number bytes n a v) m x ≡ number_at bytes m x }
+    ensures extent { (bytes : ByteMap) (n a v x : ℕ) → is_some (number_at bytes n a) ≡ true
+        → is_some (with_number bytes n a v x) ≡ is_some (bytes x) }
+{}

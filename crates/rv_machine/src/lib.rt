@@ -1,0 +1,31 @@
+// The machine that runs the compiler's code: ten instructions of RV32I over a memory, and what an observer sees.
+//
+// It promises that `step` makes one turn of the machine (`specs/Machine.antt`) and records what that
+// turn shows (`specs/Leakage.antt`), that `run` makes turns up to the first one that stops or to its
+// budget, both for any lawful memory and recorder, and that the memories and recorders here are
+// lawful. It stands on `rv_code`, which says what instruction a word is.
+#![tactic(auto)]
+
+pub mod code;
+pub mod effects;
+pub mod flat;
+pub mod hart;
+pub mod laws;
+pub mod machine;
+pub mod memory;
+pub mod observation;
+pub mod recorders;
+pub mod recording;
+pub mod stops;
+
+pub use code::CodeRegion;
+pub use effects::Effect;
+pub use flat::FlatMemory;
+pub use machine::{run, step};
+pub use memory::Size;
+pub use observation::{Event, Observation};
+pub use recorders::{ListRecorder, NullRecorder};
+pub use stops::Stop;
+
+#[cfg(test)]
+mod tests;

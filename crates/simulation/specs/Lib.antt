@@ -1,0 +1,5 @@
+pub mod Bases
+pub mod Loaded
+pub mod Agreement
+pub mod Compiled
+pub mod Grammatical

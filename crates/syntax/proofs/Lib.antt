@@ -1,0 +1,15 @@
+pub mod MachineMeaning
+pub mod MachineSound
+pub mod MachineComplete
+pub mod MachineAnswers
+pub mod ParserSteps
+pub mod TokenBytes
+pub mod TokenRuns
+pub mod TokenShapes
+pub mod TokenSigns
+pub mod TokenPieces
+pub mod TokenNumbers
+pub mod TokenLaws
+pub mod TokenSteps
+pub mod AnswerLaws
+pub mod ProgramSteps

@@ -1,0 +1,207 @@
+-- The machine reads each program, to its tree.
+use Rattle.std.proofs.Common.{◌≡◌, ℕ, ◌+◌, ◌<◌, ◌≤◌, Bool, true, false, ◌&&◌, ◌⊎◌, inl, inr, List, [], ◌∷◌, ◌++◌, Option, Some, None, refl, sym, subst, ap, ◌∙◌, arith, if◌then◌else◌, append_assoc}
+use Rattle.std.proofs.lemmas.Bool.Decides.{nat_tests}
+use Rattle.std.proofs.lemmas.List.{append-nil}
+use Rattle.std.specs.Prelude.{nat_le, nat_lt}
+use Rattle.std.specs.Option.{option_map, option_and_then}
+use Rattle.syntax.specs.declared.signature.Kind.{Kind}
+use Rattle.syntax.specs.declared.signature.Label.{Label}
+use Rattle.syntax.specs.declared.token.TokenKind.{TokenKind}
+use Rattle.syntax.specs.declared.token.TokenKind.TheVariants as token
+use Rattle.syntax.specs.declared.token.Keyword.TheVariants.{Export, Public, Secret, Return, Select, True, False}
+use Rattle.syntax.specs.declared.token.Sign.TheVariants.{OpenRound, CloseRound, OpenCurly, CloseCurly, Comma, Semicolon}
+use Rattle.syntax.specs.declared.token.Suffix.{Suffix}
+use Rattle.syntax.specs.declared.token.Suffix.TheVariants.{U32}
+use Rattle.syntax.specs.declared.tree.BinaryOperator.{BinaryOperator}
+use Rattle.syntax.specs.declared.tree.BinaryOperator.TheVariants.{BitXor, BitAnd, Add, Subtract}
+use Rattle.syntax.specs.Grammar.{operator_of, level_of, label_of, word_of, ExprAt, a_number, a_true, a_false, a_name, in_brackets, a_select, a_binary, Parameter, a_parameter, Parameters, no_parameters, some_parameters, MoreParameters, no_more, one_more, Procedure, a_procedure, IsProgram, IsBeginning, no_procedure, an_export}
+use Rattle.syntax.specs.Lexeme.{Lexeme}
+use Rattle.syntax.specs.Tree.{ExprTree, number, truth, name, binary, select, ParameterTree, ProcedureTree, ProgramTree}
+use Rattle.syntax.specs.declared.parser.expression.Begins.{Begins}
+use Rattle.syntax.specs.declared.parser.expression.Begins.TheVariants.{Number as by_number, Truth as by_truth, Name as by_name, Bracket as by_bracket, Select as by_select}
+use Rattle.syntax.specs.Machine.{Wanted, a_word, export_word, return_word, opening_round, closing_round, opening_curly, closing_curly, a_comma, a_semicolon, State, ended, either_end, one, a_label, a_kind, parameters, more_parameters, expr, more, kind_of, fits, begins_of, labelled, parameter, operand, within, joined, step, at_end, procedure, program, run}
+use Rattle.syntax.proofs.MachineSound.{fits-kind, and_then_some}
+
+-- what stands next is no sign that binds at the level or stronger
+abbrev pub Stops : ℕ → List Lexeme → Type 0
+Stops level [] = ⊥
+Stops level (t ∷ ts) = (operator : BinaryOperator) → operator_of t.kind ≡ Some operator → level_of operator < level
+
+stops-at : (kind : TokenKind) (level : ℕ) (t : Lexeme) (ts : List Lexeme) → operator_of kind ≡ None → t.kind ≡ kind → Stops level (t ∷ ts)
+stops-at kind level t ts none is operator e = let f = ap operator_of is in cc
+
+not_le : (level n : ℕ) → n < level → nat_le level n ≡ false
+not_le level n lt = grind (arith, nat_tests)
+
+both_le : (level n top : ℕ) → level ≤ n → n ≤ top → (nat_le level n && nat_le n top) ≡ true
+both_le level n top low high = grind (arith, nat_tests)
+
+pub within_none : (level top : ℕ) (o : Option BinaryOperator) → ((operator : BinaryOperator) → o ≡ Some operator → level_of operator < level) → within level top o ≡ None
+within_none level top None h = refl
+within_none level top (Some operator) h = let e = not_le level (level_of operator) (h operator refl) in rw e
+
+pub within_level : (level top : ℕ) (operator : BinaryOperator) → level ≤ level_of operator → level_of operator ≤ top → within level top (Some operator) ≡ Some operator
+within_level level top operator low high = let e = both_le level (level_of operator) top low high in rw e
+
+-- an expression that is complete makes way for what may stand after it
+stops-run : (level top : ℕ) (left : ExprTree) (k : ExprTree → State) (rest : List Lexeme) → Stops level rest → run (more level top left k) rest ≡ run (k left) rest
+stops-run level top left k [] h = absurd h
+stops-run level top left k (t ∷ ts) h = ap (λ o. option_and_then (λ n. run n ts) (joined o t level left k (step (k left) t))) (within_none level top (operator_of t.kind) h)
+
+sign-run : (level top : ℕ) (left : ExprTree) (k : ExprTree → State) (t : Lexeme) (ts : List Lexeme) (operator : BinaryOperator) → operator_of t.kind ≡ Some operator → level ≤ level_of operator → level_of operator ≤ top → run (more level top left k) (t ∷ ts) ≡ run (expr (level_of operator + 1) (λ right. more level (level_of operator) (binary t.place operator left right) k)) ts
+sign-run level top left k t ts operator is low high = ap (λ o. option_and_then (λ n. run n ts) (joined o t level left k (step (k left) t))) (ap (within level top) is ∙ within_level level top operator low high)
+
+one-run : (wanted : Wanted) (k : Lexeme → State) (t : Lexeme) (ts : List Lexeme) → t.kind ≡ kind_of wanted → run (one wanted k) (t ∷ ts) ≡ run (k t) ts
+one-run wanted k t ts is = ap (λ b. option_and_then (λ n. run n ts) (if b then Some (k t) else None)) (fits-kind wanted t.kind is)
+
+label-run : (k : Label → State) (t : Lexeme) (ts : List Lexeme) (label : Label) → label_of t.kind ≡ Some label → run (a_label k) (t ∷ ts) ≡ run (k label) ts
+label-run k t ts label is = ap (λ o. option_and_then (λ n. run n ts) (option_map k o)) is
+
+kind-run : (k : Kind → State) (t : Lexeme) (ts : List Lexeme) (kind : Kind) → word_of t.kind ≡ Some kind → run (a_kind k) (t ∷ ts) ≡ run (k kind) ts
+kind-run k t ts kind is = ap (λ o. option_and_then (λ n. run n ts) (option_map k o)) is
+
+begins-run : (level : ℕ) (k : ExprTree → State) (t : Lexeme) (ts : List Lexeme) (b : Begins) → begins_of t.kind ≡ Some b → run (expr level k) (t ∷ ts) ≡ run (operand b t (λ e. more level 11 e k)) ts
+begins-run level k t ts b is = ap (λ o. option_and_then (λ n. run n ts) (option_map (λ b. operand b t (λ e. more level 11 e k)) o)) is
+
+plain_number : (value : ℕ) (suffix : Option Suffix) → (suffix ≡ None) ⊎ (suffix ≡ Some U32) → begins_of (token.Number value suffix) ≡ Some (by_number value)
+plain_number value suffix (inl e) = ap (λ s. begins_of (token.Number value s)) e
+plain_number value suffix (inr e) = ap (λ s. begins_of (token.Number value s)) e
+
+weak_level : (operator : BinaryOperator) → level_of operator ≤ 9
+weak_level BitXor = omega arith
+weak_level BitAnd = omega arith
+weak_level Add = omega arith
+weak_level Subtract = omega arith
+
+stops-more : (low high : ℕ) (rest : List Lexeme) → low ≤ high → Stops low rest → Stops high rest
+stops-more low high [] le h = h
+stops-more low high (t ∷ ts) le h = λ operator e. let lt = h operator e in omega arith
+
+same_level : (operator other : BinaryOperator) (o : Option BinaryOperator) → o ≡ Some operator → o ≡ Some other → level_of other < level_of operator + 1
+same_level operator other o e f = let same : other ≡ operator = cc in rw same (omega arith)
+
+-- that the machine reads an expression, and with which signs it may go on
+abbrev Read : ℕ → ℕ → (ExprTree → State) → List Lexeme → ExprTree → List Lexeme → Type 0
+Read level low k ts e rest = (top : ℕ) × (level ≤ top) × (run (expr low k) ts ≡ run (more low top e k) rest)
+
+whole : (k : ExprTree → State) (ts : List Lexeme) (e : ExprTree) (rest : List Lexeme) → Read 1 1 k ts e rest → Stops 1 rest → run (expr 1 k) ts ≡ run (k e) rest
+whole k ts e rest (top, le, is) stops = is ∙ stops-run 1 top e k rest stops
+
+reads-expr : (level : ℕ) (ts : List Lexeme) (e : ExprTree) (rest : List Lexeme) → ExprAt level ts e rest → level ≤ 10 → Stops (level + 1) rest → (low : ℕ) → low ≤ level → (k : ExprTree → State) → Read level low k ts e rest
+reads-expr _ _ _ _ (a_number level t value suffix rest is plain) small stops low le k = (11, omega arith, begins-run low k t rest (by_number value) (ap begins_of is ∙ plain_number value suffix plain))
+reads-expr _ _ _ _ (a_true level t rest is) small stops low le k = (11, omega arith, begins-run low k t rest (by_truth true) (ap begins_of is))
+reads-expr _ _ _ _ (a_false level t rest is) small stops low le k = (11, omega arith, begins-run low k t rest (by_truth false) (ap begins_of is))
+reads-expr _ _ _ _ (a_name level t rest is) small stops low le k = (11, omega arith, begins-run low k t rest by_name (ap begins_of is))
+reads-expr _ _ _ _ (in_brackets level opening closing inner rest tree opens e closes) small stops low le k =
+    let k' = λ (x : ExprTree). one closing_round (λ _. more low 11 x k) in
+    let h = reads-expr 1 inner tree (closing ∷ rest) e (omega arith) (stops-at (token.Sign CloseRound) 2 closing rest refl closes) 1 (omega arith) k' in (
+      11,
+      omega arith,
+      begins-run low k opening inner by_bracket (ap begins_of opens)
+          ∙ whole k' inner tree (closing ∷ rest) h (stops-at (token.Sign CloseRound) 1 closing rest refl closes)
+          ∙ one-run closing_round (λ _. more low 11 tree k) closing rest closes,
+    )
+reads-expr _ _ _ _ (a_select level t opening comma comma' closing first second third rest a b c is opens in_a is_comma in_b is_comma' in_c closes) small stops low le k =
+    let k₃ = λ (z : ExprTree). one closing_round (λ _. more low 11 (select t.place a b z) k) in
+    let k₂ = λ (y : ExprTree). one a_comma (λ _. expr 1 (λ z. one closing_round (λ _. more low 11 (select t.place a y z) k))) in
+    let k₁ = λ (x : ExprTree). one a_comma (λ _. expr 1 (λ y. one a_comma (λ _. expr 1 (λ z. one closing_round (λ _. more low 11 (select t.place x y z) k))))) in
+    let h₁ = reads-expr 1 first a (comma ∷ second) in_a (omega arith) (stops-at (token.Sign Comma) 2 comma second refl is_comma) 1 (omega arith) k₁ in
+    let h₂ = reads-expr 1 second b (comma' ∷ third) in_b (omega arith) (stops-at (token.Sign Comma) 2 comma' third refl is_comma') 1 (omega arith) k₂ in
+    let h₃ = reads-expr 1 third c (closing ∷ rest) in_c (omega arith) (stops-at (token.Sign CloseRound) 2 closing rest refl closes) 1 (omega arith) k₃ in (
+      11,
+      omega arith,
+      begins-run low k t (opening ∷ first) by_select (ap begins_of is)
+          ∙ one-run opening_round (λ _. expr 1 k₁) opening first opens
+          ∙ whole k₁ first a (comma ∷ second) h₁ (stops-at (token.Sign Comma) 1 comma second refl is_comma)
+          ∙ one-run a_comma (λ _. expr 1 k₂) comma second is_comma
+          ∙ whole k₂ second b (comma' ∷ third) h₂ (stops-at (token.Sign Comma) 1 comma' third refl is_comma')
+          ∙ one-run a_comma (λ _. expr 1 k₃) comma' third is_comma'
+          ∙ whole k₃ third c (closing ∷ rest) h₃ (stops-at (token.Sign CloseRound) 1 closing rest refl closes)
+          ∙ one-run closing_round (λ _. more low 11 (select t.place a b c) k) closing rest closes,
+    )
+reads-expr _ _ _ _ (a_binary level t operator first second rest left right is at in_left in_right) small stops low le k =
+    let high = weak_level operator in
+    let k' = λ (y : ExprTree). more low (level_of operator) (binary t.place operator left y) k in
+    let h = reads-expr (level_of operator) first left (t ∷ second) in_left (omega arith) (λ o e. same_level operator o (operator_of t.kind) is e) low (omega arith) k in
+    let g = reads-expr (level_of operator + 1) second right rest in_right (omega arith) (stops-more (level + 1) (level_of operator + 1 + 1) rest (omega arith) stops) (level_of operator + 1) (omega arith) k' in (
+      level_of operator,
+      at,
+      h.2
+          ∙ sign-run low h.0 left k t second operator is (omega arith) h.1
+          ∙ g.2
+          ∙ stops-run (level_of operator + 1) g.0 right k' rest (stops-more (level + 1) (level_of operator + 1) rest (omega arith) stops),
+    )
+
+expr-run : (ts : List Lexeme) (e : ExprTree) (rest : List Lexeme) → ExprAt 1 ts e rest → Stops 1 rest → Stops 2 rest → (k : ExprTree → State) → run (expr 1 k) ts ≡ run (k e) rest
+expr-run ts e rest h stops stops' k = whole k ts e rest (reads-expr 1 ts e rest h (omega arith) stops' 1 (omega arith) k) stops
+
+parameter-run : (ts : List Lexeme) (tree : ParameterTree) (rest : List Lexeme) → Parameter ts tree rest → (k : ParameterTree → State) → run (parameter k) ts ≡ run (k tree) rest
+parameter-run _ _ _ (a_parameter first second t rest label kind is_label is_kind is_name) k =
+    label-run (λ l. labelled l k) first (second ∷ t ∷ rest) label is_label
+    ∙ kind-run (λ w. one a_word (λ x. k (record { label = label; kind = w; place = x.place; name = x.text }))) second (t ∷ rest) kind is_kind
+    ∙ one-run a_word (λ x. k (record { label = label; kind = kind; place = x.place; name = x.text })) t rest is_name
+
+-- after a parameter, by the kind of the next token
+abbrev after_parameter : TokenKind → List ParameterTree → (List ParameterTree → State) → Option State
+after_parameter kind ps k = if fits a_comma kind then Some (parameter (λ p. more_parameters (ps ++ p ∷ []) k)) else (if fits closing_round kind then Some (k ps) else None)
+
+more-run : (ts : List Lexeme) (qs : List ParameterTree) (rest : List Lexeme) → MoreParameters ts qs rest → (ps : List ParameterTree) (k : List ParameterTree → State) → run (more_parameters ps k) ts ≡ run (k (ps ++ qs)) rest
+more-run _ _ _ (no_more closing rest closes) ps k =
+    ap (λ kind. option_and_then (λ n. run n rest) (after_parameter kind ps k)) closes ∙ ap (λ qs. run (k qs) rest) (sym (append-nil ps))
+more-run _ _ _ (one_more comma first second rest tree trees is_comma p others) ps k =
+    ap (λ kind. option_and_then (λ n. run n first) (after_parameter kind ps k)) is_comma
+    ∙ parameter-run first tree second p (λ q. more_parameters (ps ++ q ∷ []) k)
+    ∙ more-run second trees rest others (ps ++ tree ∷ []) k
+    ∙ ap (λ qs. run (k qs) rest) (append_assoc ps (tree ∷ []) trees)
+
+label_opens : (kind : TokenKind) (label : Label) → label_of kind ≡ Some label → fits closing_round kind ≡ false
+label_opens (token.Sign CloseRound) label e = cc
+label_opens (token.Sign _) label e = refl
+label_opens (token.Keyword _) label e = refl
+label_opens token.Name label e = refl
+label_opens (token.Number _ _) label e = refl
+
+parameters-run : (ts : List Lexeme) (qs : List ParameterTree) (rest : List Lexeme) → Parameters ts qs rest → (k : List ParameterTree → State) → run (parameters k) ts ≡ run (k qs) rest
+parameters-run _ _ _ (no_parameters closing rest closes) k =
+    ap (λ b. option_and_then (λ n. run n rest) (if b then Some (k []) else option_map (λ label. labelled label (λ p. more_parameters (p ∷ []) k)) (label_of closing.kind))) (fits-kind closing_round closing.kind closes)
+parameters-run _ _ _ (some_parameters _ second rest tree trees (a_parameter first' second' t _ label kind is_label is_kind is_name) others) k =
+    ap (λ b. option_and_then (λ n. run n (second' ∷ t ∷ second)) (if b then Some (k []) else option_map (λ label. labelled label (λ p. more_parameters (p ∷ []) k)) (label_of first'.kind))) (label_opens first'.kind label is_label)
+    ∙ parameter-run (first' ∷ second' ∷ t ∷ second) tree second (a_parameter first' second' t second label kind is_label is_kind is_name) (λ p. more_parameters (p ∷ []) k)
+    ∙ more-run second trees rest others (tree ∷ []) k
+
+procedure-run : (ts : List Lexeme) (tree : ProcedureTree) (rest : List Lexeme) → Procedure ts tree rest → (k : ProcedureTree → State) → run (procedure k) ts ≡ run (k tree) rest
+procedure-run _ _ _ (a_procedure first second t opening opening' return semicolon closing list body end rest label kind ps value is_label is_kind is_name opens in_list opens' returns in_value ends closes) k =
+    let made = λ (l : Label) (w : Kind) (n : Lexeme) (qs : List ParameterTree) (r : Lexeme) (e : ExprTree). k (record { label = l; kind = w; place = n.place; name = n.text; parameters = qs; return_place = r.place; value = e }) in
+    let k₆ = λ (w : Kind) (n : Lexeme) (qs : List ParameterTree) (r : Lexeme) (e : ExprTree). one a_semicolon (λ _. one closing_curly (λ _. made label w n qs r e)) in
+    let k₅ = λ (w : Kind) (n : Lexeme) (qs : List ParameterTree). one opening_curly (λ _. one return_word (λ r. expr 1 (k₆ w n qs r))) in
+    let stops = stops-at (token.Sign Semicolon) in
+    label-run (λ l. a_kind (λ w. one a_word (λ n. one opening_round (λ _. parameters (λ qs. one opening_curly (λ _. one return_word (λ r. expr 1 (λ e. one a_semicolon (λ _. one closing_curly (λ _. made l w n qs r e)))))))))) first (second ∷ t ∷ opening ∷ list) label is_label
+    ∙ kind-run (λ w. one a_word (λ n. one opening_round (λ _. parameters (k₅ w n)))) second (t ∷ opening ∷ list) kind is_kind
+    ∙ one-run a_word (λ n. one opening_round (λ _. parameters (k₅ kind n))) t (opening ∷ list) is_name
+    ∙ one-run opening_round (λ _. parameters (k₅ kind t)) opening list opens
+    ∙ parameters-run list ps (opening' ∷ return ∷ body) in_list (k₅ kind t)
+    ∙ one-run opening_curly (λ _. one return_word (λ r. expr 1 (k₆ kind t ps r))) opening' (return ∷ body) opens'
+    ∙ one-run return_word (λ r. expr 1 (k₆ kind t ps r)) return body returns
+    ∙ expr-run body value (semicolon ∷ closing ∷ rest) in_value (stops 1 semicolon (closing ∷ rest) refl ends) (stops 2 semicolon (closing ∷ rest) refl ends) (k₆ kind t ps return)
+    ∙ one-run a_semicolon (λ _. one closing_curly (λ _. made label kind t ps return value)) semicolon (closing ∷ rest) ends
+    ∙ one-run closing_curly (λ _. made label kind t ps return value) closing rest closes
+
+-- the machine takes each program to its tree
+pub run_program : (ts : List Lexeme) (p : ProgramTree) → IsProgram ts p → (s : State) × (run program ts ≡ Some s) × (at_end s ≡ Some p)
+run_program _ _ no_procedure = (program, refl, refl)
+run_program _ _ (an_export t rest tree exports h) = (
+  ended (record { export = Some tree }),
+  one-run export_word (λ _. procedure (λ p. ended (record { export = Some p }))) t rest exports ∙ procedure-run rest tree [] h (λ p. ended (record { export = Some p })),
+  refl,
+)
+
+pub run_front : (front ts : List Lexeme) (s last : State) → run s (front ++ ts) ≡ Some last → (next : State) × (run s front ≡ Some next)
+run_front [] ts s last e = (s, refl)
+run_front (t ∷ front) ts s last e =
+    let w = and_then_some (λ x. run x (front ++ ts)) (step s t) last e in
+    let v = run_front front ts w.0 last w.2 in
+    (v.0, ap (option_and_then (λ x. run x front)) w.1 ∙ v.1)
+
+-- the machine takes what begins a program
+pub run_beginning : (front : List Lexeme) → IsBeginning front → (s : State) × (run program front ≡ Some s)
+run_beginning front (others, p, h) = let w = run_program (front ++ others) p h in run_front front others program w.0 w.1

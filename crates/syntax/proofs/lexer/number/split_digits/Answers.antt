@@ -1,0 +1,25 @@
+use Rattle.std.proofs.Common.{◌≡◌, refl, List, ℕ, take, drop, ap, ◌∙◌, subst, sym, arith, eqb-true}
+use Rattle.std.specs.Str.{IsCharBoundary}
+use Rattle.std.specs.List.{position_or_len}
+use Rattle.syntax.specs.Spelling.{is_suffix_letter, SplitsAtFirst}
+use Rattle.syntax.proofs.TokenRuns.{boundary_at, cut_is, run_at}
+use Rattle.syntax.proofs.lexer.number.split_digits.Goals as goal
+use Rattle.syntax.proofs.lexer.number.split_digits.Goals.{After-unwrap_or}
+
+-- where the text is cut
+cut : (c : After-unwrap_or) → c.unwrap_or.result ≡ position_or_len is_suffix_letter c.args.word.now
+cut c = cut_is is_suffix_letter _ _ _ _ _ c.suffix_at.ensures c.as_bytes.ensures.value refl c.unwrap_or.ensures
+
+pub split_at-requires : goal.split_at-requires
+split_at-requires c =
+    subst (IsCharBoundary c.args.word.now) (sym (cut c))
+    (boundary_at is_suffix_letter c.args.word.now (λ b e. let is : b ≡ 117 = eqb-true b 117 e in omega arith))
+
+pub returns : goal.returns
+returns c =
+    let at = cut (goal.at.returns c).After-unwrap_or in
+    let Split : List ℕ → List ℕ → Type 0 = λ front rest. SplitsAtFirst is_suffix_letter c.args.word.now front rest in
+    let front = c.split_at.ensures.front ∙ ap (λ n. take n c.args.word.now) at in
+    let rest = c.split_at.ensures.back ∙ ap (λ n. drop n c.args.word.now) at in
+    subst (λ l. Split l c.split_at.result.1.now) (sym front)
+    (subst (λ l. Split (take (position_or_len is_suffix_letter c.args.word.now) c.args.word.now) l) (sym rest) (run_at is_suffix_letter c.args.word.now))

@@ -1,0 +1,26 @@
+use Rattle.std.proofs.Common.{◌≡◌, refl, List, ℕ, take, drop, ap, ◌∙◌, subst, sym}
+use Rattle.std.specs.Str.{IsCharBoundary}
+use Rattle.std.specs.List.{position_or_len}
+use Rattle.syntax.specs.Spelling.{is_no_word_byte, SplitsAtFirst}
+use Rattle.syntax.proofs.TokenBytes.{word_byte_ascii}
+use Rattle.syntax.proofs.TokenRuns.{boundary_after, cut_is, run_at}
+use Rattle.syntax.proofs.lexer.word.split_word.Goals as goal
+use Rattle.syntax.proofs.lexer.word.split_word.Goals.{After-unwrap_or}
+
+-- where the text is cut
+cut : (c : After-unwrap_or) → c.unwrap_or.result ≡ position_or_len is_no_word_byte c.args.text.now
+cut c = cut_is is_no_word_byte _ _ _ _ _ c.word_end.ensures c.as_bytes.ensures.value refl c.unwrap_or.ensures
+
+pub split_at-requires : goal.split_at-requires
+split_at-requires c =
+    subst (IsCharBoundary c.args.text.now) (sym (cut c))
+    (boundary_after is_no_word_byte c.args.text.now word_byte_ascii c.utf8.text)
+
+pub returns : goal.returns
+returns c =
+    let at = cut (goal.at.returns c).After-unwrap_or in
+    let Split : List ℕ → List ℕ → Type 0 = λ front rest. SplitsAtFirst is_no_word_byte c.args.text.now front rest in
+    let front = c.split_at.ensures.front ∙ ap (λ n. take n c.args.text.now) at in
+    let rest = c.split_at.ensures.back ∙ ap (λ n. drop n c.args.text.now) at in
+    subst (λ l. Split l c.split_at.result.1.now) (sym front)
+    (subst (λ l. Split (take (position_or_len is_no_word_byte c.args.text.now) c.args.text.now) l) (sym rest) (run_at is_no_word_byte c.args.text.now))

@@ -1,0 +1,15 @@
+-- Which of several violations is named: that of least place, and of those at one place the rule that comes first.
+use Rattle.std.specs.Prelude.{◌≡◌, ℕ, ◌<◌, ◌≤◌, ◌⊎◌, List, Contains, All}
+use Rattle.syntax.specs.declared.rule.Rule.{Rule}
+use Rattle.syntax.specs.declared.typing.Violation.{Violation}
+use Rattle.syntax.specs.RuleOrder.{rank_of}
+
+-- u is named rather than v
+abbrev pub IsNoLaterThan : Violation → Violation → Type 0
+IsNoLaterThan u v =
+    (u.place.offset < v.place.offset) ⊎ ((u.place.offset ≡ v.place.offset) × (rank_of u.rule ≤ rank_of v.rule))
+
+-- it is one of them, and none of them comes before it
+pub record IsFirst (all : List Violation) (first : Violation) : Type 0 where
+  pub there : Contains all first
+  pub least : All (IsNoLaterThan first) all

@@ -1,0 +1,90 @@
+-- The grammar. `F tokens tree rest` says that some first tokens are the form F, with this tree, and that the rest stands after them.
+-- One constructor is one rule.
+use Rattle.std.specs.Prelude.{◌≡◌, ℕ, ◌+◌, ◌≤◌, true, false, List, [], ◌∷◌, ◌++◌, Option, Some, None, ◌⊎◌}
+use Rattle.syntax.specs.declared.signature.Kind.{Kind}
+use Rattle.syntax.specs.declared.signature.Kind.TheVariants.{Boolean, Uint32 as Uint32Kind}
+use Rattle.syntax.specs.declared.signature.Label.{Label}
+use Rattle.syntax.specs.declared.signature.Label.TheVariants.{Public as PublicLabel, Secret as SecretLabel}
+use Rattle.syntax.specs.declared.token.TokenKind.{TokenKind}
+use Rattle.syntax.specs.declared.token.TokenKind.TheVariants as token
+use Rattle.syntax.specs.declared.token.Keyword.TheVariants.{Export, Public, Secret, Bool, Uint32, True, False, Return, Select}
+use Rattle.syntax.specs.declared.token.Sign.TheVariants.{OpenRound, CloseRound, OpenCurly, CloseCurly, Comma, Semicolon, Plus, Minus, Ampersand, Caret}
+use Rattle.syntax.specs.declared.token.Suffix.{Suffix}
+use Rattle.syntax.specs.declared.token.Suffix.TheVariants.{U32}
+use Rattle.syntax.specs.declared.tree.BinaryOperator.{BinaryOperator}
+use Rattle.syntax.specs.declared.tree.BinaryOperator.TheVariants.{BitXor, BitAnd, Add, Subtract}
+use Rattle.syntax.specs.Lexeme.{Lexeme}
+use Rattle.syntax.specs.Tree.{ExprTree, number, truth, name, binary, select, ParameterTree, ProcedureTree, ProgramTree}
+
+-- the token is of this kind
+abbrev pub Is : TokenKind → Lexeme → Type 0
+Is kind token = token.kind ≡ kind
+
+-- the operator that a sign between two operands is
+abbrev pub operator_of : TokenKind → Option BinaryOperator
+operator_of (token.Sign Caret) = Some BitXor
+operator_of (token.Sign Ampersand) = Some BitAnd
+operator_of (token.Sign Plus) = Some Add
+operator_of (token.Sign Minus) = Some Subtract
+operator_of _ = None
+
+-- how strongly an operator binds; the strongest of the language binds at 9
+abbrev pub level_of : BinaryOperator → ℕ
+level_of BitXor = 5
+level_of BitAnd = 6
+level_of Add = 8
+level_of Subtract = 8
+
+-- the label that a keyword names
+abbrev pub label_of : TokenKind → Option Label
+label_of (token.Keyword Public) = Some PublicLabel
+label_of (token.Keyword Secret) = Some SecretLabel
+label_of _ = None
+
+-- the kind of word that a keyword names
+abbrev pub word_of : TokenKind → Option Kind
+word_of (token.Keyword Bool) = Some Boolean
+word_of (token.Keyword Uint32) = Some Uint32Kind
+word_of _ = None
+
+-- an expression in which no sign outside all brackets binds below the level
+pub data ExprAt : ℕ → List Lexeme → ExprTree → List Lexeme → Type 0 where
+  a_number : (level : ℕ) (t : Lexeme) (value : ℕ) (suffix : Option Suffix) (rest : List Lexeme) → Is (token.Number value suffix) t → (suffix ≡ None) ⊎ (suffix ≡ Some U32) → ExprAt level (t ∷ rest) (number t.place value) rest
+  a_true : (level : ℕ) (t : Lexeme) (rest : List Lexeme) → Is (token.Keyword True) t → ExprAt level (t ∷ rest) (truth t.place true) rest
+  a_false : (level : ℕ) (t : Lexeme) (rest : List Lexeme) → Is (token.Keyword False) t → ExprAt level (t ∷ rest) (truth t.place false) rest
+  a_name : (level : ℕ) (t : Lexeme) (rest : List Lexeme) → Is token.Name t → ExprAt level (t ∷ rest) (name t.place t.text) rest
+  in_brackets : (level : ℕ) (opening closing : Lexeme) (inner rest : List Lexeme) (tree : ExprTree) → Is (token.Sign OpenRound) opening → ExprAt 1 inner tree (closing ∷ rest) → Is (token.Sign CloseRound) closing → ExprAt level (opening ∷ inner) tree rest
+  a_select : (level : ℕ) (t opening comma comma' closing : Lexeme) (first second third rest : List Lexeme) (condition accepted otherwise : ExprTree) → Is (token.Keyword Select) t → Is (token.Sign OpenRound) opening → ExprAt 1 first condition (comma ∷ second) → Is (token.Sign Comma) comma → ExprAt 1 second accepted (comma' ∷ third) → Is (token.Sign Comma) comma' → ExprAt 1 third otherwise (closing ∷ rest) → Is (token.Sign CloseRound) closing → ExprAt level (t ∷ opening ∷ first) (select t.place condition accepted otherwise) rest
+  -- signs of one level group to the left
+  a_binary : (level : ℕ) (t : Lexeme) (operator : BinaryOperator) (first second rest : List Lexeme) (left right : ExprTree) → operator_of t.kind ≡ Some operator → level ≤ level_of operator → ExprAt (level_of operator) first left (t ∷ second) → ExprAt (level_of operator + 1) second right rest → ExprAt level first (binary t.place operator left right) rest
+
+-- an expression
+abbrev pub Expr : List Lexeme → ExprTree → List Lexeme → Type 0
+Expr = ExprAt 1
+
+-- a parameter
+pub data Parameter : List Lexeme → ParameterTree → List Lexeme → Type 0 where
+  a_parameter : (first second t : Lexeme) (rest : List Lexeme) (label : Label) (kind : Kind) → label_of first.kind ≡ Some label → word_of second.kind ≡ Some kind → Is token.Name t → Parameter (first ∷ second ∷ t ∷ rest) (record { label = label; kind = kind; place = t.place; name = t.text }) rest
+
+-- what stands after a parameter: further ones, each after a comma, and the closing bracket
+pub data MoreParameters : List Lexeme → List ParameterTree → List Lexeme → Type 0 where
+  no_more : (closing : Lexeme) (rest : List Lexeme) → Is (token.Sign CloseRound) closing → MoreParameters (closing ∷ rest) [] rest
+  one_more : (comma : Lexeme) (first second rest : List Lexeme) (tree : ParameterTree) (trees : List ParameterTree) → Is (token.Sign Comma) comma → Parameter first tree second → MoreParameters second trees rest → MoreParameters (comma ∷ first) (tree ∷ trees) rest
+
+-- parameters and the closing bracket
+pub data Parameters : List Lexeme → List ParameterTree → List Lexeme → Type 0 where
+  no_parameters : (closing : Lexeme) (rest : List Lexeme) → Is (token.Sign CloseRound) closing → Parameters (closing ∷ rest) [] rest
+  some_parameters : (first second rest : List Lexeme) (tree : ParameterTree) (trees : List ParameterTree) → Parameter first tree second → MoreParameters second trees rest → Parameters first (tree ∷ trees) rest
+
+-- a procedure, from the label of its result on
+pub data Procedure : List Lexeme → ProcedureTree → List Lexeme → Type 0 where
+  a_procedure : (first second t opening opening' return semicolon closing : Lexeme) (list body end rest : List Lexeme) (label : Label) (kind : Kind) (parameters : List ParameterTree) (value : ExprTree) → label_of first.kind ≡ Some label → word_of second.kind ≡ Some kind → Is token.Name t → Is (token.Sign OpenRound) opening → Parameters list parameters (opening' ∷ return ∷ body) → Is (token.Sign OpenCurly) opening' → Is (token.Keyword Return) return → Expr body value (semicolon ∷ closing ∷ rest) → Is (token.Sign Semicolon) semicolon → Is (token.Sign CloseCurly) closing → Procedure (first ∷ second ∷ t ∷ opening ∷ list) (record { label = label; kind = kind; place = t.place; name = t.text; parameters = parameters; return_place = return.place; value = value }) rest
+
+-- the tokens are a program
+pub data IsProgram : List Lexeme → ProgramTree → Type 0 where
+  no_procedure : IsProgram [] (record { export = None })
+  an_export : (t : Lexeme) (rest : List Lexeme) (tree : ProcedureTree) → Is (token.Keyword Export) t → Procedure rest tree [] → IsProgram (t ∷ rest) (record { export = Some tree })
+
+-- some program begins with the tokens
+abbrev pub IsBeginning : List Lexeme → Type 0
+IsBeginning tokens = (others : List Lexeme) × (tree : ProgramTree) × IsProgram (tokens ++ others) tree

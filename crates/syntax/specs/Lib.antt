@@ -1,0 +1,16 @@
+pub mod RuleNames
+pub mod Results
+pub mod Lexeme
+pub mod Tree
+pub mod Typing
+pub mod RuleOrder
+pub mod FirstViolation
+pub mod Size
+pub mod Spelling
+pub mod Tokens
+pub mod Grammar
+pub mod Nesting
+pub mod Reading
+pub mod Machine
+pub mod ParserViews
+pub mod Meaning

@@ -1,0 +1,41 @@
+-- The parser's values, as the machine sees them. The contracts of its private functions cite these, and no public one does.
+use Rattle.std.specs.Prelude.{◌≡◌, Bool, false, List, [], ◌∷◌, Option, Some, None, Result, MatchResult, ℕ, ◌+◌}
+use Rattle.syntax.specs.declared.nesting.Nesting.{Nesting}
+use Rattle.syntax.specs.declared.parser.Fault.{Fault}
+use Rattle.syntax.specs.declared.parser.Fault.TheVariants.{Refused, Memory}
+use Rattle.syntax.specs.declared.parser.Parser.{Parser}
+use Rattle.syntax.specs.declared.parser.expression.Joint.{Joint}
+use Rattle.syntax.specs.Grammar.{level_of}
+use Rattle.syntax.specs.Lexeme.{Lexeme, lexemes}
+use Rattle.syntax.specs.Machine.{State, Wanted, fits, expr, more, verdict}
+use Rattle.syntax.specs.Nesting.{Nest}
+use Rattle.syntax.specs.Reading.{Answer, refused}
+use Rattle.syntax.specs.Tokens.{ending}
+use Rattle.syntax.specs.Tree.{ExprTree, binary}
+
+-- how deeply the tokens so far are nested
+abbrev pub nest : Nesting → Nest
+nest n = record { count = n.count; bases = n.bases.items; after_block = n.after_block }
+
+-- the machine's answer to what is left
+abbrev pub ahead : State → Parser → Answer
+ahead s p = verdict s (nest p.nesting) (lexemes p.rest.now) (ending p.end)
+
+-- the fault is this answer, or want of memory
+abbrev pub FaultIs : Fault → Answer → Type 0
+FaultIs (Refused rule place) answer = answer ≡ refused rule place
+FaultIs Memory answer = Unit {0}
+
+-- the answer from the state on is that from the next one on, after the call
+abbrev pub Leads : {T : Type 0} → State → (T → State) → Result T Fault → Parser → Parser → Type 0
+Leads s next result old new = MatchResult result (λ x. ahead s old ≡ ahead (next x) new) (λ f. FaultIs f (ahead s old))
+
+-- a token of this kind stands next
+abbrev pub stands : Wanted → List Lexeme → Bool
+stands wanted [] = false
+stands wanted (t ∷ ts) = fits wanted t.kind
+
+-- after an operator the right operand follows; without one the expression is complete
+abbrev pub after_sign : ℕ → ExprTree → (ExprTree → State) → Option Joint → State
+after_sign level left k None = k left
+after_sign level left k (Some joint) = expr (level_of joint.operator + 1) (λ right. more level (level_of joint.operator) (binary joint.place joint.operator left right) k)

@@ -1,0 +1,53 @@
+-- How a text is answered: by its tree, or by the first refusal, reading from the left.
+use Rattle.std.specs.Prelude.{◌≡◌, ℕ, ◌<◌, ◌≤◌, List, [], ◌∷◌, ◌++◌, length, Some, ◌⊎◌}
+use Rattle.syntax.specs.declared.place.Place.{Place}
+use Rattle.syntax.specs.declared.refusal.Refusal.{Refusal}
+use Rattle.syntax.specs.declared.rule.Rule.{Rule}
+use Rattle.syntax.specs.declared.rule.Rule.TheVariants.{UnexpectedToken, Nesting, TextTooLong, OutOfMemory}
+use Rattle.syntax.specs.Grammar.{IsProgram, IsBeginning}
+use Rattle.syntax.specs.Lexeme.{Lexeme}
+use Rattle.syntax.specs.Nesting.{Nest, outside, after, after_all, AreWithin, nesting_limit}
+use Rattle.syntax.specs.Tokens.{Ending, ends_at, stops, Lexes, start}
+use Rattle.syntax.specs.Tree.{ProgramTree}
+
+pub data Answer : Type 0 where
+  accepted : (tree : ProgramTree) → Answer
+  refused : (rule : Rule) (place : Place) → Answer
+
+-- the answer to a list of tokens that ends so
+pub data Answers : List Lexeme → Ending → Answer → Type 0 where
+  -- the tokens are a program and none is nested too deeply
+  a_program : (tokens : List Lexeme) (end : Place) (tree : ProgramTree) → IsProgram tokens tree → AreWithin tokens → Answers tokens (ends_at end) (accepted tree)
+  -- no program begins with the tokens up to this one
+  unexpected : (front rest : List Lexeme) (t : Lexeme) (ending : Ending) → IsBeginning front → ¬ IsBeginning (front ++ t ∷ []) → AreWithin front → Answers (front ++ t ∷ rest) ending (refused UnexpectedToken t.place)
+  -- a program begins so, but the text ends here
+  unexpected_end : (tokens : List Lexeme) (end : Place) → IsBeginning tokens → ((tree : ProgramTree) → ¬ IsProgram tokens tree) → AreWithin tokens → Answers tokens (ends_at end) (refused UnexpectedToken end)
+  -- a program begins with the tokens up to this one, which is nested too deeply
+  too_deep : (front rest : List Lexeme) (t : Lexeme) (ending : Ending) → IsBeginning (front ++ t ∷ []) → AreWithin front → nesting_limit < (after t.kind (after_all front outside)).count → Answers (front ++ t ∷ rest) ending (refused Nesting t.place)
+  -- a program begins so, and a bad character or number stands next
+  bad_token : (tokens : List Lexeme) (rule : Rule) (place : Place) → IsBeginning tokens → AreWithin tokens → Answers tokens (stops rule place) (refused rule place)
+
+-- a text has at most this many bytes
+abbrev pub text_limit : ℕ
+text_limit = 262144
+
+-- the answer to a text
+pub data Reads : List ℕ → Answer → Type 0 where
+  too_long : (text : List ℕ) → text_limit < length text → Reads text (refused TextTooLong start)
+  by_tokens : (text : List ℕ) (tokens : List Lexeme) (ending : Ending) (answer : Answer) → length text ≤ text_limit → Lexes text tokens ending → Answers tokens ending answer → Reads text answer
+
+-- a list of tokens has one answer at most
+abbrev pub OneAnswerForTokens : Type 0
+OneAnswerForTokens = (tokens : List Lexeme) (ending : Ending) (one two : Answer) → Answers tokens ending one → Answers tokens ending two → one ≡ two
+
+-- a text has one answer at most, so one tree at most, and it is not both accepted and refused
+abbrev pub OneAnswer : Type 0
+OneAnswer = (text : List ℕ) (one two : Answer) → Reads text one → Reads text two → one ≡ two
+
+-- tokens are one program at most
+abbrev pub OneProgram : Type 0
+OneProgram = (tokens : List Lexeme) (one two : ProgramTree) → IsProgram tokens one → IsProgram tokens two → one ≡ two
+
+-- the refusal is want of memory, or it has a place and is an answer
+abbrev pub IsRefusedAs : (Answer → Type 0) → Refusal → Type 0
+IsRefusedAs P refusal = (refusal.rule ≡ OutOfMemory) ⊎ ((place : Place) × (refusal.place ≡ Some place) × P (refused refusal.rule place))

@@ -1,0 +1,89 @@
+ghost use Rattle.std.specs.Prelude.{◌≡◌, ◌<◌, ◌≤◌, length, IfOk, IfErr, IsErrAnd, Some, None};
+ghost use Rattle.std.specs.List.{All};
+ghost use Rattle.syntax.specs.Lexeme.{lexemes};
+ghost use Rattle.syntax.specs.Tokens.{Lexes, OneList, IsSliceOf, ending, start};
+
+mod number;
+mod piece;
+mod position;
+mod sign;
+#[cfg(test)]
+mod tests;
+mod word;
+
+use crate::{Place, Refusal, Rule, Token};
+use piece::{Piece, split_piece};
+use position::{START, place_after};
+use std::alloc::Global;
+
+/// A text has at most this many bytes.
+pub const TEXT_LIMIT: usize = 262_144;
+
+/// How a list of tokens ends.
+#[derive(Clone, Copy, Debug, PartialEq, Eq)]
+pub enum ListEnd {
+    /// At the end of the text, which stands here.
+    TextEnd(Place),
+    /// At the first bad character or number.
+    Fault(Rule, Place),
+}
+
+/// The tokens of a text, up to its end or to the first bad character or number.
+#[derive(Debug, Drop)]
+pub struct Lexed<'a> {
+    pub tokens: Vec<Token<'a>>,
+    pub end: ListEnd,
+}
+
+/// The tokens that a text spells. Refused are texts that are too long, and want of memory.
+pub fn lex(alloc: Global, text: &str) -> Result<Lexed<'_>, Refusal>
+    ensures tokens { IfOk result (λ l. Lexes text.now (lexemes l.tokens.items) (ending l.end)) }
+
+    // The tokens' texts are cut from the text.
+    ensures slices { IfOk result (λ l. All (IsSliceOf text.now) (lexemes l.tokens.items)) }
+    ensures too_long { TEXT_LIMIT < length text.now → IsErrAnd result (λ r. (r.rule ≡ Rule.TextTooLong) × (r.place ≡ Some start)) }
+    ensures memory { length text.now ≤ TEXT_LIMIT → IfErr result (λ r. r.rule ≡ Rule.OutOfMemory) }
+{
+    if text.len() > TEXT_LIMIT {
+        return Err(Refusal::at(Rule::TextTooLong, START));
+    }
+    tokens_of(alloc, text)
+}
+
+/// The tokens of a text within the limit.
+fn tokens_of(alloc: Global, text: &str) -> Result<Lexed<'_>, Refusal>
+    requires { length text.now ≤ TEXT_LIMIT }
+    ensures tokens { IfOk result (λ l. Lexes text.now (lexemes l.tokens.items) (ending l.end)) }
+    ensures memory { IfErr result (λ r. r.rule ≡ Rule.OutOfMemory) }
+{
+    let mut tokens = Vec::new(alloc);
+    let mut place = START;
+    let mut rest = text;
+    'pieces: while !rest.is_empty() {
+        let Some((piece, spelling, others)) = split_piece(rest) else {
+            let end = ListEnd::Fault(Rule::UnknownCharacter, place);
+            return Ok(Lexed { tokens, end });
+        };
+        match piece {
+            Piece::Space => {}
+            Piece::Token(kind) => tokens.push(Token {
+                kind,
+                place,
+                text: spelling,
+            })?,
+            Piece::BadNumber => {
+                let end = ListEnd::Fault(Rule::BadNumber, place);
+                return Ok(Lexed { tokens, end });
+            }
+        }
+        place = place_after(place, spelling.as_bytes());
+        rest = others;
+    }
+    let end = ListEnd::TextEnd(place);
+    Ok(Lexed { tokens, end })
+}
+
+/// A text has one list of tokens, and the list one end.
+pub fn one_list_for_a_text()
+    ensures { OneList }
+{}

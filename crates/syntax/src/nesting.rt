@@ -1,0 +1,110 @@
+ghost use Rattle.std.specs.Prelude.{◌≡◌, ◌<◌, ◌≤◌, OnOk};
+ghost use Rattle.syntax.specs.Nesting.{nesting_limit, effect_of as effect_that};
+
+use crate::{Keyword, Sign, TokenKind};
+use std::alloc::{AllocError, Global};
+
+/// No token's count is above it.
+pub const NESTING_LIMIT: u32 = 64;
+
+/// What a token does to the count.
+enum Effect {
+    Opens,
+    Closes,
+    Raises,
+    SetsBack,
+    Stays,
+}
+
+/// How deeply the tokens so far are nested.
+#[derive(Drop)]
+pub struct Nesting {
+    /// The count of the last token.
+    count: u32,
+    /// The counts just after each open bracket, the innermost last.
+    bases: Vec<u8>,
+    /// Whether a `}` came last.
+    after_block: bool,
+    ghost within: { count ≤ nesting_limit },
+}
+
+impl Nesting {
+    ghost use Rattle.syntax.specs.Nesting.{outside, base_of, count_before, after};
+    ghost use Rattle.syntax.specs.ParserViews.{nest};
+
+    /// Before the first token.
+    pub fn new(alloc: Global) -> Self
+        ensures { nest result ≡ outside }
+    {
+        Nesting {
+            count: 0,
+            bases: Vec::new(alloc),
+            after_block: false,
+        }
+    }
+
+    /// The count just after the innermost open bracket, 0 outside all.
+    fn base(&self) -> u32
+        ensures value { result ≡ base_of self.now.bases.items }
+        ensures small { result < 256 }
+    {
+        u32::from(self.bases.last().copied().unwrap_or(0))
+    }
+
+    /// The count that a token finds.
+    fn count_before(&self, kind: TokenKind) -> u32
+        ensures value { result ≡ count_before kind (nest self.now) }
+        ensures small { result < 256 }
+    {
+        if self.after_block && kind != TokenKind::Keyword(Keyword::Else) {
+            self.base()
+        } else {
+            self.count
+        }
+    }
+
+    /// The count of a token that comes next.
+    pub fn count_after(&self, kind: TokenKind) -> u32
+        ensures { result ≡ (after kind (nest self.now)).count }
+    {
+        match effect_of(kind) {
+            Effect::Opens | Effect::Raises => self.count_before(kind) + 1,
+            Effect::Closes => self.base().saturating_sub(1),
+            Effect::SetsBack => self.base(),
+            Effect::Stays => self.count_before(kind),
+        }
+    }
+
+    /// Takes in a token that comes next.
+    pub fn take(&mut self, kind: TokenKind) -> Result<(), AllocError>
+        requires { (after kind (nest self.old)).count ≤ nesting_limit }
+        ensures { OnOk result (nest self.new ≡ after kind (nest self.old)) }
+    {
+        let count = self.count_after(kind);
+        match effect_of(kind) {
+            Effect::Opens => self.bases.push(count as u8)?,
+            Effect::Closes => {
+                let _ = self.bases.pop();
+            }
+            Effect::Raises | Effect::SetsBack | Effect::Stays => {}
+        }
+        self.count = count;
+        self.after_block = kind == TokenKind::Sign(Sign::CloseCurly);
+        Ok(())
+    }
+}
+
+/// Brackets open and close, operator signs and `else` raise, and what ends a part or begins
+/// `return` sets back.
+fn effect_of(kind: TokenKind) -> Effect
+    ensures { result ≡ effect_that kind }
+{
+    match kind {
+        TokenKind::Sign(Sign::OpenRound | Sign::OpenCurly | Sign::OpenSquare) => Effect::Opens,
+        TokenKind::Sign(Sign::CloseRound | Sign::CloseCurly | Sign::CloseSquare) => Effect::Closes,
+        TokenKind::Sign(Sign::Comma | Sign::Semicolon | Sign::Assign) => Effect::SetsBack,
+        TokenKind::Keyword(Keyword::From | Keyword::To | Keyword::Return) => Effect::SetsBack,
+        TokenKind::Sign(_) | TokenKind::Keyword(Keyword::Else) => Effect::Raises,
+        TokenKind::Keyword(_) | TokenKind::Name | TokenKind::Number(_, _) => Effect::Stays,
+    }
+}

@@ -1,0 +1,128 @@
+ghost use Rattle.std.specs.Prelude.{◌≡◌, IfOk, IfErr, MatchResult};
+ghost use Rattle.syntax.specs.Lexeme.{lexemes};
+ghost use Rattle.syntax.specs.Machine.{program as program_state, ended};
+ghost use Rattle.syntax.specs.ParserViews.{ahead, FaultIs};
+ghost use Rattle.syntax.specs.Reading.{Answers, Reads, IsRefusedAs, OneProgram, OneAnswer, accepted, refused};
+ghost use Rattle.syntax.specs.Tokens.{ending};
+ghost use Rattle.syntax.specs.Tree.{ProgramTree, program_tree};
+
+mod expression;
+mod procedure;
+mod step;
+#[cfg(test)]
+mod tests;
+
+use crate::lexer::lex;
+use crate::nesting::Nesting;
+use crate::{Keyword, ListEnd, Place, Program, Refusal, Rule, Token, TokenKind};
+use std::alloc::{AllocError, AllocFailed, Global};
+
+/// Why the parser stops.
+#[derive(Clone, Copy)]
+enum Fault {
+    Refused(Rule, Place),
+    Memory,
+}
+
+impl From<AllocError> for Fault {
+    ghost use Rattle.syntax.specs.declared.parser.Fault.TheVariants.{Memory};
+
+    ghost from_gives = { λ _ fault. fault ≡ Memory };
+
+    fn from(_: AllocError) -> Self {
+        Fault::Memory
+    }
+}
+
+impl<T: Drop> From<AllocFailed<T>> for Fault {
+    ghost use Rattle.syntax.specs.declared.parser.Fault.TheVariants.{Memory};
+
+    ghost from_gives = { λ _ fault. fault ≡ Memory };
+
+    fn from(_: AllocFailed<T>) -> Self {
+        Fault::Memory
+    }
+}
+
+/// What is left to read, and what the tokens before it say of it.
+#[derive(Drop)]
+struct Parser<'t, 'a> {
+    alloc: Global,
+    rest: &'t [Token<'a>],
+    end: ListEnd,
+    nesting: Nesting,
+}
+
+impl<'t, 'a> Parser<'t, 'a> {
+    fn program(&mut self) -> Result<Program<'a>, Fault>
+        ensures leads { MatchResult result (λ p. ahead program_state self.old ≡ accepted (program_tree p))
+            (λ f. FaultIs f (ahead program_state self.old)) }
+    {
+        if self.rest.is_empty() {
+            self.finish()?;
+            return Ok(Program { export: None });
+        }
+        self.expect(TokenKind::Keyword(Keyword::Export))?;
+        let export = self.procedure()?;
+        self.finish()?;
+        Ok(Program {
+            export: Some(export),
+        })
+    }
+
+    /// No token may be left.
+    fn finish(&self) -> Result<(), Fault>
+        ensures leads { (tree : ProgramTree) → MatchResult result
+            (λ _. ahead (ended tree) self.now ≡ accepted tree)
+            (λ f. FaultIs f (ahead (ended tree) self.now)) }
+    {
+        match (self.rest.first(), self.end) {
+            (Some(token), _) => Err(Fault::Refused(Rule::UnexpectedToken, token.place)),
+            (None, ListEnd::TextEnd(_)) => Ok(()),
+            (None, ListEnd::Fault(rule, place)) => Err(Fault::Refused(rule, place)),
+        }
+    }
+}
+
+/// The program that the tokens are.
+fn parse_tokens<'t, 'a>(
+    alloc: Global,
+    tokens: &'t [Token<'a>],
+    end: ListEnd,
+) -> Result<Program<'a>, Refusal>
+    ensures accepted { IfOk result (λ p. Answers (lexemes tokens.entry.now) (ending end) (accepted (program_tree p))) }
+    ensures refused { IfErr result (IsRefusedAs (Answers (lexemes tokens.entry.now) (ending end))) }
+{
+    let mut parser = Parser {
+        alloc,
+        rest: tokens,
+        end,
+        nesting: Nesting::new(alloc),
+    };
+    match parser.program() {
+        Ok(program) => Ok(program),
+        Err(Fault::Refused(rule, place)) => Err(Refusal::at(rule, place)),
+        Err(Fault::Memory) => Err(Refusal::memory()),
+    }
+}
+
+/// The program of a text, or the first refusal. A place is named for all refusals but want of
+/// memory.
+pub fn parse(alloc: Global, text: &str) -> Result<Program<'_>, Refusal>
+    ensures accepted { IfOk result (λ p. Reads text.now (accepted (program_tree p))) }
+    ensures refused { IfErr result (IsRefusedAs (Reads text.now)) }
+{
+    let lexed = lex(alloc, text)?;
+    parse_tokens(alloc, lexed.tokens.as_slice(), lexed.end)
+}
+
+/// Tokens are one program at most.
+pub fn one_program_for_tokens()
+    ensures { OneProgram }
+{}
+
+/// A text has one answer at most: it is not both accepted and refused, and not accepted with two
+/// trees.
+pub fn one_answer_for_a_text()
+    ensures { OneAnswer }
+{}
