@@ -1,6 +1,6 @@
 -- A map's entries, looked up and extended, are a scope, looked up and extended.
-use Rattle.std.proofs.Common.{◌≡◌, ℕ, false, List, [], ◌∷◌, ◌++◌, Option, None, Some, cond, is_some, refl, sym, ap, ◌∙◌}
-use Rattle.std.proofs.lemmas.List.{map-append}
+use Rattle.std.proofs.Common.{◌≡◌, ℕ, false, List, [], ◌∷◌, ◌++◌, Option, None, Some, cond, is_some, take, refl, sym, ap, ◌∙◌}
+use Rattle.std.proofs.lemmas.List.{map-append, take-map}
 use Rattle.std.specs.Map.{lookup}
 use Rattle.std.specs.Str.{bytes_eq}
 use Rattle.names.specs.Scope.{found, declared, scope_of}
@@ -24,3 +24,8 @@ scope_of-new text es fs scope key what more is absent =
 pub nothing : {A : Type 0} (o : Option A) → is_some o ≡ false → o ≡ None
 nothing None h = refl
 nothing (Some x) h = cc
+
+-- the earliest entries are the earliest names
+pub scope_of-take : {K V : Type 0} (text : K → List ℕ) (n : ℕ) (es fs : List (K × V)) (scope : List (List ℕ × V)) → fs ≡ take n es → scope_of text es ≡ scope → scope_of text fs ≡ take n scope
+scope_of-take text n es fs scope fewer is =
+    ap (scope_of text) fewer ∙ sym (take-map (λ entry. (text entry.0, entry.1)) n es) ∙ ap (take n) is

@@ -1,4 +1,4 @@
-ghost use Rattle.std.specs.Prelude.{◌≡◌, [], is_some, IfOk, OnOk, OnErr};
+ghost use Rattle.std.specs.Prelude.{◌≡◌, [], is_some, length, take, IfOk, OnOk, OnErr};
 ghost use Rattle.names.specs.Scope.{found, declared};
 
 use indexmap::IndexMap;
@@ -28,6 +28,20 @@ impl<'a, V: Copy> Names<'a, V> {
         Names {
             map: IndexMap::new(alloc),
         }
+    }
+
+    /// How many names there are.
+    pub fn len(&self) -> usize
+        ensures { result ≡ length self.now }
+    {
+        self.map.len()
+    }
+
+    /// Forgets all names but the earliest so many: the end of a scope.
+    pub fn truncate(&mut self, len: usize)
+        ensures { self.new ≡ take len self.old }
+    {
+        self.map.truncate(len);
     }
 
     /// What a name stands for, where it was declared.

@@ -2,4 +2,3 @@ pub mod Bases
 pub mod Loaded
 pub mod Agreement
 pub mod Compiled
-pub mod Grammatical

@@ -16,7 +16,7 @@ use Rattle.syntax.specs.declared.tree.BinaryOperator.{BinaryOperator}
 use Rattle.syntax.specs.declared.tree.BinaryOperator.TheVariants.{BitXor, BitAnd, Add, Subtract}
 use Rattle.syntax.specs.Grammar.{operator_of, level_of, label_of, word_of, ExprAt, a_number, a_true, a_false, a_name, in_brackets, a_select, a_binary, Parameter, a_parameter, Parameters, no_parameters, some_parameters, MoreParameters, no_more, one_more, Procedure, a_procedure, IsProgram, IsBeginning, no_procedure, an_export}
 use Rattle.syntax.specs.Lexeme.{Lexeme}
-use Rattle.syntax.specs.Tree.{ExprTree, number, truth, name, binary, select, ParameterTree, ProcedureTree, ProgramTree}
+use Rattle.syntax.specs.Tree.{nothing, ExprTree, number, truth, name, binary, select, ParameterTree, ProcedureTree, ProgramTree}
 use Rattle.syntax.specs.declared.parser.expression.Begins.{Begins}
 use Rattle.syntax.specs.declared.parser.expression.Begins.TheVariants.{Number as by_number, Truth as by_truth, Name as by_name, Bracket as by_bracket, Select as by_select}
 use Rattle.syntax.specs.Machine.{Wanted, a_word, export_word, return_word, opening_round, closing_round, opening_curly, closing_curly, a_comma, a_semicolon, State, ended, either_end, one, a_label, a_kind, parameters, more_parameters, expr, more, kind_of, fits, begins_of, labelled, parameter, operand, within, joined, step, at_end, procedure, program, run}
@@ -171,7 +171,7 @@ parameters-run _ _ _ (some_parameters _ second rest tree trees (a_parameter firs
 
 procedure-run : (ts : List Lexeme) (tree : ProcedureTree) (rest : List Lexeme) → Procedure ts tree rest → (k : ProcedureTree → State) → run (procedure k) ts ≡ run (k tree) rest
 procedure-run _ _ _ (a_procedure first second t opening opening' return semicolon closing list body end rest label kind ps value is_label is_kind is_name opens in_list opens' returns in_value ends closes) k =
-    let made = λ (l : Label) (w : Kind) (n : Lexeme) (qs : List ParameterTree) (r : Lexeme) (e : ExprTree). k (record { label = l; kind = w; place = n.place; name = n.text; parameters = qs; return_place = r.place; value = e }) in
+    let made = λ (l : Label) (w : Kind) (n : Lexeme) (qs : List ParameterTree) (r : Lexeme) (e : ExprTree). k (record { label = l; kind = w; place = n.place; name = n.text; parameters = qs; body = nothing; return_place = r.place; value = e }) in
     let k₆ = λ (w : Kind) (n : Lexeme) (qs : List ParameterTree) (r : Lexeme) (e : ExprTree). one a_semicolon (λ _. one closing_curly (λ _. made label w n qs r e)) in
     let k₅ = λ (w : Kind) (n : Lexeme) (qs : List ParameterTree). one opening_curly (λ _. one return_word (λ r. expr 1 (k₆ w n qs r))) in
     let stops = stops-at (token.Sign Semicolon) in

@@ -19,7 +19,7 @@ use Rattle.syntax.specs.declared.token.Suffix.TheVariants.{U8, U16, U32}
 use Rattle.syntax.specs.declared.tree.BinaryOperator.{BinaryOperator}
 use Rattle.syntax.specs.Grammar.{operator_of, level_of, label_of, word_of, Is, ExprAt, a_number, a_true, a_false, a_name, in_brackets, a_select, a_binary, Parameter, a_parameter, Parameters, no_parameters, some_parameters, MoreParameters, no_more, one_more, Procedure, a_procedure, IsProgram, IsBeginning, no_procedure, an_export}
 use Rattle.syntax.specs.Lexeme.{Lexeme}
-use Rattle.syntax.specs.Tree.{ExprTree, number, truth, name, binary, select, ParameterTree, ProcedureTree, ProgramTree}
+use Rattle.syntax.specs.Tree.{nothing, ExprTree, number, truth, name, binary, select, ParameterTree, ProcedureTree, ProgramTree}
 use Rattle.syntax.specs.declared.parser.expression.Begins.{Begins}
 use Rattle.syntax.specs.declared.parser.expression.Begins.TheVariants.{Number as by_number, Truth as by_truth, Name as by_name, Bracket as by_bracket, Select as by_select}
 use Rattle.syntax.specs.Machine.{Wanted, a_word, export_word, return_word, opening_round, closing_round, opening_curly, closing_curly, a_comma, a_semicolon, State, ended, either_end, one, a_label, a_kind, parameters, more_parameters, expr, more, kind_of, fits, begins_of, labelled, parameter, operand, within, joined, step, at_end, procedure, program, run}
@@ -221,7 +221,7 @@ step-finishes (more level top left k) t next e ts p h =
 -- a procedure, read from its label on
 procedure-finishes : (k : ProcedureTree → State) (ts : List Lexeme) (p : ProgramTree) → Finishes (procedure k) ts p → (tree : ProcedureTree) × (rest : List Lexeme) × Procedure ts tree rest × Finishes (k tree) rest p
 procedure-finishes k ts p (first, r₁, label, cut₁, is_label, (second, r₂, kind, cut₂, is_kind, (t, r₃, cut₃, is_name, (opening, r₄, cut₄, opens, (ps, r₅, in_list, (opening', r₆, cut₆, opens', (return, r₇, cut₇, returns, (value, r₈, in_value, (semicolon, r₉, cut₉, ends, (closing, rest, cut₁₀, closes, done)))))))))) = (
-  record { label = label; kind = kind; place = t.place; name = t.text; parameters = ps; return_place = return.place; value = value },
+  record { label = label; kind = kind; place = t.place; name = t.text; parameters = ps; body = nothing; return_place = return.place; value = value },
   rest,
   rw cut₁ (rw cut₂ (rw cut₃ (rw cut₄ (a_procedure first second t opening opening' return semicolon closing r₄ r₇ r₈ rest label kind ps value is_label is_kind is_name opens
       (subst (λ x. Parameters r₄ ps x) (cut₆ ∙ ap (λ x. opening' ∷ x) cut₇) in_list) opens' returns

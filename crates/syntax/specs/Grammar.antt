@@ -14,7 +14,7 @@ use Rattle.syntax.specs.declared.token.Suffix.TheVariants.{U32}
 use Rattle.syntax.specs.declared.tree.BinaryOperator.{BinaryOperator}
 use Rattle.syntax.specs.declared.tree.BinaryOperator.TheVariants.{BitXor, BitAnd, Add, Subtract}
 use Rattle.syntax.specs.Lexeme.{Lexeme}
-use Rattle.syntax.specs.Tree.{ExprTree, number, truth, name, binary, select, ParameterTree, ProcedureTree, ProgramTree}
+use Rattle.syntax.specs.Tree.{ExprTree, number, truth, name, binary, select, nothing, ParameterTree, ProcedureTree, ProgramTree}
 
 -- the token is of this kind
 abbrev pub Is : TokenKind → Lexeme → Type 0
@@ -78,7 +78,7 @@ pub data Parameters : List Lexeme → List ParameterTree → List Lexeme → Typ
 
 -- a procedure, from the label of its result on
 pub data Procedure : List Lexeme → ProcedureTree → List Lexeme → Type 0 where
-  a_procedure : (first second t opening opening' return semicolon closing : Lexeme) (list body end rest : List Lexeme) (label : Label) (kind : Kind) (parameters : List ParameterTree) (value : ExprTree) → label_of first.kind ≡ Some label → word_of second.kind ≡ Some kind → Is token.Name t → Is (token.Sign OpenRound) opening → Parameters list parameters (opening' ∷ return ∷ body) → Is (token.Sign OpenCurly) opening' → Is (token.Keyword Return) return → Expr body value (semicolon ∷ closing ∷ rest) → Is (token.Sign Semicolon) semicolon → Is (token.Sign CloseCurly) closing → Procedure (first ∷ second ∷ t ∷ opening ∷ list) (record { label = label; kind = kind; place = t.place; name = t.text; parameters = parameters; return_place = return.place; value = value }) rest
+  a_procedure : (first second t opening opening' return semicolon closing : Lexeme) (list body end rest : List Lexeme) (label : Label) (kind : Kind) (parameters : List ParameterTree) (value : ExprTree) → label_of first.kind ≡ Some label → word_of second.kind ≡ Some kind → Is token.Name t → Is (token.Sign OpenRound) opening → Parameters list parameters (opening' ∷ return ∷ body) → Is (token.Sign OpenCurly) opening' → Is (token.Keyword Return) return → Expr body value (semicolon ∷ closing ∷ rest) → Is (token.Sign Semicolon) semicolon → Is (token.Sign CloseCurly) closing → Procedure (first ∷ second ∷ t ∷ opening ∷ list) (record { label = label; kind = kind; place = t.place; name = t.text; parameters = parameters; body = nothing; return_place = return.place; value = value }) rest
 
 -- the tokens are a program
 pub data IsProgram : List Lexeme → ProgramTree → Type 0 where

@@ -14,3 +14,4 @@ pub mod Reading
 pub mod Machine
 pub mod ParserViews
 pub mod Meaning
+pub mod Grammatical

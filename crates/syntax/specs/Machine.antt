@@ -20,7 +20,7 @@ use Rattle.syntax.specs.Lexeme.{Lexeme}
 use Rattle.syntax.specs.Nesting.{Nest, after, nesting_limit}
 use Rattle.syntax.specs.Reading.{Answer, accepted, refused}
 use Rattle.syntax.specs.Tokens.{Ending, ends_at, stops}
-use Rattle.syntax.specs.Tree.{ExprTree, number, truth, name, binary, select, ParameterTree, ProcedureTree, ProgramTree}
+use Rattle.syntax.specs.Tree.{nothing, ExprTree, number, truth, name, binary, select, ParameterTree, ProcedureTree, ProgramTree}
 
 -- a kind of token that a rule names
 pub data Wanted : Type 0 where
@@ -131,7 +131,7 @@ at_end _ = None
 abbrev pub procedure : (ProcedureTree → State) → State
 procedure k =
     a_label (λ label. a_kind (λ kind. one a_word (λ t. one opening_round (λ _. parameters (λ ps. one opening_curly (λ _. one return_word (λ r. expr 1 (λ e. one a_semicolon (λ _. one closing_curly (λ _.
-    k (record { label = label; kind = kind; place = t.place; name = t.text; parameters = ps; return_place = r.place; value = e })))))))))))
+    k (record { label = label; kind = kind; place = t.place; name = t.text; parameters = ps; body = nothing; return_place = r.place; value = e })))))))))))
 
 -- a program
 abbrev pub program : State

@@ -1,5 +1,5 @@
 -- Syntax trees as values, without where they lie in memory.
-use Rattle.std.specs.Prelude.{ℕ, Bool, List, Option, map}
+use Rattle.std.specs.Prelude.{ℕ, Bool, List, [], ◌∷◌, Option, map}
 use Rattle.std.specs.Option.{option_map}
 use Rattle.syntax.specs.declared.place.Place.{Place}
 use Rattle.syntax.specs.declared.signature.Kind.{Kind}
@@ -7,6 +7,7 @@ use Rattle.syntax.specs.declared.signature.Label.{Label}
 use Rattle.syntax.specs.declared.tree.BinaryOperator.{BinaryOperator}
 use Rattle.syntax.specs.declared.tree.Expr.{Expr, Number, Truth, Name, Binary', Select'}
 use Rattle.syntax.specs.declared.tree.Parameter.{Parameter}
+use Rattle.syntax.specs.declared.tree.Statement.{Statement, Declare, Assign, If', Row_of-Statement, end_of-Statement, more_of-Statement}
 use Rattle.syntax.specs.declared.tree.Procedure.{Procedure}
 use Rattle.syntax.specs.declared.tree.Program.{Program}
 
@@ -24,12 +25,25 @@ pub record ParameterTree : Type 0 where
   pub place : Place
   pub name : List ℕ
 
+mutual
+  -- a statement: a declaration has the place of its name, the others that of `=` and of `if`
+  pub data StatementTree : Type 0 where
+    declaration : (place : Place) (label : Label) (mutable : Bool) (kind : Kind) (text : List ℕ) (value : ExprTree) → StatementTree
+    assignment : (place target : Place) (text : List ℕ) (value : ExprTree) → StatementTree
+    conditional : (place : Place) (condition : ExprTree) (accepted otherwise : BlockTree) → StatementTree
+
+  -- statements in their order
+  pub data BlockTree : Type 0 where
+    nothing : BlockTree
+    first : (statement : StatementTree) (rest : BlockTree) → BlockTree
+
 pub record ProcedureTree : Type 0 where
   pub label : Label
   pub kind : Kind
   pub place : Place
   pub name : List ℕ
   pub parameters : List ParameterTree
+  pub body : BlockTree
   pub return_place : Place
   pub value : ExprTree
 
@@ -46,6 +60,22 @@ expr_tree (Select' place p condition q accepted r otherwise) = select place (exp
 abbrev pub parameter_tree : Parameter → ParameterTree
 parameter_tree p = record { label = p.label; kind = p.kind; place = p.place; name = p.name.now }
 
+abbrev mutual
+  pub statement_tree : Statement → StatementTree
+  statement_tree (Declare d) = declaration d.place d.label d.mutable d.kind d.name.now (expr_tree d.value)
+  statement_tree (Assign a) = assignment a.place a.target a.name.now (expr_tree a.value)
+  statement_tree (If' place condition shape accepted shape' otherwise) = conditional place (expr_tree condition) (row_tree accepted) (row_tree otherwise)
+
+  -- the statements of an arm
+  pub row_tree : {m : _} → Row_of-Statement m → BlockTree
+  row_tree end_of-Statement = nothing
+  row_tree (more_of-Statement statement rest) = first (statement_tree statement) (row_tree rest)
+
+-- a list of statements
+abbrev pub block_tree : List Statement → BlockTree
+block_tree [] = nothing
+block_tree (statement ∷ rest) = first (statement_tree statement) (block_tree rest)
+
 abbrev pub procedure_tree : Procedure → ProcedureTree
 procedure_tree p = record {
   label = p.label;
@@ -53,6 +83,7 @@ procedure_tree p = record {
   place = p.place;
   name = p.name.now;
   parameters = map parameter_tree p.parameters.items;
+  body = block_tree p.body.items;
   return_place = p.return_place;
   value = expr_tree p.value;
 }

@@ -1,21 +1,23 @@
 -- Scopes, types, and the rules that each node of a program has to meet. A rule is asked of a node only where
 -- the node's own parts are well typed; a node has a type only where it violates no rule.
 use Rattle.std.specs.Prelude.{◌≡◌, ℕ, Bool, true, false, not, ◌&&◌, ◌||◌, List, [], ◌∷◌, ◌++◌, Option, None, Some, is_some, map, if◌then◌else◌}
+use Rattle.std.specs.Option.{option_map}
 use Rattle.std.specs.Str.{bytes_eq}
 use Rattle.std.specs.Map.{lookup}
 use Rattle.syntax.specs.declared.place.Place.{Place}
 use Rattle.syntax.specs.declared.rule.Rule.{Rule}
-use Rattle.syntax.specs.declared.rule.Rule.TheVariants.{UndeclaredName, NameDeclaredTwice, NotExactlyOneExport, WidthsDiffer, WrongKind, SecretToPublic}
+use Rattle.syntax.specs.declared.rule.Rule.TheVariants.{UndeclaredName, NameDeclaredTwice, NotExactlyOneExport, WidthsDiffer, WrongKind, NotMutable, SecretToPublic, PublicAssignedUnderSecretControl}
 use Rattle.syntax.specs.declared.signature.Kind.{Kind}
 use Rattle.syntax.specs.declared.signature.Kind.TheVariants.{Boolean, Uint8, Uint16, Uint32}
 use Rattle.syntax.specs.declared.signature.Label.{Label}
 use Rattle.syntax.specs.declared.signature.Label.TheVariants.{Public, Secret}
 use Rattle.syntax.specs.declared.tree.BinaryOperator.{BinaryOperator}
 use Rattle.syntax.specs.declared.typing.WordType.{WordType}
+use Rattle.syntax.specs.declared.typing.VariableType.{VariableType}
 use Rattle.syntax.specs.declared.typing.Declared.{Declared}
 use Rattle.syntax.specs.declared.typing.Declared.TheVariants.{Procedure, Variable}
 use Rattle.syntax.specs.declared.typing.Violation.{Violation}
-use Rattle.syntax.specs.Tree.{ExprTree, number, truth, name, binary, select, ParameterTree, ProcedureTree, ProgramTree}
+use Rattle.syntax.specs.Tree.{ExprTree, number, truth, name, binary, select, StatementTree, declaration, assignment, conditional, BlockTree, nothing, first, ParameterTree, ProcedureTree, ProgramTree}
 
 -- Scopes.
 
@@ -78,10 +80,14 @@ abbrev pub unless : List Rule → WordType → Option WordType
 unless [] type = Some type
 unless (rule ∷ rules) type = None
 
+-- the variable that a name stands for
+abbrev pub variable : Option Declared → Option VariableType
+variable (Some (Variable v)) = Some v
+variable (Some Procedure) = None
+variable None = None
+
 abbrev pub variable_type : Option Declared → Option WordType
-variable_type (Some (Variable type)) = Some type
-variable_type (Some Procedure) = None
-variable_type None = None
+variable_type what = option_map (λ (v : VariableType). v.word) (variable what)
 
 -- `+ - & ^`: two numbers of one width
 abbrev pub binary_rules : WordType → WordType → List Rule
@@ -164,22 +170,86 @@ expr_violations scope (select place condition accepted otherwise) =
     expr_violations scope condition ++ expr_violations scope accepted ++ expr_violations scope otherwise
     ++ at place (of_three select_rules (type_of scope condition) (type_of scope accepted) (type_of scope otherwise))
 
+-- Statements.
+
+-- what a declared name is
+abbrev pub declared_as : Label → Bool → Kind → Declared
+declared_as label mutable kind = Variable (record { word = record { kind = kind; label = label }; mutable = mutable })
+
+-- a declaration whose first value is well typed
+abbrev pub declaration_rules : Label → Bool → VariableType → Option WordType → List Rule
+declaration_rules control taken v (Some value) =
+    when taken NameDeclaredTwice ++ value_rules v.word value
+    ++ when (v.mutable && not (is_secret v.word.label) && is_secret control) PublicAssignedUnderSecretControl
+declaration_rules control taken v None = []
+
+-- an assignment whose name is a variable's and whose value is well typed
+abbrev pub assignment_rules : Label → Option VariableType → Option WordType → List Rule
+assignment_rules control (Some v) (Some value) =
+    value_rules v.word value ++ when (not v.mutable) NotMutable
+    ++ when (not (is_secret v.word.label) && is_secret control) PublicAssignedUnderSecretControl
+assignment_rules control (Some v) None = []
+assignment_rules control None value = []
+
+-- a well-typed condition
+abbrev pub condition_rules : Option WordType → List Rule
+condition_rules (Some condition) = when (is_number condition.kind) WrongKind
+condition_rules None = []
+
+-- the control label in the arms: secret under a secret condition, else as around them
+abbrev pub control_under : Label → Option WordType → Label
+control_under control (Some condition) = joined condition.label control
+control_under control None = control
+
+-- the scope after a statement: an arm's names are its own
+abbrev pub scope_after : Scope → StatementTree → Scope
+scope_after scope (declaration place label mutable kind text value) = declared scope text (declared_as label mutable kind)
+scope_after scope (assignment place target text value) = scope
+scope_after scope (conditional place condition accepted otherwise) = scope
+
+abbrev mutual
+  -- the rules that a statement's nodes violate under a control label
+  pub statement_violations : Scope → Label → StatementTree → List Violation
+  statement_violations scope control (declaration place label mutable kind text value) =
+      expr_violations scope value
+      ++ at place (declaration_rules control (is_some (found scope text)) (record { word = record { kind = kind; label = label }; mutable = mutable }) (type_of scope value))
+  statement_violations scope control (assignment place target text value) =
+      at target (when (not (is_some (variable (found scope text)))) UndeclaredName)
+      ++ expr_violations scope value
+      ++ at place (assignment_rules control (variable (found scope text)) (type_of scope value))
+  statement_violations scope control (conditional place condition accepted otherwise) =
+      expr_violations scope condition
+      ++ at place (condition_rules (type_of scope condition))
+      ++ block_violations scope (control_under control (type_of scope condition)) accepted
+      ++ block_violations scope (control_under control (type_of scope condition)) otherwise
+
+  pub block_violations : Scope → Label → BlockTree → List Violation
+  block_violations scope control nothing = []
+  block_violations scope control (first statement rest) =
+      statement_violations scope control statement ++ block_violations (scope_after scope statement) control rest
+
+-- the scope after some statements
+abbrev pub scope_after_all : Scope → BlockTree → Scope
+scope_after_all scope nothing = scope
+scope_after_all scope (first statement rest) = scope_after_all (scope_after scope statement) rest
+
 -- Procedures.
 
-abbrev pub parameter_type : ParameterTree → WordType
-parameter_type p = record { kind = p.kind; label = p.label }
+-- what a parameter is: it may not be assigned to
+abbrev pub parameter_as : ParameterTree → Declared
+parameter_as p = declared_as p.label false p.kind
 
 -- the scope after the parameters
 abbrev pub with_parameters : Scope → List ParameterTree → Scope
 with_parameters scope [] = scope
-with_parameters scope (p ∷ ps) = with_parameters (declared scope p.name (Variable (parameter_type p))) ps
+with_parameters scope (p ∷ ps) = with_parameters (declared scope p.name (parameter_as p)) ps
 
 -- no parameter takes a name that is in scope
 abbrev pub parameter_violations : Scope → List ParameterTree → List Violation
 parameter_violations scope [] = []
 parameter_violations scope (p ∷ ps) =
     at p.place (when (is_some (found scope p.name)) NameDeclaredTwice)
-    ++ parameter_violations (declared scope p.name (Variable (parameter_type p))) ps
+    ++ parameter_violations (declared scope p.name (parameter_as p)) ps
 
 abbrev pub result_type : ProcedureTree → WordType
 result_type p = record { kind = p.kind; label = p.label }
@@ -188,8 +258,13 @@ result_type p = record { kind = p.kind; label = p.label }
 abbrev pub own_scope : ProcedureTree → Scope
 own_scope p = (p.name, Procedure) ∷ []
 
+-- where the body begins
 abbrev pub body_scope : ProcedureTree → Scope
 body_scope p = with_parameters (own_scope p) p.parameters
+
+-- where `return` stands
+abbrev pub return_scope : ProcedureTree → Scope
+return_scope p = scope_after_all (body_scope p) p.body
 
 abbrev pub return_rules : WordType → Option WordType → List Rule
 return_rules wanted (Some value) = value_rules wanted value
@@ -198,8 +273,9 @@ return_rules wanted None = []
 abbrev pub procedure_violations : ProcedureTree → List Violation
 procedure_violations p =
     parameter_violations (own_scope p) p.parameters
-    ++ expr_violations (body_scope p) p.value
-    ++ at p.return_place (return_rules (result_type p) (type_of (body_scope p) p.value))
+    ++ block_violations (body_scope p) Public p.body
+    ++ expr_violations (return_scope p) p.value
+    ++ at p.return_place (return_rules (result_type p) (type_of (return_scope p) p.value))
 
 -- the beginning of a text
 abbrev pub origin : Place

@@ -21,6 +21,8 @@ pub use refusal::Refusal;
 pub use rule::Rule;
 pub use signature::{Form, Kind, Label, Param};
 pub use token::{Keyword, Sign, Suffix, Token, TokenKind};
-pub use tree::{BinaryOperator, Expr, Parameter, Procedure, Program};
-pub use typing::{Declared, Violation, WordType};
+pub use tree::{
+    Assignment, BinaryOperator, Declaration, Expr, Parameter, Procedure, Program, Statement,
+};
+pub use typing::{Declared, VariableType, Violation, WordType};
 pub use values::{Arg, Args, Numbers, Outcome};

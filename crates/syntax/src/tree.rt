@@ -30,6 +30,39 @@ pub struct Parameter<'a> {
     pub name: &'a str,
 }
 
+/// A declaration of a word, with its first value.
+#[derive(Debug, Drop)]
+pub struct Declaration<'a> {
+    pub label: Label,
+    /// Whether it may be assigned to.
+    pub mutable: bool,
+    pub kind: Kind,
+    /// The place of its name.
+    pub place: Place,
+    pub name: &'a str,
+    pub value: Expr<'a>,
+}
+
+/// An assignment to a name.
+#[derive(Debug, Drop)]
+pub struct Assignment<'a> {
+    /// The place of `=`.
+    pub place: Place,
+    /// The place of the assigned name.
+    pub target: Place,
+    pub name: &'a str,
+    pub value: Expr<'a>,
+}
+
+/// A statement.
+#[derive(Debug, Drop)]
+pub enum Statement<'a> {
+    Declare(Declaration<'a>),
+    Assign(Assignment<'a>),
+    /// The place of `if`, the condition, and what runs where it is true and where it is not.
+    If(Place, Expr<'a>, Vec<Statement<'a>>, Vec<Statement<'a>>),
+}
+
 /// A procedure.
 #[derive(Debug, Drop)]
 pub struct Procedure<'a> {
@@ -41,6 +74,7 @@ pub struct Procedure<'a> {
     pub place: Place,
     pub name: &'a str,
     pub parameters: Vec<Parameter<'a>>,
+    pub body: Vec<Statement<'a>>,
     /// The place of `return`.
     pub return_place: Place,
     /// The value that it returns.

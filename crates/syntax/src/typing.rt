@@ -7,11 +7,18 @@ pub struct WordType {
     pub label: Label,
 }
 
+/// A variable's type, and whether it may be assigned to.
+#[derive(Clone, Copy, Debug, PartialEq, Eq)]
+pub struct VariableType {
+    pub word: WordType,
+    pub mutable: bool,
+}
+
 /// What a name stands for.
 #[derive(Clone, Copy, Debug, PartialEq, Eq)]
 pub enum Declared {
     Procedure,
-    Variable(WordType),
+    Variable(VariableType),
 }
 
 /// A rule that is violated at a place.

@@ -28,6 +28,7 @@ impl<'t, 'a> Parser<'t, 'a> {
             place: name.place,
             name: name.text,
             parameters,
+            body: Vec::new(self.alloc),
             return_place: word.place,
             value,
         })

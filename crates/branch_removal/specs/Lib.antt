@@ -1,0 +1,4 @@
+pub mod Straight
+pub mod Removal
+pub mod StraightMeaning
+pub mod Fitness

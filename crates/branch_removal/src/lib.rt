@@ -1,0 +1,7 @@
+// Straight code: a condition is taken once into control values, both arms run, and what an arm assigns
+// is set under its control value. Its outcome is that of the body with real branches. Stands on `inline`.
+#![tactic(auto)]
+
+mod straight;
+
+pub use straight::StraightStatement;

@@ -1,0 +1,48 @@
+-- What a body with numbered variables means: a function from what the variables hold to what they hold in the end.
+use Rattle.std.specs.Prelude.{ℕ, zero, suc, ◌==◌, List, [], ◌∷◌, Some, if◌then◌else◌}
+use Rattle.inline.specs.Flat.{TermTree, number, truth, variable, binary, select, FlatTree, declare, assign, branch, FlatBlock, nothing, first, FlatProgram}
+use Rattle.syntax.specs.Meaning.{bit_of, operated}
+use Rattle.syntax.specs.Results.{Results}
+use Rattle.syntax.specs.declared.values.Arg.{Arg}
+use Rattle.syntax.specs.declared.values.Arg.TheVariants.{Word, Array}
+
+-- what the variables hold; a bool is 0 or 1
+abbrev pub Values : Type 0
+Values = ℕ → ℕ
+
+abbrev pub with_value : Values → ℕ → ℕ → Values
+with_value m x v = λ y. if y == x then v else m y
+
+-- the value of an expression
+abbrev pub value_in : Values → TermTree → ℕ
+value_in m (number value) = value
+value_in m (truth value) = bit_of value
+value_in m (variable x) = m x
+value_in m (binary operator left right) = operated operator (value_in m left) (value_in m right)
+value_in m (select condition accepted otherwise) = if value_in m condition == 0 then value_in m otherwise else value_in m accepted
+
+abbrev mutual
+  -- after a statement; of a branch one arm runs
+  pub after : Values → FlatTree → Values
+  after m (declare x word value) = with_value m x (value_in m value)
+  after m (assign x value) = with_value m x (value_in m value)
+  after m (branch condition accepted otherwise) = if value_in m condition == 0 then after_all m otherwise else after_all m accepted
+
+  pub after_all : Values → FlatBlock → Values
+  after_all m nothing = m
+  after_all m (first statement rest) = after_all (after m statement) rest
+
+-- the word of an argument. Arrays are not compiled yet.
+abbrev pub word_in : Arg → ℕ
+word_in (Word word) = word
+word_in (Array words) = 0
+
+-- the parameters hold the arguments; all else holds 0
+abbrev pub given : List Arg → Values
+given [] x = 0
+given (arg ∷ args) zero = word_in arg
+given (arg ∷ args) (suc x) = given args x
+
+-- the outcome on arguments
+abbrev pub outcome_of : FlatProgram → List Arg → Results
+outcome_of p args = record { returned = Some (value_in (after_all (given args) p.body) p.value); arrays = [] }

@@ -1,0 +1,4 @@
+pub mod Flat
+pub mod Numbering
+pub mod FlatMeaning
+pub mod FlatTyping
