@@ -1,1 +1,2 @@
 mod SoonerLemmas
+mod TreeLemmas

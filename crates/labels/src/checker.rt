@@ -6,10 +6,13 @@ ghost use Rattle.labels.specs.Answer.{IsRefusedFor};
 
 use crate::expressions::expression;
 use crate::first::First;
-use crate::kinds::{are_alike, is_secret, widths_differ};
+use crate::statements::{note_value, statements};
 use names::Names;
 use std::alloc::{AllocError, Global};
-use syntax::{Declared, Parameter, Place, Procedure, Program, Refusal, Rule, Violation, WordType};
+use syntax::{
+    Declared, Label, Parameter, Place, Procedure, Program, Refusal, Rule, VariableType, Violation,
+    WordType,
+};
 
 /// A program whose every node is well typed.
 #[derive(Drop)]
@@ -42,7 +45,11 @@ fn parameters<'a>(
             kind: parameter.kind,
             label: parameter.label,
         };
-        let taken = names.declare(parameter.name, Declared::Variable(word))?;
+        let variable = VariableType {
+            word,
+            mutable: false,
+        };
+        let taken = names.declare(parameter.name, Declared::Variable(variable))?;
         first.note_if(taken, parameter.place, Rule::NameDeclaredTwice);
     }
     Ok(())
@@ -53,14 +60,7 @@ fn returned(first: &mut First, place: Place, wanted: WordType, value: Option<Wor
     ensures { first.new.seen ≡ fold sooner first.old.seen (at place (return_rules wanted value)) }
 {
     if let Some(value) = value {
-        let leaks = !is_secret(wanted.label) && is_secret(value.label);
-        first.note_if(
-            widths_differ(wanted.kind, value.kind),
-            place,
-            Rule::WidthsDiffer,
-        );
-        first.note_if(!are_alike(wanted.kind, value.kind), place, Rule::WrongKind);
-        first.note_if(leaks, place, Rule::SecretToPublic);
+        note_value(first, place, wanted, value);
     }
 }
 
@@ -71,6 +71,8 @@ fn procedure(alloc: Global, first: &mut First, procedure: &Procedure<'_>) -> Res
     let mut names = Names::new(alloc);
     names.declare(procedure.name, Declared::Procedure)?;
     parameters(first, &mut names, procedure.parameters.as_slice())?;
+    let body = procedure.body.as_slice();
+    statements(first, &mut names, Label::Public, body)?;
     let value = expression(first, &names, &procedure.value);
     let wanted = WordType {
         kind: procedure.kind,

@@ -1,7 +1,7 @@
 ghost use Rattle.std.specs.Prelude.{◌≡◌};
-ghost use Rattle.syntax.specs.Typing.{is_number, is_secret, joined, widths_differ, are_alike, variable_type, number_type, truth_type};
+ghost use Rattle.syntax.specs.Typing.{is_number, is_secret, joined, widths_differ, are_alike, variable, variable_type, control_under, number_type, truth_type};
 
-use syntax::{Declared, Kind, Label, WordType};
+use syntax::{Declared, Kind, Label, VariableType, WordType};
 
 pub fn is_number(kind: Kind) -> bool
     ensures { result ≡ is_number kind }
@@ -36,13 +36,33 @@ pub fn are_alike(one: Kind, other: Kind) -> bool
     is_number(one) == is_number(other)
 }
 
+/// The variable that a name stands for.
+pub fn variable(what: Option<Declared>) -> Option<VariableType>
+    ensures { result ≡ variable what }
+{
+    match what {
+        Some(Declared::Variable(variable)) => Some(variable),
+        Some(Declared::Procedure) | None => None,
+    }
+}
+
 /// The type of a variable.
 pub fn variable_type(what: Option<Declared>) -> Option<WordType>
     ensures { result ≡ variable_type what }
 {
     match what {
-        Some(Declared::Variable(word)) => Some(word),
+        Some(Declared::Variable(variable)) => Some(variable.word),
         Some(Declared::Procedure) | None => None,
+    }
+}
+
+/// The control label in the arms of a conditional, whose condition has this type.
+pub fn control_under(control: Label, condition: Option<WordType>) -> Label
+    ensures { result ≡ control_under control condition }
+{
+    match condition {
+        Some(condition) => join(condition.label, control),
+        None => control,
     }
 }
 

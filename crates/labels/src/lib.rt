@@ -6,5 +6,6 @@ mod checker;
 mod expressions;
 mod first;
 mod kinds;
+mod statements;
 
 pub use checker::{Checked, check};

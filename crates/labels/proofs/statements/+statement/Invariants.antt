@@ -1,0 +1,16 @@
+use Rattle.std.proofs.Common.{◌≡◌, drop, fold}
+use Rattle.syntax.specs.Tree.{block_tree}
+use Rattle.syntax.specs.Typing.{block_violations, scope_after_all}
+use Rattle.labels.specs.Sooner.{sooner}
+use Rattle.labels.proofs.statements.+statement.Given as goal
+
+-- what is left of the statements leads to the same scope and the same first violation as all of them
+abbrev pub invariant-statements-loop-one : goal.invariant-statements-loop-one
+invariant-statements-loop-one l =
+    let rest = block_tree (drop l.one-index l.statements) in
+    let all = block_tree l.fn.statements in
+    record {
+      names : scope_after_all l.names rest ≡ scope_after_all l.fn.names all;
+      first : fold sooner l.first.seen (block_violations l.names l.control rest) ≡ fold sooner l.fn.first.seen (block_violations l.fn.names l.fn.control all);
+      control : l.control ≡ l.fn.control;
+    }
