@@ -75,18 +75,14 @@ void *realloc(void *old, size_t size) {
     return refuses() ? NULL : __libc_realloc(old, size);
 }
 
-void *memalign(size_t alignment, size_t size) {
-    return refuses() ? NULL : __libc_memalign(alignment, size);
-}
-
 void *aligned_alloc(size_t alignment, size_t size) {
-    return memalign(alignment, size);
+    return refuses() ? NULL : __libc_memalign(alignment, size);
 }
 
 /* Unlike the others it answers the error and leaves errno as it was. */
 int posix_memalign(void **place, size_t alignment, size_t size) {
     int kept = errno;
-    void *memory = memalign(alignment, size);
+    void *memory = aligned_alloc(alignment, size);
     errno = kept;
     if (memory == NULL)
         return ENOMEM;

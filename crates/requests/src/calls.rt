@@ -1,41 +1,55 @@
-ghost use Rattle.std.specs.Prelude.{◌≡◌, ◌<◌, ℕ, List, [], true, length, Ok, Err, IfOk, IfErr};
-ghost use Rattle.arguments.specs.Within.{AreWithin};
-ghost use Rattle.hepurita.specs.Built.{IsBuilt};
+ghost use Rattle.std.specs.Prelude.{◌≡◌, ◌<◌, ℕ, List, [], ◌∷◌, true, length, Ok, Err, IfOk, IfErr};
+ghost use Rattle.hepurita.specs.Built.{IsBuilt, IsRefusal, Judges};
 ghost use Rattle.hepurita.specs.Executed.{Executed};
 ghost use Rattle.hepurita.specs.declared.fault.RunFault.{RunFault};
+ghost use Rattle.image.specs.Reading.{IsUnlessMemory, reading};
 ghost use Rattle.image.specs.Spelling.{spelling};
+ghost use Rattle.image.specs.declared.fault.ImageFault.{ImageFault};
 ghost use Rattle.rv_machine.specs.ListRecording.{recorded};
 ghost use Rattle.rv_machine.specs.declared.observation.Observation.{Observation};
-ghost use Rattle.simulation.specs.Loaded.{params_of};
+ghost use Rattle.syntax.specs.declared.refusal.Refusal.{Refusal};
 
 use crate::fault::Fault;
-use hepurita::{build, execute, params, read_args};
+use hepurita::{build, execute};
 use image::Image;
 use rv_machine::ListRecorder;
 use std::alloc::Global;
 use streams::{ByteSink, put_all};
-use syntax::{Args, Outcome};
+use syntax::{Arg, Args, Outcome};
 
 /// The bytes of the image of an accepted text.
 pub fn bytes_of(alloc: Global, text: &str) -> Result<Vec<u8>, Fault>
-    ensures { IfOk result (λ bytes. IsBuilt text.now bytes.items) }
+    ensures accepted { IfOk result (λ bytes. IsBuilt text.now bytes.items) }
+    ensures refused { IfErr result (λ given. (refusal : Refusal)
+        × (given ≡ Fault.Build refusal.rule refusal.name) × IsRefusal (Judges text.now) refusal) }
 {
-    build(alloc, text).map_err(|refusal| Fault::Build(refusal.rule, refusal.name))
+    match build(alloc, text) {
+        Ok(bytes) => Ok(bytes),
+        Err(refusal) => Err(Fault::Build(refusal.rule, refusal.name)),
+    }
 }
 
 /// The image that bytes spell.
 pub fn image_of(alloc: Global, bytes: &[u8]) -> Result<Image, Fault>
-    ensures { IfOk result (λ image. bytes.now ≡ spelling image) }
+    ensures found { IfOk result (λ image. bytes.now ≡ spelling image) }
+    ensures fault { IfErr result (λ given. (fault : ImageFault)
+        × (given ≡ Fault.Read fault) × IsUnlessMemory (Err fault) (reading bytes.now)) }
 {
-    image::read(alloc, bytes).map_err(Fault::Read)
+    match image::read(alloc, bytes) {
+        Ok(image) => Ok(image),
+        Err(fault) => Err(Fault::Read(fault)),
+    }
 }
 
-/// The arguments that texts spell for an image's parameters.
-pub fn arguments_of(alloc: Global, image: &Image, texts: &[&str]) -> Result<Args, Fault>
-    ensures { IfOk result (AreWithin (params_of image.now)) }
+/// A condition that holds, and two words to choose from.
+pub fn arguments(alloc: Global) -> Result<Args, Fault>
+    ensures words { IfOk result (λ args. args ≡ Arg.Word 1 ∷ Arg.Word 5 ∷ Arg.Word 9 ∷ []) }
+    ensures memory { IfErr result (λ given. given ≡ Fault.Arguments) }
 {
-    let params = params(alloc, image).map_err(|_| Fault::Params)?;
-    read_args(alloc, params.as_slice(), texts).map_err(Fault::Arguments)
+    match vec![in alloc; Arg::Word(1), Arg::Word(5), Arg::Word(9)] {
+        Ok(words) => Ok(Args::new(words)),
+        Err(_) => Err(Fault::Arguments),
+    }
 }
 
 /// Runs an image with a recorder that keeps what an observer sees. Where there is no outcome, it says

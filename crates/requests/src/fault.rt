@@ -10,10 +10,8 @@ pub enum Fault {
     Build(Rule, &'static str),
     #[error("read: {0}")]
     Read(ImageFault),
-    #[error("params: M1: memory")]
-    Params,
-    #[error("read_args: {0}")]
-    Arguments(RunFault),
+    #[error("arguments: M1: memory")]
+    Arguments,
     /// With how many observations were kept before.
     #[error("execute: {0} after {1} observations")]
     Execute(RunFault, usize),

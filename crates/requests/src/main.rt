@@ -8,19 +8,17 @@
 mod calls;
 mod fault;
 
-use calls::{arguments_of, bytes_of, image_of, keep, observe};
+use calls::{arguments, bytes_of, image_of, keep, observe};
 
 /// With a choice under a secret an observer sees enough for the recorder to grow several times.
 const TEXT: &str = "export secret uint32 f(secret bool s, secret uint32 a, secret uint32 b) { \
                     return select(s, a, b); }";
 
-const ARGUMENTS: [&str; 3] = ["1", "5", "9"];
-
 fn main(rt: HostRuntime) -> anyhow::Result<()> {
     let alloc = rt.alloc();
     let bytes = bytes_of(alloc, TEXT)?;
     let image = image_of(alloc, bytes.as_slice())?;
-    let args = arguments_of(alloc, &image, &ARGUMENTS)?;
+    let args = arguments(alloc)?;
     let (outcome, recorder) = observe(alloc, &image, &args)?;
     let sink = keep(alloc, bytes.as_slice())?;
     println!(rt; "outcome {:?}", outcome.returned())?;
