@@ -1,0 +1,79 @@
+ghost use Rattle.std.specs.Prelude.{◌≡◌, ◌<◌, ℕ, List, [], ◌∷◌, true, length, Ok, Err, IfOk, IfErr};
+ghost use Rattle.hepurita.specs.Built.{IsBuilt, IsRefusal, Judges};
+ghost use Rattle.hepurita.specs.Executed.{Executed};
+ghost use Rattle.hepurita.specs.declared.fault.RunFault.{RunFault};
+ghost use Rattle.image.specs.Reading.{IsUnlessMemory, reading};
+ghost use Rattle.image.specs.Spelling.{spelling};
+ghost use Rattle.image.specs.declared.fault.ImageFault.{ImageFault};
+ghost use Rattle.rv_machine.specs.ListRecording.{recorded};
+ghost use Rattle.rv_machine.specs.declared.observation.Observation.{Observation};
+ghost use Rattle.syntax.specs.declared.refusal.Refusal.{Refusal};
+
+use crate::fault::Fault;
+use hepurita::{build, execute};
+use image::Image;
+use rv_machine::ListRecorder;
+use std::alloc::Global;
+use streams::{ByteSink, put_all};
+use syntax::{Arg, Args, Outcome};
+
+/// The bytes of the image of an accepted text.
+pub fn bytes_of(alloc: Global, text: &str) -> Result<Vec<u8>, Fault>
+    ensures accepted { IfOk result (λ bytes. IsBuilt text.now bytes.items) }
+    ensures refused { IfErr result (λ given. (refusal : Refusal)
+        × (given ≡ Fault.Build refusal.rule refusal.name) × IsRefusal (Judges text.now) refusal) }
+{
+    match build(alloc, text) {
+        Ok(bytes) => Ok(bytes),
+        Err(refusal) => Err(Fault::Build(refusal.rule, refusal.name)),
+    }
+}
+
+/// The image that bytes spell.
+pub fn image_of(alloc: Global, bytes: &[u8]) -> Result<Image, Fault>
+    ensures found { IfOk result (λ image. bytes.now ≡ spelling image) }
+    ensures fault { IfErr result (λ given. (fault : ImageFault)
+        × (given ≡ Fault.Read fault) × IsUnlessMemory (Err fault) (reading bytes.now)) }
+{
+    match image::read(alloc, bytes) {
+        Ok(image) => Ok(image),
+        Err(fault) => Err(Fault::Read(fault)),
+    }
+}
+
+/// A condition that holds, and two words to choose from.
+pub fn arguments(alloc: Global) -> Result<Args, Fault>
+    ensures words { IfOk result (λ args. args ≡ Arg.Word 1 ∷ Arg.Word 5 ∷ Arg.Word 9 ∷ []) }
+    ensures memory { IfErr result (λ given. given ≡ Fault.Arguments) }
+{
+    match vec![in alloc; Arg::Word(1), Arg::Word(5), Arg::Word(9)] {
+        Ok(words) => Ok(Args::new(words)),
+        Err(_) => Err(Fault::Arguments),
+    }
+}
+
+/// Runs an image with a recorder that keeps what an observer sees. Where there is no outcome, it says
+/// how much was kept up to there.
+pub fn observe(alloc: Global, image: &Image, args: &Args) -> Result<(Outcome, ListRecorder), Fault>
+    ensures outcome { IfOk result (λ run. Executed image.now args.now true [] (Ok run.0) (recorded run.1)) }
+    ensures fault { IfErr result (λ given. (fault : RunFault) × (list : List Observation)
+        × (given ≡ Fault.Execute fault (length list)) × Executed image.now args.now true [] (Err fault) list) }
+{
+    let mut recorder = ListRecorder::new(alloc);
+    match execute(alloc, image, args, &mut recorder) {
+        Ok(outcome) => Ok((outcome, recorder)),
+        Err(fault) => Err(Fault::Execute(fault, recorder.list().len())),
+    }
+}
+
+/// A sink in memory that has taken these bytes. Where it refuses, it says how many it had taken.
+pub fn keep(alloc: Global, bytes: &[u8]) -> Result<ByteSink, Fault>
+    ensures taken { IfOk result (λ sink. sink.bytes ≡ bytes.now) }
+    ensures refused { IfErr result (λ given. (taken : ℕ) × (given ≡ Fault.Put taken) × (taken < length bytes.now)) }
+{
+    let mut sink = ByteSink::new(alloc);
+    match put_all(&mut sink, bytes) {
+        Ok(()) => Ok(sink),
+        Err(_) => Err(Fault::Put(sink.as_slice().len())),
+    }
+}
