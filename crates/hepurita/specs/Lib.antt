@@ -3,3 +3,4 @@ pub mod Executed
 pub mod Paired
 pub mod Built
 pub mod Answers
+pub mod Text
