@@ -72,6 +72,11 @@ impl ArgumentFault {
 
 /// `A3 at argument 0: value outside type`, or `A1: argument count`.
 impl fmt::Display for ArgumentFault {
+    ghost use Rattle.std.specs.Prelude.{Some};
+    ghost use Rattle.arguments.specs.Text.{fault_text};
+
+    ghost output = { λ fault. Some (fault_text fault) };
+
     fn fmt<W: fmt::Write>(&self, f: &mut fmt::Formatter<W>) -> fmt::Result {
         let code = self.rule.code();
         let name = self.rule.name();

@@ -5,11 +5,13 @@
 
 mod bounds;
 mod fault;
+mod laws;
 mod numerals;
 mod texts;
 
 pub use bounds::first_fault;
 pub use fault::{ArgumentFault, ArgumentRule};
+pub use laws::faultless_arguments;
 pub use texts::{ReadError, read};
 
 #[cfg(test)]

@@ -39,6 +39,11 @@ impl<T: Drop> From<AllocFailed<T>> for ReadError {
 
 /// `A3 at argument 0: value outside type`, or `M1: memory`.
 impl fmt::Display for ReadError {
+    ghost use Rattle.std.specs.Prelude.{Some};
+    ghost use Rattle.arguments.specs.Text.{read_error_text};
+
+    ghost output = { λ error. Some (read_error_text error) };
+
     fn fmt<W: fmt::Write>(&self, f: &mut fmt::Formatter<W>) -> fmt::Result {
         match self {
             ReadError::Argument(fault) => write!(f, "{fault}"),

@@ -1,5 +1,5 @@
 -- Refusals of the passes as judgements on programs and texts.
-use Rattle.std.proofs.Common.{◌≡◌, ◌≢◌, ◌⊎◌, inl, inr, ℕ, zero, suc, ◌<◌, ◌≤◌, ◌+◌, Bool, true, false, nat_lt, List, [], ◌∷◌, ◌++◌, length, Option, None, Some, All, Contains, refl, sym, ap, subst, ◌∙◌, arith}
+use Rattle.std.proofs.Common.{◌≡◌, inl, inr, ℕ, ◌<◌, ◌≤◌, Bool, true, false, nat_lt, List, [], ◌∷◌, ◌++◌, length, Some, refl, sym, subst, arith}
 use Rattle.std.proofs.lemmas.Bool.Decides.{nat_tests}
 use Rattle.std.proofs.lemmas.List.Elements.{All-cons, All-nil}
 use Rattle.syntax.specs.declared.place.Place.{Place}
@@ -13,7 +13,7 @@ use Rattle.syntax.specs.Size.{nodes_in, nodes_of, size_violations, declared_byte
 use Rattle.syntax.specs.Tree.{ExprTree, number, truth, name, binary, select, ProcedureTree, ProgramTree}
 use Rattle.syntax.specs.Typing.{violations, at, when}
 use Rattle.labels.specs.Answer.{IsRefusedFor}
-use Rattle.hepurita.specs.Built.{Judgement, Judges, JudgesProgram, refuses, ill_typed, too_large, unreadable, readable, IsRefusal}
+use Rattle.hepurita.specs.Built.{Judges, JudgesProgram, refuses, ill_typed, too_large, unreadable, readable, IsRefusal}
 
 -- an expression has a node
 pub nodes_some : (e : ExprTree) → 1 ≤ nodes_in e

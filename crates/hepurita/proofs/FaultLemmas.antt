@@ -1,5 +1,5 @@
 -- Faults of arguments, as faults of reading and of a run.
-use Rattle.std.proofs.Common.{◌≡◌, ◌↔◌, ℕ, ◌+◌, ◌<◌, ◌==◌, Bool, true, false, List, [], ◌∷◌, length, Option, None, Some, Result, Ok, Err, cond, refl, sym, ap, subst, ◌∙◌, arith}
+use Rattle.std.proofs.Common.{◌≡◌, ℕ, ◌+◌, ◌<◌, ◌==◌, Bool, true, false, List, [], ◌∷◌, length, Option, None, Some, Result, Err, cond, ap, ◌∙◌, arith}
 use Rattle.arguments.specs.Faults.{fault_at, fault_from, fault_of, rule_of, count_fault}
 use Rattle.arguments.specs.declared.fault.ArgumentFault.{ArgumentFault}
 use Rattle.arguments.specs.declared.fault.ArgumentRule.{ArgumentRule}
@@ -8,7 +8,7 @@ use Rattle.arguments.specs.declared.texts.ReadError.TheVariants as errors
 use Rattle.syntax.specs.declared.signature.Param.{Param}
 use Rattle.syntax.specs.declared.values.Arg.{Arg}
 use Rattle.hepurita.specs.declared.fault.RunFault.{RunFault}
-use Rattle.hepurita.specs.declared.fault.RunFault.TheVariants.{Argument, Memory}
+use Rattle.hepurita.specs.declared.fault.RunFault.TheVariants.{Argument}
 use Rattle.hepurita.specs.Faults.{run_fault_of}
 
 one_fault : (f fault : ArgumentFault) → Argument f.rule f.index ≡ Argument fault.rule fault.index → f ≡ fault

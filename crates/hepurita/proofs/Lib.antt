@@ -6,3 +6,4 @@ pub mod FaultLemmas
 pub mod PairedLemmas
 pub mod JudgementLemmas
 pub mod TheoremLemmas
+pub mod AnswerLemmas

@@ -1,11 +1,10 @@
 -- Slots inside the frame, and arguments put into them one after another.
-use Rattle.std.proofs.Common.{◌≡◌, ℕ, suc, ◌+◌, ◌<◌, ◌≤◌, List, [], ◌∷◌, length, drop, slice_index_or, map, All, refl, sym, ap, ◌∙◌, arith, drop-cons, add-one}
+use Rattle.std.proofs.Common.{◌≡◌, ℕ, suc, ◌+◌, ◌<◌, ◌≤◌, List, [], ◌∷◌, length, drop, slice_index_or, refl, sym, ap, ◌∙◌, arith, drop-cons, add-one}
 use Rattle.std.specs.List.{AllByRecursion}
 use Rattle.arguments.specs.Within.{AreWithin}
 use Rattle.image.specs.Fields.{AreSlots, IsSlot, slot_end, slot_bytes}
 use Rattle.image.specs.declared.slot.Slot.{Slot}
 use Rattle.rv_machine.specs.Bytes.{ByteMap, zeros}
-use Rattle.rv_machine.specs.Machine.{State}
 use Rattle.syntax.specs.declared.signature.Form.TheVariants.{SingleWord}
 use Rattle.syntax.specs.declared.signature.Kind.TheVariants.{Boolean}
 use Rattle.syntax.specs.declared.signature.Label.TheVariants.{Public}

@@ -2,3 +2,5 @@ pub mod Faults
 pub mod Executed
 pub mod Paired
 pub mod Built
+pub mod Answers
+pub mod Text

@@ -62,6 +62,11 @@ impl<T: Drop> From<AllocFailed<T>> for RunFault {
 
 /// `A3 at argument 0: value outside type`, `A1: argument count`, `M1: memory`, or the stop's name.
 impl fmt::Display for RunFault {
+    ghost use Rattle.std.specs.Prelude.{Some};
+    ghost use Rattle.hepurita.specs.Text.{run_fault_text};
+
+    ghost output = { λ fault. Some (run_fault_text fault) };
+
     fn fmt<W: fmt::Write>(&self, f: &mut fmt::Formatter<W>) -> fmt::Result {
         match *self {
             RunFault::Argument { rule, index } => {

@@ -53,6 +53,11 @@ impl ImageRule {
 
 /// The code.
 impl fmt::Display for ImageRule {
+    ghost use Rattle.std.specs.Prelude.{Some};
+    ghost use Rattle.image.specs.RuleNames.{code_of};
+
+    ghost output = { λ rule. Some (code_of rule) };
+
     fn fmt<W: fmt::Write>(&self, f: &mut fmt::Formatter<W>) -> fmt::Result {
         f.write_str(self.code())
     }
@@ -70,6 +75,11 @@ pub enum ImageFault {
 
 /// `B4 at byte 31: truncated`, or `M1: memory`.
 impl fmt::Display for ImageFault {
+    ghost use Rattle.std.specs.Prelude.{Some};
+    ghost use Rattle.image.specs.Text.{fault_text};
+
+    ghost output = { λ fault. Some (fault_text fault) };
+
     fn fmt<W: fmt::Write>(&self, f: &mut fmt::Formatter<W>) -> fmt::Result {
         match *self {
             ImageFault::Field { rule, offset } => {

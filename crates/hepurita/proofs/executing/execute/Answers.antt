@@ -1,11 +1,10 @@
-use Rattle.std.proofs.Common.{◌≡◌, List, Option, None, Some, Err, ap, sym, ◌∙◌}
+use Rattle.std.proofs.Common.{List, Err, ap, sym, ◌∙◌}
 use Rattle.std.proofs.lemmas.Result.{err_from_is_err_and}
 use Rattle.arguments.specs.Faults.{fault_of}
 use Rattle.rv_machine.specs.Flat.{flat_bytes}
 use Rattle.rv_machine.specs.Harts.{state_of}
 use Rattle.rv_machine.specs.Regions.{code_of}
 use Rattle.syntax.specs.declared.signature.Param.{Param}
-use Rattle.simulation.specs.Loaded.{params_of}
 use Rattle.hepurita.proofs.ExecutedLemmas.{memory_executed, refused_executed, ran_executed}
 use Rattle.hepurita.proofs.executing.execute.Goals as goal
 

@@ -1,4 +1,4 @@
-use Rattle.std.proofs.Common.{◌≡◌, List, length, map, All, ap, sym, subst, ◌∙◌}
+use Rattle.std.proofs.Common.{List, length, All, ap, sym, subst, ◌∙◌}
 use Rattle.std.proofs.lemmas.List.{length-map}
 use Rattle.std.proofs.lemmas.List.Elements.{All-from_recursion}
 use Rattle.image.specs.declared.slot.Slot.{Slot}

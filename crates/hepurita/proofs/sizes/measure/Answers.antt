@@ -1,4 +1,4 @@
-use Rattle.std.proofs.Common.{◌≡◌, ◌<◌, ◌≤◌, length, map, inr, arith}
+use Rattle.std.proofs.Common.{◌<◌, ◌≤◌, inr, arith}
 use Rattle.std.proofs.lemmas.List.{length-map}
 use Rattle.syntax.specs.Tree.{parameter_tree, procedure_tree}
 use Rattle.syntax.specs.Size.{nodes_of, declared_bytes, most_nodes, most_declared_bytes}

@@ -1,0 +1,175 @@
+-- What is answered for a compiled image at the standard bases.
+use Rattle.std.proofs.Common.{◌≡◌, ◌≢◌, ◌↔◌, inl, inr, ℕ, ◌*◌, ◌+◌, ◌<◌, ◌≤◌, ◌==◌, ◌&&◌, Bool, true, false, List, [], length, slice_get, Option, None, Some, Result, Ok, if◌then◌else◌, refl, sym, ap, subst, ◌∙◌, arith}
+use Rattle.std.specs.Option.{option_map}
+use Rattle.std.proofs.lemmas.Bool.Decides.{Decides-eqb}
+use Rattle.arguments.specs.Faults.{fault_of, count_fault}
+use Rattle.arguments.specs.Within.{AreWithin}
+use Rattle.arguments.specs.declared.fault.ArgumentFault.{ArgumentFault}
+use Rattle.image.specs.Fields.{Fields, IsImage}
+use Rattle.image.specs.Spelling.{spelling}
+use Rattle.observing.specs.Entries.{Entry, entries_of}
+use Rattle.observing.specs.declared.pairing.Pairing.{Pairing}
+use Rattle.observing.specs.declared.pairing.Pairing.TheVariants.{Same, Differ}
+use Rattle.rv_machine.specs.Leakage.{Ran}
+use Rattle.rv_machine.specs.Machine.{State}
+use Rattle.rv_machine.specs.Recording.{kept}
+use Rattle.rv_machine.specs.RunLaws.{Ran-halts}
+use Rattle.rv_machine.specs.declared.observation.Observation.{Observation}
+use Rattle.rv_machine.specs.declared.stops.Stop.{Stop}
+use Rattle.rv_machine.specs.declared.stops.Stop.TheVariants.{Ecall, Break, Illegal, AccessFault, Misaligned, Budget, RecorderRefused}
+use Rattle.simulation.specs.Agreement.{Agree}
+use Rattle.simulation.specs.Bases.{code_base, frame_base}
+use Rattle.simulation.specs.Compiled.{AreBases, IsCompiled, RunsTo}
+use Rattle.simulation.specs.Loaded.{params_of, code_at, loaded_at, results_in}
+use Rattle.syntax.specs.declared.signature.Label.TheVariants.{Public}
+use Rattle.syntax.specs.declared.signature.Param.{Param}
+use Rattle.syntax.specs.declared.values.Arg.{Arg}
+use Rattle.syntax.specs.Meaning.{Gives}
+use Rattle.syntax.specs.Reading.{OneAnswer}
+use Rattle.syntax.specs.Results.{Results}
+use Rattle.syntax.specs.Size.{nodes_of}
+use Rattle.syntax.specs.Tree.{ProcedureTree}
+use Rattle.hepurita.specs.declared.fault.RunFault.{RunFault}
+use Rattle.hepurita.specs.Answers.{Builds, IsTheOutcome, IsSame}
+use Rattle.hepurita.specs.Executed.{Executed, answer_at, refused, out_of_memory, ran}
+use Rattle.hepurita.specs.Paired.{Paired, Observed, Compares, pair_fault, first_of, shifted}
+use Rattle.hepurita.specs.Paired as pairs
+use Rattle.hepurita.proofs.JudgementLemmas.{one_export, few_nodes}
+
+-- ---- the laws of the layers below
+
+abbrev pub OneSpelling : Type 0
+OneSpelling = (f g : Fields) → IsImage f → IsImage g → spelling f ≡ spelling g → f ≡ g
+
+abbrev pub Faultless : Type 0
+Faultless = (params : List Param) (args : List Arg) → (fault_of params args ≡ None) ↔ AreWithin params args
+
+abbrev pub OneForEach : Type 0
+OneForEach = (params : List Param) (args : List Arg) → AreWithin params args → length args ≡ length params
+
+abbrev pub BasesFit : Type 0
+BasesFit = (p : ProcedureTree) (image : Fields) (k : ℕ) → IsCompiled p image → nodes_of p ≤ 6000 → k < 8 → AreBases image (code_base + 0x0010_0000 * k) (frame_base + 0x0001_0000 * k)
+
+abbrev pub OneOutcome : Type 0
+OneOutcome = (p : ProcedureTree) (args : List Arg) (a b : Results) → Gives p args a → Gives p args b → a ≡ b
+
+-- ---- the image of an accepted text
+
+-- it is the export, compiled, and may lie at the standard bases
+pub record Fits (export : ProcedureTree) (image : Fields) : Type 0 where
+  pub compiled : IsCompiled export image
+  pub bases : AreBases image code_base frame_base
+
+pub fits : OneAnswer → OneSpelling → BasesFit → (text bytes : List ℕ) (export : ProcedureTree) (image : Fields) → Builds text bytes export image → Fits export image
+fits one spell fit text bytes export image is =
+    let built = is.built in
+    let exports : built.export ≡ export = one_export one text built.export export built.judged is.judged in
+    let images : built.image ≡ image = spell built.image image built.allowed is.allowed (sym built.spelled ∙ is.spelled) in
+    let compiled = subst (λ (f : Fields). IsCompiled export f) images (subst (λ (p : ProcedureTree). IsCompiled p built.image) exports built.compiled) in
+    record { compiled = compiled; bases = fit export image 0 compiled (few_nodes text export is.judged) (omega arith) }
+
+module _ (export : ProcedureTree) (image : Fields) (is : Fits export image) where
+  -- the run on arguments
+  pub run_on : (args : List Arg) → AreWithin (params_of image) args → RunsTo export image code_base frame_base args
+  run_on args within = is.compiled.results code_base frame_base args is.bases within
+
+  -- a run that no recorder cuts short is that one
+  pub is_run : (args : List Arg) (within : AreWithin (params_of image) args) (keeps : Bool) (list after : List Observation) (stop : Stop) (end : State) → Ran (code_at code_base image) keeps image.max_steps (loaded_at code_base frame_base image args) list stop end after → stop ≢ RecorderRefused → (stop ≡ Ecall) × (end ≡ (run_on args within).end) × (after ≡ kept keeps list (run_on args within).seen)
+  is_run args within keeps list after stop end run calm =
+      let to = run_on args within in
+      Ran-halts keeps list to.halts to.within_steps run calm
+
+  -- ---- execute
+
+  -- a run leaves the outcome, or the recorder refused
+  outcome_at : OneOutcome → (args : List Arg) → AreWithin (params_of image) args → (keeps : Bool) (list after : List Observation) (end : State) (stop : Stop) → Ran (code_at code_base image) keeps image.max_steps (loaded_at code_base frame_base image args) list stop end after → IsTheOutcome export args (answer_at frame_base image stop end.bytes)
+  outcome_at one args within keeps list after end Ecall run =
+      let ended = is_run args within keeps list after Ecall end run (λ h. cc) in
+      let gives = subst (λ (t : State). Gives export args (results_in frame_base image t.bytes)) (sym ended.1) (run_on args within).outcome in
+      (gives, λ other h. one export args other _ h gives)
+  outcome_at one args within keeps list after end Break run = let ended = (is_run args within keeps list after Break end run (λ h. cc)).0 in cc
+  outcome_at one args within keeps list after end Illegal run = let ended = (is_run args within keeps list after Illegal end run (λ h. cc)).0 in cc
+  outcome_at one args within keeps list after end AccessFault run = let ended = (is_run args within keeps list after AccessFault end run (λ h. cc)).0 in cc
+  outcome_at one args within keeps list after end Misaligned run = let ended = (is_run args within keeps list after Misaligned end run (λ h. cc)).0 in cc
+  outcome_at one args within keeps list after end Budget run = let ended = (is_run args within keeps list after Budget end run (λ h. cc)).0 in cc
+  outcome_at one args within keeps list after end RecorderRefused run = inr refl
+
+  pub the_outcome : Faultless → OneOutcome → (args : List Arg) (keeps : Bool) (list after : List Observation) (answer : Result Results RunFault) → AreWithin (params_of image) args → Executed image args keeps list answer after → IsTheOutcome export args answer
+  the_outcome faultless one args keeps list after answer within (refused first) =
+      let none = (faultless (params_of image) args).1 within in
+      cc
+  the_outcome faultless one args keeps list after answer within out_of_memory = inl refl
+  the_outcome faultless one args keeps list after answer within (ran {stop} {end} none run answered) =
+      subst (λ (r : Result Results RunFault). IsTheOutcome export args r) (sym answered) (outcome_at one args within keeps list after end stop run)
+
+  -- the results of a run that ends by ECALL, and what it showed
+  left_at : (args : List Arg) (within : AreWithin (params_of image) args) (keeps : Bool) (list after : List Observation) (end : State) (outcome : Results) (stop : Stop) → Ran (code_at code_base image) keeps image.max_steps (loaded_at code_base frame_base image args) list stop end after → Ok outcome ≡ answer_at frame_base image stop end.bytes → (outcome ≡ results_in frame_base image (run_on args within).end.bytes) × (after ≡ kept keeps list (run_on args within).seen)
+  left_at args within keeps list after end outcome Ecall run answered =
+      let ended = is_run args within keeps list after Ecall end run (λ h. cc) in
+      let there : outcome ≡ results_in frame_base image end.bytes = cc in
+      (there ∙ ap (λ (t : State). results_in frame_base image t.bytes) ended.1, ended.2)
+  left_at args within keeps list after end outcome Break run answered = cc
+  left_at args within keeps list after end outcome Illegal run answered = cc
+  left_at args within keeps list after end outcome AccessFault run answered = cc
+  left_at args within keeps list after end outcome Misaligned run answered = cc
+  left_at args within keeps list after end outcome Budget run answered = cc
+  left_at args within keeps list after end outcome RecorderRefused run answered = cc
+
+  pub left : (args : List Arg) (keeps : Bool) (list after : List Observation) (outcome : Results) (within : AreWithin (params_of image) args) → Executed image args keeps list (Ok outcome) after → (outcome ≡ results_in frame_base image (run_on args within).end.bytes) × (after ≡ kept keeps list (run_on args within).seen)
+  left args keeps list after outcome within (ran {stop} {end} none run answered) = left_at args within keeps list after end outcome stop run answered
+
+  -- ---- two lists of arguments
+
+  module _ (one other : List Arg) (agree : Agree (params_of image) one other) where
+    same_shown : (run_on one agree.one_within).seen ≡ (run_on other agree.other_within).seen
+    same_shown =
+        let a = run_on one agree.one_within in
+        let b = run_on other agree.other_within in
+        is.compiled.equal_leakage code_base frame_base one other a.turns b.turns a.seen b.seen a.end b.end is.bases agree a.halts b.halts
+
+    pub one_list : (keeps : Bool) (list after after' : List Observation) (a b : Results) → Executed image one keeps list (Ok a) after → Executed image other keeps list (Ok b) after' → after ≡ after'
+    one_list keeps list after after' a b first second =
+        (left one keeps list after a agree.one_within first).1
+        ∙ ap (kept keeps list) same_shown
+        ∙ sym (left other keeps list after' b agree.other_within second).1
+
+    pub one_result : (keeps : Bool) (list after after' : List Observation) (x y : Results) → export.label ≡ Public → Executed image one keeps list (Ok x) after → Executed image other keeps list (Ok y) after' → x ≡ y
+    one_result keeps list after after' x y public first second =
+        let a = run_on one agree.one_within in
+        let b = run_on other agree.other_within in
+        (left one keeps list after x agree.one_within first).0
+        ∙ is.compiled.public_result code_base frame_base one other a.turns b.turns a.seen b.seen a.end b.end is.bases public agree a.halts b.halts
+        ∙ sym (left other keeps list after' y agree.other_within second).0
+
+    -- what is observed of a run is what it shows
+    seen_of : (args : List Arg) (within : AreWithin (params_of image) args) (list : List Observation) → Observed image args list → list ≡ (run_on args within).seen
+    seen_of args within list (stop, end, calm, run) = (is_run args within true [] list stop end run calm).2
+
+    -- nothing differs from itself
+    compares_same : (list list' : List Entry) (pairing : Pairing) → list ≡ list' → Compares list list' pairing → pairing ≡ Same
+    compares_same list list' Same e h = refl
+    compares_same list list' (Differ place) e h = absurd (h.there (ap (λ (l : List Entry). slice_get l place) e))
+
+    no_fault : (b c : Bool) (count : ℕ) (f g : Option ArgumentFault) → b ≡ true → c ≡ true → f ≡ None → g ≡ None → (if b && c then first_of f (option_map (shifted count) g) else Some count_fault) ≡ None
+    no_fault true true count None None h k m n = refl
+    no_fault true true count None (Some g) h k m n = cc
+    no_fault true true count (Some f) g h k m n = cc
+    no_fault true false count f g h k m n = cc
+    no_fault false c count f g h k m n = cc
+
+    no_pair_fault : Faultless → OneForEach → pair_fault (params_of image) one other ≡ None
+    no_pair_fault faultless count =
+        let params = params_of image in
+        no_fault (length one == length params) (length other == length params) (length params) (fault_of params one) (fault_of params other)
+        ((Decides-eqb (length one) (length params)).1 (count params one agree.one_within))
+        ((Decides-eqb (length other) (length params)).1 (count params other agree.other_within))
+        ((faultless params one).1 agree.one_within) ((faultless params other).1 agree.other_within)
+
+    pub the_same : Faultless → OneForEach → (answer : Result Pairing RunFault) → Paired image one other answer → IsSame answer
+    the_same faultless count answer (pairs.refused first) =
+        let none = no_pair_fault faultless count in
+        cc
+    the_same faultless count answer pairs.out_of_memory = refl
+    the_same faultless count answer (pairs.compared {seen} {seen'} {pairing} none a b compares) =
+        let shown : seen ≡ seen' = seen_of one agree.one_within seen a ∙ same_shown ∙ sym (seen_of other agree.other_within seen' b) in
+        compares_same (entries_of seen) (entries_of seen') pairing (ap entries_of shown) compares
