@@ -10,7 +10,6 @@ mod fault;
 mod laws;
 mod loading;
 mod reading;
-mod sizes;
 
 pub use building::{accepted_or_refused, build};
 pub use comparing::pair;

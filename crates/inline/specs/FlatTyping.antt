@@ -1,5 +1,5 @@
 -- Types of numbered variables: what is known of a well-typed body once its names are gone.
-use Rattle.std.specs.Prelude.{◌≡◌, ℕ, zero, suc, ◌+◌, ◌^◌, ◌<◌, ◌==◌, List, [], ◌∷◌, length, Option, None, Some, if◌then◌else◌}
+use Rattle.std.specs.Prelude.{◌≡◌, ℕ, zero, suc, ◌^◌, ◌<◌, ◌==◌, List, [], ◌∷◌, length, Option, None, Some, if◌then◌else◌}
 use Rattle.inline.specs.Flat.{TermTree, number, truth, variable, binary, select, FlatTree, declare, assign, branch, FlatBlock, nothing, first, FlatProgram}
 use Rattle.syntax.specs.declared.signature.Kind.TheVariants.{Boolean}
 use Rattle.syntax.specs.declared.signature.Label.{Label}
