@@ -3,5 +3,7 @@
 #![tactic(auto)]
 
 mod flat;
+mod laws;
 
 pub use flat::{FlatStatement, Term};
+pub use laws::{flat_is_typed, one_outcome};

@@ -1,0 +1,21 @@
+// The laws, which hold of the definitions alone.
+
+ghost use Rattle.std.specs.Prelude.{◌≡◌, List, length};
+ghost use Rattle.inline.specs.FlatTyping.{IsTypedProgram};
+ghost use Rattle.inline.specs.Numbering.{flattened};
+ghost use Rattle.syntax.specs.declared.values.Arg.{Arg};
+ghost use Rattle.syntax.specs.Grammatical.{IsGrammatical};
+ghost use Rattle.syntax.specs.Meaning.{Gives};
+ghost use Rattle.syntax.specs.Results.{Results};
+ghost use Rattle.syntax.specs.Tree.{ProcedureTree};
+ghost use Rattle.syntax.specs.Typing.{procedure_violations};
+
+/// A procedure has at most one outcome on the same arguments.
+pub fn one_outcome()
+    ensures { (p : ProcedureTree) (args : List Arg) (a b : Results) → Gives p args a → Gives p args b → a ≡ b }
+{}
+
+/// A procedure that violates no rule is well typed once its names are numbers.
+pub fn flat_is_typed()
+    ensures { (p : ProcedureTree) → length (procedure_violations p) ≡ 0 → IsGrammatical p → IsTypedProgram (flattened p) }
+{}
