@@ -1,5 +1,5 @@
 -- A procedure that violates no rule is a well-typed flat program.
-use Rattle.std.proofs.Common.{◌≡◌, ℕ, ◌+◌, List, [], ◌∷◌, ◌++◌, length, map, Option, Some, refl, sym, ap, ◌∙◌}
+use Rattle.std.proofs.Common.{◌≡◌, ◌+◌, List, [], ◌∷◌, ◌++◌, length, map, Some, sym, ap, ◌∙◌}
 use Rattle.std.specs.List.{AllByRecursion}
 use Rattle.inline.specs.FlatTyping.{IsTypedProgram, parameter_types, types_after_all}
 use Rattle.inline.specs.Numbering.{param_of, parameter_names, return_names, flattened, block}

@@ -1,17 +1,16 @@
 -- A statement that violates no rule is well typed once its names are numbers.
-use Rattle.std.proofs.Common.{◌≡◌, ℕ, ◌+◌, ◌∙◌, Bool, List, ◌++◌, length, Option, Some, None, unwrap_or, refl, sym, ap, ap₂, arith}
-use Rattle.inline.specs.FlatTyping.{Types, with_type, type_in, IsSmall, HasType, Suits, IsTyped, AreTyped, types_after, types_after_all}
-use Rattle.inline.specs.Numbering.{Numbers, number_of, term, statement, block, names_after, names_after_all}
-use Rattle.names.specs.Scope.{found, declared}
+use Rattle.std.proofs.Common.{◌≡◌, ℕ, ◌+◌, ◌∙◌, length, Some, unwrap_or, ap, ap₂, arith}
+use Rattle.inline.specs.FlatTyping.{Types, type_in, IsSmall, HasType, Suits, IsTyped, AreTyped, types_after, types_after_all}
+use Rattle.inline.specs.Numbering.{Numbers, term, statement, block, names_after, names_after_all}
+use Rattle.names.specs.Scope.{found}
 use Rattle.syntax.specs.declared.signature.Label.{Label}
 use Rattle.syntax.specs.declared.typing.WordType.{WordType}
-use Rattle.syntax.specs.declared.typing.VariableType.{VariableType}
 use Rattle.syntax.specs.Grammatical.{AreSmall, IsPlain, ArePlain}
 use Rattle.syntax.specs.Size.{statement_words, block_words}
 use Rattle.syntax.specs.Tree.{ExprTree, number, truth, name, binary, select, StatementTree, declaration, assignment, conditional, BlockTree, nothing, first}
 use Rattle.syntax.specs.Typing.{Scope, joined, type_of, type_of_two, type_of_three, value_rules, statement_violations, block_violations, scope_after, scope_after_all}
 use Rattle.inline.proofs.Parts.{is_variable, two_parts, three_parts}
-use Rattle.inline.proofs.Rules.{Declares, Assigns, Chooses, declares, assigns, chooses, none_left, none_right}
+use Rattle.inline.proofs.Rules.{declares, assigns, chooses, none_left, none_right}
 use Rattle.inline.proofs.Linked.{Linked, later, linked_declared}
 
 pub small : (names : Numbers) (e : ExprTree) → AreSmall e → IsSmall (term names e)

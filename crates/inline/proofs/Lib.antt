@@ -6,3 +6,6 @@ pub mod FlatTypes
 pub mod ParameterNames
 pub mod FlatPrograms
 pub mod OneMeaning
+pub mod FlatValues
+pub mod FlatEnds
+pub mod FlatMeanings

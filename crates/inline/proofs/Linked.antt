@@ -1,5 +1,5 @@
 -- Names, their types and their numbers, as they go together.
-use Rattle.std.proofs.Common.{◌≡◌, ℕ, ◌+◌, ◌<◌, ◌≤◌, ◌==◌, Bool, true, false, if◌then◌else◌, List, Option, Some, None, refl, sym, ap, ◌∙◌, arith, eq-eqb, ne_eqb}
+use Rattle.std.proofs.Common.{◌≡◌, ℕ, ◌+◌, ◌<◌, ◌≤◌, Bool, true, false, if◌then◌else◌, List, Some, None, refl, sym, ap, ◌∙◌, arith, eq-eqb, ne_eqb}
 use Rattle.std.proofs.lemmas.Option.{none-some, same_Some}
 use Rattle.std.specs.Str.{bytes_eq}
 use lib.Pointwise.{bytes_decides}
@@ -8,8 +8,7 @@ use Rattle.inline.specs.Numbering.{Numbers}
 use Rattle.names.specs.Scope.{found, declared}
 use Rattle.syntax.specs.declared.typing.VariableType.{VariableType}
 use Rattle.syntax.specs.declared.typing.WordType.{WordType}
-use Rattle.syntax.specs.declared.typing.Declared.{Declared}
-use Rattle.syntax.specs.declared.typing.Declared.TheVariants.{Procedure, Variable}
+use Rattle.syntax.specs.declared.typing.Declared.TheVariants.{Variable}
 use Rattle.syntax.specs.Typing.{Scope}
 use Rattle.inline.proofs.Lookup.{found-new, found-other}
 

@@ -1,5 +1,5 @@
 -- An expression has at most one value, a statement at most one end, and a procedure at most one outcome.
-use Rattle.std.proofs.Common.{◌≡◌, ℕ, ◌==◌, Bool, true, false, if◌then◌else◌, List, [], Some, refl, sym, ap, ap₂, ◌∙◌, subst, true≢false}
+use Rattle.std.proofs.Common.{◌≡◌, ℕ, ◌==◌, false, if◌then◌else◌, List, [], Some, refl, sym, ap, ap₂, ◌∙◌, subst, true≢false}
 use Rattle.std.proofs.lemmas.Option.{same_Some}
 use Rattle.syntax.specs.declared.values.Arg.{Arg}
 use Rattle.syntax.specs.Meaning.{State, Evaluates, a_number, a_truth, a_name, an_operator, a_choice, operated, with_word, Runs, declares, assigns, accepts, declines, RunsAll, ends, goes_on, Gives, returns, holding}

@@ -1,15 +1,14 @@
 -- What names stand for after the parameters: each name its first parameter.
-use Rattle.std.proofs.Common.{◌≡◌, ◌≢◌, ℕ, zero, suc, ◌+◌, ◌<◌, ◌≤◌, Bool, true, false, cond, List, [], ◌∷◌, length, map, Option, Some, None, refl, sym, ap, ◌∙◌, arith, true≢false}
+use Rattle.std.proofs.Common.{◌≡◌, ◌≢◌, ℕ, zero, suc, ◌+◌, ◌<◌, ◌≤◌, Bool, true, false, cond, List, [], ◌∷◌, length, map, Option, Some, None, refl, sym, ap, ◌∙◌, arith}
 use Rattle.std.proofs.lemmas.Option.{none-some, same_Some}
 use Rattle.std.specs.Str.{bytes_eq}
 use lib.Pointwise.{bytes_decides}
 use Rattle.arguments.specs.Within.{AreWithin}
 use Rattle.inline.specs.FlatMeaning.{given}
-use Rattle.inline.specs.FlatTyping.{Types, parameter_types}
+use Rattle.inline.specs.FlatTyping.{parameter_types}
 use Rattle.inline.specs.Numbering as numbering
 use Rattle.inline.specs.Numbering.{Numbers, param_of, parameter_names}
 use Rattle.names.specs.Scope.{found, declared}
-use Rattle.syntax.specs.declared.typing.WordType.{WordType}
 use Rattle.syntax.specs.declared.typing.VariableType.{VariableType}
 use Rattle.syntax.specs.declared.typing.Declared.{Declared}
 use Rattle.syntax.specs.declared.typing.Declared.TheVariants.{Procedure, Variable}

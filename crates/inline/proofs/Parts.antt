@@ -1,14 +1,12 @@
 -- What a type says of the parts of an expression.
-use Rattle.std.proofs.Common.{◌≡◌, List, [], ◌∷◌, Option, Some, None, refl, sym, ap}
+use Rattle.std.proofs.Common.{◌≡◌, List, [], ◌∷◌, Option, Some, None, refl}
 use Rattle.std.proofs.lemmas.Option.{none-some, same_Some}
 use Rattle.syntax.specs.declared.rule.Rule.{Rule}
-use Rattle.syntax.specs.declared.signature.Label.{Label}
-use Rattle.syntax.specs.declared.signature.Label.TheVariants.{Public, Secret}
 use Rattle.syntax.specs.declared.typing.WordType.{WordType}
 use Rattle.syntax.specs.declared.typing.VariableType.{VariableType}
 use Rattle.syntax.specs.declared.typing.Declared.{Declared}
 use Rattle.syntax.specs.declared.typing.Declared.TheVariants.{Procedure, Variable}
-use Rattle.syntax.specs.Typing.{joined, unless, variable, variable_type, binary_rules, binary_type, select_rules, select_type, type_of_two, type_of_three}
+use Rattle.syntax.specs.Typing.{unless, variable_type, binary_rules, binary_type, select_rules, select_type, type_of_two, type_of_three}
 
 -- a name that has a type is a variable of that type
 pub is_variable : (what : Option Declared) (type : WordType) → variable_type what ≡ Some type → (v : VariableType) × (what ≡ Some (Variable v)) × (v.word ≡ type)

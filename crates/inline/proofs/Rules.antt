@@ -1,6 +1,5 @@
 -- Where no rule is violated: each expression has a type, and each statement what its rules ask.
-use Rattle.std.proofs.Common.{◌≡◌, ℕ, ◌+◌, Bool, true, false, not, ◌&&◌, List, [], ◌∷◌, ◌++◌, length, Option, Some, None, is_some, refl, sym, ap, ap₂, ◌∙◌, arith, length-append, true≢false}
-use Rattle.std.proofs.lemmas.List.{length-map}
+use Rattle.std.proofs.Common.{◌≡◌, ℕ, Bool, true, false, not, ◌&&◌, List, [], ◌∷◌, ◌++◌, length, Option, Some, None, is_some, refl, sym, ap, ap₂, ◌∙◌, arith, length-append, true≢false}
 use Rattle.syntax.specs.declared.place.Place.{Place}
 use Rattle.syntax.specs.declared.rule.Rule.{Rule}
 use Rattle.syntax.specs.declared.rule.Rule.TheVariants.{UndeclaredName, NameDeclaredTwice, NotMutable, WrongKind, PublicAssignedUnderSecretControl}
@@ -12,8 +11,7 @@ use Rattle.syntax.specs.declared.typing.WordType.{WordType}
 use Rattle.syntax.specs.declared.typing.VariableType.{VariableType}
 use Rattle.syntax.specs.declared.typing.Declared.{Declared}
 use Rattle.syntax.specs.declared.typing.Declared.TheVariants.{Procedure, Variable}
-use Rattle.syntax.specs.declared.typing.Violation.{Violation}
-use Rattle.syntax.specs.Tree.{ExprTree, number, truth, name, binary, select, StatementTree, declaration, assignment, conditional, BlockTree}
+use Rattle.syntax.specs.Tree.{ExprTree, number, truth, name, binary, select, declaration, assignment, conditional, BlockTree}
 use Rattle.syntax.specs.Typing.{Scope, found, is_number, is_secret, joined, unless, at, when, variable, variable_type, value_rules, binary_rules, binary_type, select_rules, select_type, of_two, of_three, type_of_two, type_of_three, number_type, truth_type, type_of, expr_violations, declaration_rules, assignment_rules, condition_rules, control_under, statement_violations, block_violations}
 use Rattle.inline.proofs.Lookup.{nothing}
 

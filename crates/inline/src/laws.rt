@@ -1,8 +1,10 @@
 // The laws, which hold of the definitions alone.
 
-ghost use Rattle.std.specs.Prelude.{◌≡◌, List, length};
+ghost use Rattle.std.specs.Prelude.{◌≡◌, List, length, map};
+ghost use Rattle.arguments.specs.Within.{AreWithin};
+ghost use Rattle.inline.specs.FlatMeaning.{outcome_of};
 ghost use Rattle.inline.specs.FlatTyping.{IsTypedProgram};
-ghost use Rattle.inline.specs.Numbering.{flattened};
+ghost use Rattle.inline.specs.Numbering.{flattened, param_of};
 ghost use Rattle.syntax.specs.declared.values.Arg.{Arg};
 ghost use Rattle.syntax.specs.Grammatical.{IsGrammatical};
 ghost use Rattle.syntax.specs.Meaning.{Gives};
@@ -18,4 +20,10 @@ pub fn one_outcome()
 /// A procedure that violates no rule is well typed once its names are numbers.
 pub fn flat_is_typed()
     ensures { (p : ProcedureTree) → length (procedure_violations p) ≡ 0 → IsGrammatical p → IsTypedProgram (flattened p) }
+{}
+
+/// It gives what it gave: on arguments within its parameter types its outcome is the flat program's.
+pub fn flat_keeps_meaning()
+    ensures { (p : ProcedureTree) (args : List Arg) → length (procedure_violations p) ≡ 0
+        → AreWithin (map param_of p.parameters) args → Gives p args (outcome_of (flattened p) args) }
 {}
