@@ -2,3 +2,4 @@ pub mod RuleNames
 pub mod Within
 pub mod Faults
 pub mod Texts
+pub mod Agreement

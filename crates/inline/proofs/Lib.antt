@@ -9,3 +9,7 @@ pub mod OneMeaning
 pub mod FlatValues
 pub mod FlatEnds
 pub mod FlatMeanings
+pub mod PublicTerms
+pub mod TypesKept
+pub mod PublicValues
+pub mod PublicResults

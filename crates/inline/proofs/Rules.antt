@@ -25,7 +25,7 @@ pub no_rules : (place : Place) (rules : List Rule) → length (at place rules) �
 no_rules place [] h = refl
 no_rules place (rule ∷ rules) h = absurd (omega (arith, h))
 
-not_when : (holds : Bool) (rule : Rule) → length (when holds rule) ≡ 0 → holds ≡ false
+pub not_when : (holds : Bool) (rule : Rule) → length (when holds rule) ≡ 0 → holds ≡ false
 not_when true rule h = absurd (omega (arith, h))
 not_when false rule h = refl
 

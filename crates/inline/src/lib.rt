@@ -6,4 +6,4 @@ mod flat;
 mod laws;
 
 pub use flat::{FlatStatement, Term};
-pub use laws::{flat_is_typed, flat_keeps_meaning, one_outcome};
+pub use laws::{flat_is_typed, flat_keeps_meaning, one_outcome, public_results_agree};
