@@ -3,3 +3,4 @@ pub mod Within
 pub mod Faults
 pub mod Texts
 pub mod Text
+pub mod Agreement

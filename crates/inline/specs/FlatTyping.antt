@@ -1,11 +1,13 @@
 -- Types of numbered variables: what is known of a well-typed body once its names are gone.
 use Rattle.std.specs.Prelude.{◌≡◌, ℕ, zero, suc, ◌^◌, ◌<◌, ◌==◌, List, [], ◌∷◌, length, Option, None, Some, if◌then◌else◌}
+use Rattle.std.specs.List.{AllByRecursion}
 use Rattle.inline.specs.Flat.{TermTree, number, truth, variable, binary, select, FlatTree, declare, assign, branch, FlatBlock, nothing, first, FlatProgram}
 use Rattle.syntax.specs.declared.signature.Kind.TheVariants.{Boolean}
 use Rattle.syntax.specs.declared.signature.Label.{Label}
 use Rattle.syntax.specs.declared.signature.Label.TheVariants.{Public, Secret}
 use Rattle.syntax.specs.declared.signature.Param.{Param}
 use Rattle.syntax.specs.declared.typing.WordType.{WordType}
+use Rattle.syntax.specs.Grammatical.{IsWordKind}
 use Rattle.syntax.specs.Typing.{joined, number_type, truth_type, type_of_two, type_of_three, value_rules}
 
 -- the types of the variables in scope
@@ -56,9 +58,9 @@ pub record IsAssigned (types : Types) (control : Label) (x : ℕ) (value : TermT
   pub hidden : control ≡ Secret → word.label ≡ Secret
 
 abbrev mutual
-  -- a well-typed statement under a control label. What it declares is new.
+  -- a well-typed statement under a control label. What it declares is new, and of a kind that can be declared.
   pub IsTyped : Types → Label → FlatTree → Type 0
-  IsTyped types control (declare x word value) = (types x ≡ None) × Suits types word value
+  IsTyped types control (declare x word value) = (types x ≡ None) × Suits types word value × IsWordKind word.kind
   IsTyped types control (assign x value) = IsAssigned types control x value
   IsTyped types control (branch condition accepted otherwise) =
       (word : WordType) × HasType types condition word × (word.kind ≡ Boolean)
@@ -81,5 +83,7 @@ parameter_types (p ∷ ps) (suc x) = parameter_types ps x
 
 -- a well-typed program
 pub record IsTypedProgram (p : FlatProgram) : Type 0 where
+  pub kinds : AllByRecursion (λ (param : Param). IsWordKind param.kind) p.parameters
+  pub result : IsWordKind p.returned.kind
   pub body : AreTyped (parameter_types p.parameters) Public p.body
   pub value : Suits (types_after_all (parameter_types p.parameters) p.body) p.returned p.value

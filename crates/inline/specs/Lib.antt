@@ -3,3 +3,4 @@ pub mod Codes
 pub mod Numbering
 pub mod FlatMeaning
 pub mod FlatTyping
+pub mod Fitting

@@ -4,10 +4,12 @@
 
 mod flat;
 mod inlining;
+mod laws;
 mod numbering;
 mod program;
 mod sizes;
 
 pub use flat::{FlatStatement, Term};
 pub use inlining::inline;
+pub use laws::{flat_is_typed, flat_keeps_meaning, one_outcome, public_results_agree};
 pub use program::Flat;

@@ -17,7 +17,7 @@ use Rattle.syntax.specs.declared.values.Arg.TheVariants.{Word, Array}
 use Rattle.syntax.specs.Meaning.{holding}
 use Rattle.syntax.specs.Tree.{ParameterTree}
 use Rattle.syntax.specs.Typing.{parameter_type}
-use Rattle.simulation.specs.Agreement.{EqualWherePublic}
+use Rattle.arguments.specs.Agreement.{EqualWherePublic}
 use Rattle.simulation.specs.Loaded.{with_argument, with_arguments}
 use Rattle.simulation.proofs.Held.{is_some-number_at, data_after}
 use Rattle.simulation.proofs.Parameters.{declared_in, slot_in, same_type}

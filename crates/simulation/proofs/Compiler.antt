@@ -18,7 +18,7 @@ use Rattle.syntax.specs.Results.{Results}
 use Rattle.syntax.specs.Size.{nodes_of}
 use Rattle.syntax.specs.Tree.{ProcedureTree}
 use Rattle.syntax.specs.Typing.{procedure_violations, body_scope}
-use Rattle.simulation.specs.Agreement.{Agree, EqualWherePublic}
+use Rattle.arguments.specs.Agreement.{Agree, EqualWherePublic}
 use Rattle.simulation.specs.Compiled.{AreBases, RunsTo, IsCompiled}
 use Rattle.simulation.specs.Grammatical.{HasWordKinds, AreSmall}
 use Rattle.simulation.specs.Loaded.{params_of, code_at, loaded_at, results_in}

@@ -17,7 +17,7 @@ use Rattle.syntax.specs.declared.values.Arg.{Arg}
 use Rattle.syntax.specs.Meaning.{Gives}
 use Rattle.syntax.specs.Size.{nodes_of, work_of}
 use Rattle.syntax.specs.Tree.{ProcedureTree}
-use Rattle.simulation.specs.Agreement.{Agree}
+use Rattle.arguments.specs.Agreement.{Agree}
 use Rattle.simulation.specs.Loaded.{params_of, code_at, loaded_at, results_in}
 
 -- a load or a store stays inside the frame

@@ -1,4 +1,3 @@
 pub mod Bases
 pub mod Loaded
-pub mod Agreement
 pub mod Compiled
