@@ -2,6 +2,8 @@
 // is set under its control value. Its outcome is that of the body with real branches. Stands on `inline`.
 #![tactic(auto)]
 
+mod laws;
 mod straight;
 
+pub use laws::removal_keeps_outcome;
 pub use straight::StraightStatement;

@@ -1,0 +1,5 @@
+pub mod Scopes
+pub mod Agreement
+pub mod Runs
+pub mod Kept
+pub mod Same
