@@ -5,5 +5,5 @@
 mod laws;
 mod straight;
 
-pub use laws::removal_keeps_outcome;
+pub use laws::{removal_keeps_outcome, straight_is_fit};
 pub use straight::StraightStatement;
