@@ -6,3 +6,5 @@ pub mod Same
 pub mod KindLimits
 pub mod Held
 pub mod Fit
+pub mod BranchTrees
+pub mod FewControls
