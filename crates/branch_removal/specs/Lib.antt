@@ -1,4 +1,5 @@
 pub mod Straight
+pub mod StraightCodes
 pub mod Removal
 pub mod StraightMeaning
 pub mod Fitness

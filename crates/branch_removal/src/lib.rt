@@ -2,6 +2,11 @@
 // is set under its control value. Its outcome is that of the body with real branches. Stands on `inline`.
 #![tactic(auto)]
 
+mod controls;
+mod laws;
+mod removal;
 mod straight;
 
-pub use straight::StraightStatement;
+pub use laws::{controls_are_few, removal_keeps_outcome, straight_is_fit};
+pub use removal::remove;
+pub use straight::{Straight, StraightStatement};

@@ -1,0 +1,5 @@
+use Rattle.branch_removal.proofs.Fit.{program_fit}
+use Rattle.branch_removal.proofs.laws.straight_is_fit.Goals as goal
+
+pub returns : goal.returns
+returns c = program_fit
