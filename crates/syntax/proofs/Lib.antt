@@ -13,3 +13,5 @@ pub mod TokenLaws
 pub mod TokenSteps
 pub mod AnswerLaws
 pub mod ProgramSteps
+pub mod StatementSteps
+pub mod GrammarLemmas

@@ -8,17 +8,19 @@ use Rattle.syntax.specs.declared.parser.Fault.{Fault}
 use Rattle.syntax.specs.declared.parser.Fault.TheVariants.{Refused, Memory}
 use Rattle.syntax.specs.declared.parser.Parser.{Parser}
 use Rattle.syntax.specs.declared.parser.expression.Begins.{Begins}
+use Rattle.syntax.specs.declared.parser.statement.Start.{Start}
+use Rattle.syntax.specs.declared.parser.statement.Where.{Where}
 use Rattle.syntax.specs.declared.tree.BinaryOperator.{BinaryOperator}
 use Rattle.syntax.specs.Grammar.{label_of, word_of, operator_of, level_of}
 use Rattle.syntax.specs.Lexeme.{Lexeme, lexemes}
 use Rattle.syntax.specs.Nesting.{Nest, after}
 use Rattle.syntax.specs.Tokens.{Ending, ending}
 use Rattle.syntax.specs.declared.tree.Parameter.{Parameter as ParameterOf}
-use Rattle.syntax.specs.Machine.{State, Wanted, kind_of, fits, one, a_label, a_kind, expr, more, begins_of, operand, within, joined, step, parameters, more_parameters, parameter, labelled, closing_round, a_comma, verdict, token_answer}
+use Rattle.syntax.specs.Machine.{State, Wanted, kind_of, fits, one, either, statements, starts_with, statement, started, a_label, a_kind, expr, more, begins_of, operand, within, joined, step, parameters, more_parameters, parameter, labelled, closing_round, a_comma, verdict, token_answer}
 use Rattle.syntax.specs.ParserViews.{Leads, FaultIs, ahead, stands, nest}
 use Rattle.syntax.specs.Reading.{Answer}
 use Rattle.syntax.specs.declared.tree.Expr.{Expr}
-use Rattle.syntax.specs.Tree.{ExprTree, ParameterTree, binary, expr_tree, parameter_tree}
+use Rattle.syntax.specs.Tree.{ExprTree, StatementTree, BlockTree, nothing, first, ParameterTree, binary, expr_tree, parameter_tree}
 use Rattle.syntax.proofs.MachineSound.{fits-kind}
 use Rattle.syntax.proofs.MachineComplete.{within_level}
 
@@ -49,6 +51,13 @@ sign-step level top left k t operator is low high = ap (λ o. joined o t level l
 
 pub operand-step : (level : ℕ) (k : ExprTree → State) (t : Lexeme) (b : Begins) → begins_of t.kind ≡ Some b → step (expr level k) t ≡ Some (operand b t (λ e. more level 11 e k))
 operand-step level k t b is = ap (option_map (λ b. operand b t (λ e. more level 11 e k))) is
+
+-- after a statement
+abbrev pub more_statements : Where → (BlockTree → State) → StatementTree → State
+more_statements inside k s = statements inside (λ b. k (first s b))
+
+pub start-step : (inside : Where) (k : BlockTree → State) (t : Lexeme) (start : Start) → starts_with inside t.kind ≡ Some start → step (statements inside k) t ≡ Some (statement start t (more_statements inside k))
+start-step inside k t start is = ap (λ o. started o t (more_statements inside k) (step (k nothing) t)) is
 
 -- a call at the end, after steps that lead there
 pub leads-after : {T : Type 0} (s s' : State) (next : T → State) (r : Result T Fault) (old mid new : Parser) → ahead s old ≡ ahead s' mid → Leads s' next r mid new → Leads s next r old new
@@ -100,6 +109,26 @@ ahead-comma ps k p h = verdict-comma ps k (nest p.nesting) (lexemes p.rest.now) 
 
 pub ahead-last : (ps : List ParameterTree) (k : List ParameterTree → State) (p : Parser) → stands a_comma (lexemes p.rest.now) ≡ false → ahead (more_parameters ps k) p ≡ ahead (one closing_round (λ _. k ps)) p
 ahead-last ps k p h = verdict-last ps k (nest p.nesting) (lexemes p.rest.now) (ending p.end) h
+
+verdict-takes : (wanted : Wanted) (next other : State) (n : Nest) (ts : List Lexeme) (e : Ending) → stands wanted ts ≡ true → verdict (either wanted next other) n ts e ≡ verdict (one wanted (λ _. next)) n ts e
+verdict-takes wanted next other n [] e h = cc
+verdict-takes wanted next other n (t ∷ ts) e h =
+    let n' = after t.kind n in
+    let go = λ (s : State). verdict s n' ts e in
+    ap (λ b. token_answer (if b then Some next else step other t) t n' go) h
+    ∙ sym (ap (λ b. token_answer (if b then Some next else None) t n' go) h)
+
+verdict-passes : (wanted : Wanted) (next other : State) (n : Nest) (ts : List Lexeme) (e : Ending) → stands wanted ts ≡ false → verdict (either wanted next other) n ts e ≡ verdict other n ts e
+verdict-passes wanted next other n [] e h = refl
+verdict-passes wanted next other n (t ∷ ts) e h =
+    let n' = after t.kind n in
+    ap (λ b. token_answer (if b then Some next else step other t) t n' (λ s. verdict s n' ts e)) h
+
+pub ahead-takes : (wanted : Wanted) (next other : State) (p : Parser) → stands wanted (lexemes p.rest.now) ≡ true → ahead (either wanted next other) p ≡ ahead (one wanted (λ _. next)) p
+ahead-takes wanted next other p h = verdict-takes wanted next other (nest p.nesting) (lexemes p.rest.now) (ending p.end) h
+
+pub ahead-passes : (wanted : Wanted) (next other : State) (p : Parser) → stands wanted (lexemes p.rest.now) ≡ false → ahead (either wanted next other) p ≡ ahead other p
+ahead-passes wanted next other p h = verdict-passes wanted next other (nest p.nesting) (lexemes p.rest.now) (ending p.end) h
 
 pub map-push : (ps : List ParameterOf) (p : ParameterOf) → map parameter_tree (ps ++ p ∷ []) ≡ map parameter_tree ps ++ parameter_tree p ∷ []
 map-push [] p = refl

@@ -2,6 +2,7 @@ pub mod RuleNames
 pub mod Results
 pub mod Lexeme
 pub mod Tree
+pub mod Blocks
 pub mod Typing
 pub mod RuleOrder
 pub mod FirstViolation

@@ -5,13 +5,15 @@ use Rattle.syntax.specs.declared.parser.Fault.{Fault}
 use Rattle.syntax.specs.declared.parser.Fault.TheVariants.{Refused, Memory}
 use Rattle.syntax.specs.declared.parser.Parser.{Parser}
 use Rattle.syntax.specs.declared.parser.expression.Joint.{Joint}
+use Rattle.syntax.specs.declared.parser.statement.Begun.{Begun}
+use Rattle.syntax.specs.declared.parser.statement.Where.{Where}
 use Rattle.syntax.specs.Grammar.{level_of}
-use Rattle.syntax.specs.Lexeme.{Lexeme, lexemes}
-use Rattle.syntax.specs.Machine.{State, Wanted, fits, expr, more, verdict}
+use Rattle.syntax.specs.Lexeme.{Lexeme, lexeme, lexemes}
+use Rattle.syntax.specs.Machine.{State, Wanted, fits, expr, more, statements, statement, verdict}
 use Rattle.syntax.specs.Nesting.{Nest}
 use Rattle.syntax.specs.Reading.{Answer, refused}
 use Rattle.syntax.specs.Tokens.{ending}
-use Rattle.syntax.specs.Tree.{ExprTree, binary}
+use Rattle.syntax.specs.Tree.{ExprTree, binary, BlockTree, nothing, first}
 
 -- how deeply the tokens so far are nested
 abbrev pub nest : Nesting → Nest
@@ -39,3 +41,8 @@ stands wanted (t ∷ ts) = fits wanted t.kind
 abbrev pub after_sign : ℕ → ExprTree → (ExprTree → State) → Option Joint → State
 after_sign level left k None = k left
 after_sign level left k (Some joint) = expr (level_of joint.operator + 1) (λ right. more level (level_of joint.operator) (binary joint.place joint.operator left right) k)
+
+-- after its first token a statement follows; without one there are no more
+abbrev pub after_start : Where → (BlockTree → State) → Option Begun → State
+after_start inside k None = k nothing
+after_start inside k (Some begun) = statement begun.start (lexeme begun.token) (λ s. statements inside (λ b. k (first s b)))

@@ -15,7 +15,9 @@ mod typing;
 mod values;
 
 pub use lexer::{Lexed, ListEnd, TEXT_LIMIT, lex, one_list_for_a_text};
-pub use parser::{one_answer_for_a_text, one_program_for_tokens, parse};
+pub use parser::{
+    one_answer_for_a_text, one_program_for_tokens, parse, rows_are_blocks, texts_are_grammatical,
+};
 pub use place::Place;
 pub use refusal::Refusal;
 pub use rule::Rule;

@@ -1,13 +1,16 @@
-ghost use Rattle.std.specs.Prelude.{◌≡◌, IfOk, IfErr, MatchResult};
+ghost use Rattle.std.specs.Prelude.{◌≡◌, ℕ, List, Some, IfOk, IfErr, MatchResult};
+ghost use Rattle.syntax.specs.Blocks.{RowsAreBlocks};
+ghost use Rattle.syntax.specs.Grammatical.{IsGrammatical};
 ghost use Rattle.syntax.specs.Lexeme.{lexemes};
 ghost use Rattle.syntax.specs.Machine.{program as program_state, ended};
 ghost use Rattle.syntax.specs.ParserViews.{ahead, FaultIs};
 ghost use Rattle.syntax.specs.Reading.{Answers, Reads, IsRefusedAs, OneProgram, OneAnswer, accepted, refused};
 ghost use Rattle.syntax.specs.Tokens.{ending};
-ghost use Rattle.syntax.specs.Tree.{ProgramTree, program_tree};
+ghost use Rattle.syntax.specs.Tree.{ProcedureTree, ProgramTree, program_tree};
 
 mod expression;
 mod procedure;
+mod statement;
 mod step;
 #[cfg(test)]
 mod tests;
@@ -125,4 +128,15 @@ pub fn one_program_for_tokens()
 /// trees.
 pub fn one_answer_for_a_text()
     ensures { OneAnswer }
+{}
+
+/// Whatever its types, the export of a text is as the grammar has it.
+pub fn texts_are_grammatical()
+    ensures { (text : List ℕ) (program : ProgramTree) (p : ProcedureTree) → Reads text (accepted program)
+        → program.export ≡ Some p → IsGrammatical p }
+{}
+
+/// The tree of a conditional has the blocks that its arms are as lists.
+pub fn rows_are_blocks()
+    ensures { RowsAreBlocks }
 {}

@@ -189,7 +189,7 @@ impl<'t, 'a> Parser<'t, 'a> {
 
     /// An expression, and the token of this kind that ends it.
     #[cycle(expression)]
-    fn expression_to(&mut self, kind: TokenKind) -> Result<Expr<'a>, Fault>
+    pub fn expression_to(&mut self, kind: TokenKind) -> Result<Expr<'a>, Fault>
         ensures leads { (wanted : Wanted) (k : ExprTree → State) → kind ≡ kind_of wanted
             → Leads (expr 1 (λ e. one wanted (λ _. k e))) (λ e. k (expr_tree e)) result self.old self.new }
         ensures shorter { OnOk result (length self.new.rest.now ≤ length self.old.rest.now) }

@@ -3,6 +3,7 @@ ghost use Rattle.syntax.specs.Machine.{State, parameter as parameter_state, para
 ghost use Rattle.syntax.specs.ParserViews.{Leads};
 ghost use Rattle.syntax.specs.Tree.{ParameterTree, ProcedureTree, parameter_tree, procedure_tree};
 
+use super::statement::Where;
 use super::{Fault, Parser};
 use crate::{Keyword, Parameter, Procedure, Sign, TokenKind};
 
@@ -18,6 +19,7 @@ impl<'t, 'a> Parser<'t, 'a> {
         self.expect(TokenKind::Sign(Sign::OpenRound))?;
         let parameters = self.parameters()?;
         self.expect(TokenKind::Sign(Sign::OpenCurly))?;
+        let body = self.statements(Where::Body)?;
         let word = self.expect(TokenKind::Keyword(Keyword::Return))?;
         let value = self.expression(1)?;
         self.expect(TokenKind::Sign(Sign::Semicolon))?;
@@ -28,7 +30,7 @@ impl<'t, 'a> Parser<'t, 'a> {
             place: name.place,
             name: name.text,
             parameters,
-            body: Vec::new(self.alloc),
+            body,
             return_place: word.place,
             value,
         })

@@ -1,7 +1,7 @@
-ghost use Rattle.std.specs.Prelude.{◌≡◌, ◌≤◌, ◌<◌, IfOk, IfErr, OnOk, Some, None, [], ◌∷◌, length};
+ghost use Rattle.std.specs.Prelude.{◌≡◌, ◌≤◌, ◌<◌, if◌then◌else◌, IfOk, IfErr, OnOk, Some, None, [], ◌∷◌, length};
 ghost use Rattle.syntax.specs.Grammar.{label_of as label_that, word_of as word_that};
 ghost use Rattle.syntax.specs.Lexeme.{Lexeme, lexeme, lexemes};
-ghost use Rattle.syntax.specs.Machine.{State, Wanted, kind_of, one, a_label, a_kind, step, ending_answer};
+ghost use Rattle.syntax.specs.Machine.{State, Wanted, kind_of, one, either, a_label, a_kind, step, ending_answer};
 ghost use Rattle.syntax.specs.ParserViews.{Leads, FaultIs, stands as stands_that};
 ghost use Rattle.syntax.specs.Tokens.{ending};
 ghost use Rattle.syntax.specs.declared.signature.Label.{Label as LabelOf};
@@ -12,7 +12,7 @@ use crate::nesting::NESTING_LIMIT;
 use crate::{Keyword, Kind, Label, ListEnd, Rule, Token, TokenKind};
 
 /// The label that a keyword names.
-fn label_of(kind: TokenKind) -> Option<Label>
+pub fn label_of(kind: TokenKind) -> Option<Label>
     ensures { result ≡ label_that kind }
 {
     match kind {
@@ -92,6 +92,19 @@ impl<'t, 'a> Parser<'t, 'a> {
         }
         self.advance(token, rest)?;
         Ok(token)
+    }
+
+    /// Takes the token that stands next, where it is of this kind, and tells whether it is.
+    pub fn takes(&mut self, kind: TokenKind) -> Result<bool, Fault>
+        ensures leads { (wanted : Wanted) (next other : State) → kind ≡ kind_of wanted
+            → Leads (either wanted next other) (λ is. if is then next else other) result self.old self.new }
+        ensures shorter { OnOk result (length self.new.rest.now ≤ length self.old.rest.now) }
+    {
+        let is_next = self.stands(kind);
+        if is_next {
+            self.expect(kind)?;
+        }
+        Ok(is_next)
     }
 
     pub fn label(&mut self) -> Result<Label, Fault>

@@ -1,0 +1,30 @@
+use Rattle.std.proofs.Common.{◌≡◌, ◌≤◌, ◌<◌, ℕ, length, ◌+◌, ◌*◌}
+use Rattle.syntax.specs.Machine.{State, statements}
+use Rattle.syntax.specs.ParserViews.{ahead}
+use Rattle.syntax.specs.Tree.{BlockTree}
+use Rattle.syntax.proofs.StatementSteps.{followed_by}
+use Rattle.syntax.proofs.parser.Parser.+statement.Given as goal
+
+abbrev pub decreases-statements : goal.decreases-statements
+decreases-statements l = 8 * length l.self.now.rest.now + 1
+
+abbrev pub decreases-statement : goal.decreases-statement
+decreases-statement l = 8 * length l.self.now.rest.now + 5
+
+abbrev pub decreases-conditional : goal.decreases-conditional
+decreases-conditional l = 8 * length l.self.now.rest.now + 4
+
+abbrev pub decreases-arm : goal.decreases-arm
+decreases-arm l = 8 * length l.self.now.rest.now + 2
+
+abbrev pub decreases-otherwise : goal.decreases-otherwise
+decreases-otherwise l = 8 * length l.self.now.rest.now + 3
+
+abbrev pub invariant-statements-loop-statements : goal.invariant-statements-loop-statements
+invariant-statements-loop-statements l = record {
+  same : (k : BlockTree → State) → ahead (statements l.inside k) l.fn.self ≡ ahead (statements l.inside (λ b. k (followed_by l.statements.items b))) l.self;
+  shorter : length l.self.rest.now ≤ length l.fn.self.rest.now;
+}
+
+abbrev pub decreases-statements-loop-statements : goal.decreases-statements-loop-statements
+decreases-statements-loop-statements l = length l.self.rest.now
