@@ -1,5 +1,5 @@
 -- An expression means the same once its names are numbers; so do a declaration and an assignment.
-use Rattle.std.proofs.Common.{◌≡◌, ℕ, ◌==◌, Bool, true, false, if◌then◌else◌, List, Some, None, unwrap_or, refl, sym, ap, ◌∙◌, arith, eq-eqb, ne_eqb, true≢false}
+use Rattle.std.proofs.Common.{◌≡◌, ℕ, ◌==◌, Bool, true, false, if◌then◌else◌, List, Some, None, unwrap_or, refl, sym, ap, ◌∙◌, arith, true≢false}
 use Rattle.std.proofs.lemmas.Option.{same_Some}
 use Rattle.std.specs.Str.{bytes_eq}
 use lib.Pointwise.{bytes_decides}
@@ -15,6 +15,7 @@ use Rattle.syntax.specs.Tree.{ExprTree, number, truth, name, binary, select}
 use Rattle.syntax.specs.Typing.{Scope, type_of}
 use Rattle.inline.proofs.Linked.{Linked}
 use Rattle.inline.proofs.Lookup.{found-new, found-other}
+use Rattle.inline.proofs.TypesKept.{with_value-other, with_value-same}
 use Rattle.inline.proofs.Parts.{is_variable, two_parts, three_parts}
 
 -- each variable in scope has the value of its number
@@ -41,23 +42,17 @@ module _ (scope : Scope) (names : Numbers) (types : Types) (n : ℕ) (linked : L
       let b = value_in m (term names otherwise) in
       a_choice place condition accepted otherwise c a b (if c == 0 then b else a) (same_value condition parts.0 parts.3) (same_value accepted parts.1 parts.4) (same_value otherwise parts.2 parts.5) refl
 
-  with_value-other : (x y v : ℕ) → (y ≡ x → ⊥) → with_value m x v y ≡ m y
-  with_value-other x y v other = ap (λ b. if b then v else m y) (ne_eqb y x other)
-
-  with_value-same : (x v : ℕ) → with_value m x v x ≡ v
-  with_value-same x v = ap (λ b. if b then v else m x) (eq-eqb x x refl)
-
   -- after a declaration
   module _ (text : List ℕ) (w : VariableType) (v : ℕ) (new : found scope text ≡ None) where
     declared_by : (other : List ℕ) (u : VariableType) (x : ℕ) (b : Bool) → bytes_eq other text ≡ b → found (declared scope text (Variable w)) other ≡ Some (Variable u) → found (declared names text n) other ≡ Some x → with_word s text v other ≡ Some (with_value m n v x)
     declared_by other u x true e is there =
         let same = same_Some n x (sym (found-new names text n other e (linked.none text new)) ∙ there) in
-        ap (λ b. if b then Some v else s other) e ∙ ap Some (sym (ap (with_value m n v) (sym same) ∙ with_value-same n v))
+        ap (λ b. if b then Some v else s other) e ∙ ap Some (sym (ap (with_value m n v) (sym same) ∙ with_value-same m n v))
     declared_by other u x false e is there =
         let old = sym (found-other names text n other e) ∙ there in
         let low = linked.below other x old in
         ap (λ b. if b then Some v else s other) e
-        ∙ (shows other u x (sym (found-other scope text (Variable w) other e) ∙ is) old ∙ ap Some (sym (with_value-other n x v (λ q. omega arith))))
+        ∙ (shows other u x (sym (found-other scope text (Variable w) other e) ∙ is) old ∙ ap Some (sym (with_value-other m n x v (λ q. omega arith))))
 
     pub shows_declared : Shows (declared scope text (Variable w)) (declared names text n) (with_word s text v) (with_value m n v)
     shows_declared other u x is there = declared_by other u x (bytes_eq other text) refl is there
@@ -67,10 +62,10 @@ module _ (scope : Scope) (names : Numbers) (types : Types) (n : ℕ) (linked : L
     assigned_by : (other : List ℕ) (u : VariableType) (x : ℕ) (b : Bool) → bytes_eq other text ≡ b → found scope other ≡ Some (Variable u) → found names other ≡ Some x → with_word s text v other ≡ Some (with_value m y v x)
     assigned_by other u x true e is there =
         let same = same_Some x y (sym there ∙ (ap (found names) ((bytes_decides other text).0 e) ∙ known)) in
-        ap (λ b. if b then Some v else s other) e ∙ ap Some (sym (ap (with_value m y v) same ∙ with_value-same y v))
+        ap (λ b. if b then Some v else s other) e ∙ ap Some (sym (ap (with_value m y v) same ∙ with_value-same m y v))
     assigned_by other u x false e is there =
         ap (λ b. if b then Some v else s other) e
-        ∙ (shows other u x is there ∙ ap Some (sym (with_value-other y x v (λ q. differs e (linked.apart other text y (there ∙ ap Some q) known)))))
+        ∙ (shows other u x is there ∙ ap Some (sym (with_value-other m y x v (λ q. differs e (linked.apart other text y (there ∙ ap Some q) known)))))
       where
         differs : bytes_eq other text ≡ false → other ≡ text → ⊥
         differs e same = true≢false (sym ((bytes_decides other text).1 same) ∙ e)

@@ -16,3 +16,6 @@ pub mod PublicTerms
 pub mod TypesKept
 pub mod PublicValues
 pub mod PublicResults
+pub mod WordKinds
+pub mod Fitting
+pub mod FittingBodies

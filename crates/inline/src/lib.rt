@@ -11,5 +11,8 @@ mod sizes;
 
 pub use flat::{FlatStatement, Term};
 pub use inlining::inline;
-pub use laws::{flat_is_typed, flat_keeps_meaning, one_outcome, public_results_agree};
+pub use laws::{
+    flat_is_typed, flat_keeps_meaning, flat_values_fit, one_outcome, public_results_agree,
+    typed_values_fit,
+};
 pub use program::Flat;
