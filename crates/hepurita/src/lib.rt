@@ -9,7 +9,6 @@ mod executing;
 mod fault;
 mod loading;
 mod reading;
-mod sizes;
 
 pub use building::{accepted_or_refused, build};
 pub use comparing::pair;

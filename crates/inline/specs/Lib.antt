@@ -1,4 +1,5 @@
 pub mod Flat
+pub mod Codes
 pub mod Numbering
 pub mod FlatMeaning
 pub mod FlatTyping

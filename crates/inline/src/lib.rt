@@ -3,5 +3,11 @@
 #![tactic(auto)]
 
 mod flat;
+mod inlining;
+mod numbering;
+mod program;
+mod sizes;
 
 pub use flat::{FlatStatement, Term};
+pub use inlining::inline;
+pub use program::Flat;

@@ -1,2 +1,1 @@
 pub mod Sooner
-pub mod Answer

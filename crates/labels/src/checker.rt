@@ -1,8 +1,8 @@
 ghost use Rattle.std.specs.Prelude.{◌≡◌, None, fold, length, map, IfOk, IfErr, OnOk};
+ghost use Rattle.syntax.specs.FirstViolation.{IsRefusedFor};
 ghost use Rattle.syntax.specs.Tree.{parameter_tree, procedure_tree, program_tree};
 ghost use Rattle.syntax.specs.Typing.{at, return_rules, parameter_violations, with_parameters, procedure_violations, violations};
 ghost use Rattle.labels.specs.Sooner.{sooner};
-ghost use Rattle.labels.specs.Answer.{IsRefusedFor};
 
 use crate::expressions::expression;
 use crate::first::First;

@@ -1,6 +1,8 @@
 -- Which of several violations is named: that of least place, and of those at one place the rule that comes first.
-use Rattle.std.specs.Prelude.{◌≡◌, ℕ, ◌<◌, ◌≤◌, ◌⊎◌, List, Contains, All}
+use Rattle.std.specs.Prelude.{◌≡◌, ℕ, ◌<◌, ◌≤◌, ◌⊎◌, List, Option, Some, Contains, All}
+use Rattle.syntax.specs.declared.place.Place.{Place}
 use Rattle.syntax.specs.declared.rule.Rule.{Rule}
+use Rattle.syntax.specs.declared.rule.Rule.TheVariants.{OutOfMemory}
 use Rattle.syntax.specs.declared.typing.Violation.{Violation}
 use Rattle.syntax.specs.RuleOrder.{rank_of}
 
@@ -13,3 +15,8 @@ IsNoLaterThan u v =
 pub record IsFirst (all : List Violation) (first : Violation) : Type 0 where
   pub there : Contains all first
   pub least : All (IsNoLaterThan first) all
+
+-- the rule and the place of a refusal are those of the first of the violations, unless memory ran out
+abbrev pub IsRefusedFor : List Violation → Rule → Option Place → Type 0
+IsRefusedFor all rule place =
+    (rule ≡ OutOfMemory) ⊎ ((first : Violation) × IsFirst all first × (rule ≡ first.rule) × (place ≡ Some first.place))

@@ -1,0 +1,3 @@
+mod NumberingLemmas
+mod RowLemmas
+mod SizeLemmas

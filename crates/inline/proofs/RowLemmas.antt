@@ -1,0 +1,45 @@
+-- An arm's statements, as a row and as a list, are one block.
+use Rattle.std.proofs.Common.{◌≡◌, Vec, Global, refl, ap, ap₂, ◌∙◌}
+use mathlib.Core.Former.{Count}
+use Rattle.syntax.specs.declared.place.Place.{Place}
+use Rattle.syntax.specs.declared.tree.Expr.{Expr}
+use Rattle.syntax.specs.declared.tree.Statement.{Statement, If, If', Row_of-Statement, end_of-Statement, more_of-Statement, items-the_row-Statement, items_hidden-the_row-Statement-0}
+use Rattle.syntax.specs.Tree.{expr_tree, statement_tree, row_tree, block_tree, conditional, first}
+use Rattle.inline.specs.declared.flat.FlatStatement.{FlatStatement, Branch, Branch', Row_of-FlatStatement, end_of-FlatStatement, more_of-FlatStatement, items-the_row-FlatStatement, items_hidden-the_row-FlatStatement-0}
+use Rattle.inline.specs.declared.flat.Term.{Term}
+use Rattle.inline.specs.Flat.{term_tree, flat_tree, flat_block, branch}
+use Rattle.inline.specs.Flat as flat
+
+-- of the source
+rows : (n : _) (row : Row_of-Statement n) → row_tree row ≡ block_tree (items-the_row-Statement n row)
+rows n end_of-Statement = refl
+rows n (more_of-Statement s rest) = ap (first (statement_tree s)) (rows _ rest)
+
+abbrev arms : Statement → ((n : Count) × Row_of-Statement n) × ((n : Count) × Row_of-Statement n)
+arms (If' place condition shape accepted shape' otherwise) = ((_, accepted), (_, otherwise))
+arms _ = ((_, end_of-Statement), (_, end_of-Statement))
+
+pub conditional_tree : (place : Place) (condition : Expr) (accepted otherwise : Vec Statement Global) →
+    statement_tree (If place condition accepted otherwise) ≡ conditional place (expr_tree condition) (block_tree accepted.items) (block_tree otherwise.items)
+conditional_tree place condition accepted otherwise =
+    let both = arms (If place condition accepted otherwise) in
+    ap₂ (conditional place (expr_tree condition))
+    (rows both.0.0 both.0.1 ∙ ap block_tree (items_hidden-the_row-Statement-0 accepted))
+    (rows both.1.0 both.1.1 ∙ ap block_tree (items_hidden-the_row-Statement-0 otherwise))
+
+-- of the flat body
+flat_rows : (n : _) (row : Row_of-FlatStatement n) → flat.row_tree row ≡ flat_block (items-the_row-FlatStatement n row)
+flat_rows n end_of-FlatStatement = refl
+flat_rows n (more_of-FlatStatement s rest) = ap (flat.first (flat_tree s)) (flat_rows _ rest)
+
+abbrev flat_arms : FlatStatement → ((n : Count) × Row_of-FlatStatement n) × ((n : Count) × Row_of-FlatStatement n)
+flat_arms (Branch' condition shape accepted shape' otherwise) = ((_, accepted), (_, otherwise))
+flat_arms _ = ((_, end_of-FlatStatement), (_, end_of-FlatStatement))
+
+pub branch_tree : (condition : Term) (accepted otherwise : Vec FlatStatement Global) →
+    flat_tree (Branch condition accepted otherwise) ≡ branch (term_tree condition) (flat_block accepted.items) (flat_block otherwise.items)
+branch_tree condition accepted otherwise =
+    let both = flat_arms (Branch condition accepted otherwise) in
+    ap₂ (branch (term_tree condition))
+    (flat_rows both.0.0 both.0.1 ∙ ap flat_block (items_hidden-the_row-FlatStatement-0 accepted))
+    (flat_rows both.1.0 both.1.1 ∙ ap flat_block (items_hidden-the_row-FlatStatement-0 otherwise))

@@ -1,0 +1,37 @@
+ghost use Rattle.std.specs.Prelude.{◌≡◌, ◌*◌, ◌≤◌, length, IfOk, IfErr};
+ghost use Rattle.inline.specs.Numbering.{flattened};
+ghost use Rattle.syntax.specs.FirstViolation.{IsRefusedFor};
+ghost use Rattle.syntax.specs.Size.{size_violations};
+ghost use Rattle.syntax.specs.Tree.{procedure_tree};
+
+use crate::Flat;
+use crate::numbering::Numbering;
+use crate::sizes::measure;
+use std::alloc::Global;
+use syntax::{Procedure, Refusal, WordType};
+
+/// The export as one body with numbered variables, where it passes no limit on its size.
+pub fn inline(alloc: Global, export: &Procedure<'_>) -> Result<Flat, Refusal>
+    ensures accepted { IfOk result (λ flat. flat ≡ flattened (procedure_tree export.now)) }
+    ensures bounds { IfOk result (λ flat. (flat.nodes ≤ 6000) × (4 * flat.variables ≤ 32768)) }
+    ensures within { IfOk result (λ _. length (size_violations (procedure_tree export.now)) ≡ 0) }
+    ensures refused { IfErr result (λ refusal. IsRefusedFor (size_violations (procedure_tree export.now)) refusal.rule refusal.place) }
+{
+    let nodes = measure(export)?;
+    let mut numbering = Numbering::new(alloc);
+    let parameters = numbering.parameters(&export.parameters)?;
+    let body = numbering.block(&export.body)?;
+    let value = numbering.term(&export.value)?;
+    let returned = WordType {
+        kind: export.kind,
+        label: export.label,
+    };
+    Ok(Flat::new(
+        parameters,
+        returned,
+        nodes,
+        numbering.variables(),
+        body,
+        value,
+    ))
+}
