@@ -1,5 +1,6 @@
 -- Sizes of trees, and which limit is named.
-use Rattle.std.proofs.Common.{◌≡◌, ℕ, ◌+◌, ◌<◌, ◌≤◌, inr, Bool, true, false, nat_lt, [], ◌∷◌, ◌++◌, Vec, Global, refl, sym, ap, subst, ◌∙◌, arith}
+use Rattle.std.proofs.Common.{◌≡◌, ℕ, ◌+◌, ◌-◌, ◌<◌, ◌≤◌, inr, Bool, true, false, nat_lt, [], ◌∷◌, ◌++◌, Option, Some, None, Vec, Global, refl, sym, ap, subst, ◌∙◌, arith}
+use Rattle.std.specs.Option.{SomeIff}
 use Rattle.std.proofs.lemmas.Bool.Decides.{nat_tests}
 use Rattle.std.proofs.lemmas.List.Elements.{All-cons, All-nil}
 use Rattle.syntax.specs.declared.place.Place.{Place}
@@ -39,6 +40,11 @@ pub conditional_words : (s : Statement) (place : Place) (condition : Expr) (acce
     statement_words (statement_tree s) ≡ block_words (block_tree accepted.items) + block_words (block_tree otherwise.items)
 conditional_words s place condition accepted otherwise is =
     ap (λ t. statement_words (statement_tree t)) is ∙ ap statement_words (conditional_tree place condition accepted otherwise)
+
+-- what a last part leaves of what the others left is what the whole leaves of the room
+pub last_part : (o : Option ℕ) (room left last whole : ℕ) → whole + left ≡ room + last → left ≤ room → SomeIff o (last ≤ left) (left - last) → SomeIff o (whole ≤ room) (room - whole)
+last_part None room left last whole sum less h = λ fits. h (omega arith)
+last_part (Some x) room left last whole sum less h = (omega arith, omega arith)
 
 itself : (v : Violation) → IsNoLaterThan v v
 itself v = inr (refl, omega arith)

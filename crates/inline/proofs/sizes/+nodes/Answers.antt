@@ -1,8 +1,7 @@
 use Rattle.std.proofs.Common.{ap, arith}
-use Rattle.std.proofs.lemmas.Grind.{common_steps}
-use Rattle.syntax.specs.Size.{block_nodes}
+use Rattle.syntax.specs.Size.{block_nodes, statement_nodes}
 use Rattle.syntax.specs.Tree.{block_tree, statement_tree}
-use Rattle.inline.proofs.SizeLemmas.{conditional_nodes, statement_nodes_some}
+use Rattle.inline.proofs.SizeLemmas.{conditional_nodes, last_part, statement_nodes_some}
 use Rattle.inline.proofs.sizes.+nodes.Goals as goal
 
 pub nodes_after_statement-returns-in_err-room : goal.nodes_after_statement-returns-in_err-room
@@ -22,4 +21,6 @@ nodes_after_statement-returns-in_ok-room-in-If t c =
     let whole = conditional_nodes c.args.statement.now _ c.in-If.condition c.in-If.accepted c.in-If.otherwise c.in-If.is in
     let arm = ap (λ ss. block_nodes (block_tree ss)) c.deref.ensures.value in
     let other = ap (λ ss. block_nodes (block_tree ss)) c.deref-in-If.ensures.value in
-    grind (arith, common_steps)
+    last_part c.nodes_after_block-in-If.result c.args.room c.in_ok-room-in-If.room (block_nodes (block_tree c.deref-in-If.result.now)) (statement_nodes (statement_tree c.args.statement.now))
+    (omega (arith, c.in_ok-room.ensures, c.in_ok-nodes_after-in-If.ensures, c.in_ok-room-in-If.ensures))
+    (omega (arith, c.in_ok-room.ensures, c.in_ok-nodes_after-in-If.ensures, c.in_ok-room-in-If.ensures)) c.nodes_after_block-in-If.ensures
