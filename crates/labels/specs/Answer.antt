@@ -1,6 +1,6 @@
 -- When a program is refused, and for what.
 use Rattle.std.specs.Prelude.{◌≡◌, ◌⊎◌, List, Option, Some}
-use Rattle.syntax.specs.declared.place.Place.{Place}
+use Rattle.word.specs.declared.place.Place.{Place}
 use Rattle.syntax.specs.declared.rule.Rule.{Rule}
 use Rattle.syntax.specs.declared.rule.Rule.TheVariants.{OutOfMemory}
 use Rattle.syntax.specs.declared.typing.Violation.{Violation}

@@ -3,7 +3,7 @@
 use Rattle.std.specs.Prelude.{◌≡◌, ℕ, Bool, true, false, not, ◌&&◌, ◌||◌, List, [], ◌∷◌, ◌++◌, Option, None, Some, is_some, map, if◌then◌else◌}
 use Rattle.std.specs.Str.{bytes_eq}
 use Rattle.std.specs.Map.{lookup}
-use Rattle.syntax.specs.declared.place.Place.{Place}
+use Rattle.word.specs.declared.place.Place.{Place}
 use Rattle.syntax.specs.declared.rule.Rule.{Rule}
 use Rattle.syntax.specs.declared.rule.Rule.TheVariants.{UndeclaredName, NameDeclaredTwice, NotExactlyOneExport, WidthsDiffer, WrongKind, SecretToPublic}
 use Rattle.syntax.specs.declared.signature.Kind.{Kind}
