@@ -1,7 +1,7 @@
 -- A text is not both accepted and refused, nor accepted for two exports; and its export is small.
 use Rattle.std.proofs.Common.{◌≡◌, ◌⊎◌, inl, inr, ℕ, ◌<◌, ◌≤◌, List, Some, length, Contains, ap, sym, subst, ◌∙◌, arith}
 use Rattle.std.proofs.lemmas.Bool.{cases_lt}
-use Rattle.syntax.specs.declared.place.Place.{Place}
+use Rattle.word.specs.declared.place.Place.{Place}
 use Rattle.syntax.specs.declared.rule.Rule.{Rule}
 use Rattle.syntax.specs.declared.typing.Violation.{Violation}
 use Rattle.syntax.specs.Reading.{accepted, refused, OneAnswer}

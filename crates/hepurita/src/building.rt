@@ -2,7 +2,7 @@ ghost use Rattle.std.specs.Prelude.{◌≡◌, ℕ, List, IfOk, IfErr};
 ghost use Rattle.codegen.specs.Generated.{image_of};
 ghost use Rattle.image.specs.Fields.{IsImage};
 ghost use Rattle.syntax.specs.Tree.{ProcedureTree, program_tree};
-ghost use Rattle.syntax.specs.declared.place.Place.{Place};
+ghost use Rattle.word.specs.declared.place.Place.{Place};
 ghost use Rattle.syntax.specs.declared.rule.Rule.{Rule};
 ghost use Rattle.hepurita.specs.Built.{Judges, JudgesProgram, IsRefusal, IsBuilt, accepts, refuses};
 

@@ -5,7 +5,7 @@ use Rattle.inline.specs.FlatTyping.{Types, types_after}
 use Rattle.inline.specs.Numbering as numbering
 use Rattle.inline.specs.Numbering.{Numbers, number_of, term, block, names_after, names_after_all}
 use Rattle.names.specs.Scope.{found}
-use Rattle.syntax.specs.declared.place.Place.{Place}
+use Rattle.word.specs.declared.place.Place.{Place}
 use Rattle.syntax.specs.declared.signature.Label.{Label}
 use Rattle.syntax.specs.declared.typing.VariableType.{VariableType}
 use Rattle.syntax.specs.declared.typing.Declared.{Declared}

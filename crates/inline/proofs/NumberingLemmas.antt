@@ -8,7 +8,7 @@ use Rattle.inline.specs.declared.flat.Term.{Term}
 use Rattle.inline.specs.Flat.{FlatBlock, nothing, first, flat_block, flat_tree, term_tree}
 use Rattle.inline.specs.Numbering.{Numbers, block, names_after, names_after_all, statement, term}
 use Rattle.names.specs.Scope.{declared, found}
-use Rattle.syntax.specs.declared.place.Place.{Place}
+use Rattle.word.specs.declared.place.Place.{Place}
 use Rattle.syntax.specs.declared.tree.Expr.{Expr}
 use Rattle.syntax.specs.declared.tree.Statement.{Statement, If}
 use Rattle.syntax.specs.Size.{block_words, statement_words}

@@ -1,7 +1,7 @@
 -- An arm's statements, as a row and as a list, are one block.
 use Rattle.std.proofs.Common.{◌≡◌, Vec, Global, refl, ap, ap₂, ◌∙◌}
 use mathlib.Core.Former.{Count}
-use Rattle.syntax.specs.declared.place.Place.{Place}
+use Rattle.word.specs.declared.place.Place.{Place}
 use Rattle.syntax.specs.declared.tree.Expr.{Expr}
 use Rattle.syntax.specs.declared.tree.Statement.{Statement, If, If', Row_of-Statement, end_of-Statement, more_of-Statement, items-the_row-Statement, items_hidden-the_row-Statement-0}
 use Rattle.syntax.specs.Tree.{expr_tree, statement_tree, row_tree, block_tree, conditional, first}

@@ -1,6 +1,6 @@
 -- Where no rule is violated: each expression has a type, and each statement what its rules ask.
 use Rattle.std.proofs.Common.{◌≡◌, ℕ, Bool, true, false, not, ◌&&◌, List, [], ◌∷◌, ◌++◌, length, Option, Some, None, is_some, refl, sym, ap, ap₂, ◌∙◌, arith, length-append, true≢false}
-use Rattle.syntax.specs.declared.place.Place.{Place}
+use Rattle.word.specs.declared.place.Place.{Place}
 use Rattle.syntax.specs.declared.rule.Rule.{Rule}
 use Rattle.syntax.specs.declared.rule.Rule.TheVariants.{UndeclaredName, NameDeclaredTwice, NotMutable, WrongKind, PublicAssignedUnderSecretControl}
 use Rattle.syntax.specs.declared.signature.Kind.{Kind}

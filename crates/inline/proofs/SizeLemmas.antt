@@ -3,7 +3,7 @@ use Rattle.std.proofs.Common.{◌≡◌, ℕ, ◌+◌, ◌-◌, ◌<◌, ◌≤�
 use Rattle.std.specs.Option.{SomeIff}
 use Rattle.std.proofs.lemmas.Bool.Decides.{nat_tests}
 use Rattle.std.proofs.lemmas.List.Elements.{All-cons, All-nil}
-use Rattle.syntax.specs.declared.place.Place.{Place}
+use Rattle.word.specs.declared.place.Place.{Place}
 use Rattle.syntax.specs.declared.rule.Rule.{Rule}
 use Rattle.syntax.specs.declared.rule.Rule.TheVariants.{InlinedSize, DeclaredBytes}
 use Rattle.syntax.specs.declared.tree.Expr.{Expr}

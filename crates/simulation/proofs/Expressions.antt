@@ -8,7 +8,7 @@ use Rattle.rv_machine.specs.Machine as machine
 use Rattle.rv_machine.specs.Machine.{Code}
 use Rattle.arguments.specs.Within.{greatest_of}
 use Rattle.codegen.specs.Emitted.{offset_of, load_code, store_code, constant_code, operator_code, choice_code, operation_of, expr_code, height_of}
-use Rattle.syntax.specs.declared.place.Place.{Place}
+use Rattle.word.specs.declared.place.Place.{Place}
 use Rattle.syntax.specs.declared.signature.Kind.{Kind}
 use Rattle.syntax.specs.declared.signature.Kind.TheVariants.{Boolean, Uint32}
 use Rattle.syntax.specs.declared.tree.BinaryOperator.{BinaryOperator}

@@ -1,7 +1,7 @@
 -- Where no rule is violated: each expression has a type, and a public result a public value.
 use Rattle.std.proofs.Common.{◌≡◌, ◌≢◌, not, List, [], ◌∷◌, ◌++◌, length, Option, Some, None, is_some, refl, sym, ap, ap₂, ◌∙◌, arith, length-append, true≢false}
 use Rattle.std.proofs.lemmas.List.{length-map}
-use Rattle.syntax.specs.declared.place.Place.{Place}
+use Rattle.word.specs.declared.place.Place.{Place}
 use Rattle.syntax.specs.declared.rule.Rule.{Rule}
 use Rattle.syntax.specs.declared.rule.Rule.TheVariants.{UndeclaredName, SecretToPublic, WidthsDiffer, WrongKind}
 use Rattle.syntax.specs.declared.signature.Kind.{Kind}

@@ -4,7 +4,7 @@ use Rattle.std.proofs.lemmas.List.{append-nil}
 use Rattle.std.proofs.lemmas.Bool.Decides.{nat_tests}
 use Rattle.std.specs.Prelude.{nat_le, nat_lt}
 use Rattle.std.specs.Option.{option_map, option_and_then}
-use Rattle.syntax.specs.declared.place.Place.{Place}
+use Rattle.word.specs.declared.place.Place.{Place}
 use Rattle.syntax.specs.declared.signature.Kind.{Kind}
 use Rattle.syntax.specs.declared.signature.Kind.TheVariants.{Boolean}
 use Rattle.syntax.specs.declared.signature.Label.{Label}

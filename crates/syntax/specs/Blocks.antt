@@ -1,7 +1,7 @@
 -- An arm of a conditional lies in memory as a row, and its statements are a list.
 use Rattle.std.specs.Prelude.{◌≡◌}
 use Rattle.std.specs.Global.{Vec}
-use Rattle.syntax.specs.declared.place.Place.{Place}
+use Rattle.word.specs.declared.place.Place.{Place}
 use Rattle.syntax.specs.declared.tree.Expr.{Expr}
 use Rattle.syntax.specs.declared.tree.Statement.{Statement, If}
 use Rattle.syntax.specs.Tree.{expr_tree, statement_tree, block_tree, conditional}

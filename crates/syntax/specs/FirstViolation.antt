@@ -1,6 +1,6 @@
 -- Which of several violations is named: that of least place, and of those at one place the rule that comes first.
 use Rattle.std.specs.Prelude.{◌≡◌, ℕ, ◌<◌, ◌≤◌, ◌⊎◌, List, Option, Some, Contains, All}
-use Rattle.syntax.specs.declared.place.Place.{Place}
+use Rattle.word.specs.declared.place.Place.{Place}
 use Rattle.syntax.specs.declared.rule.Rule.{Rule}
 use Rattle.syntax.specs.declared.rule.Rule.TheVariants.{OutOfMemory}
 use Rattle.syntax.specs.declared.typing.Violation.{Violation}

@@ -9,7 +9,7 @@ use Rattle.syntax.specs.declared.parser.statement.Start.{Start}
 use Rattle.syntax.specs.declared.parser.statement.Start.TheVariants.{Declaration as by_label, Assignment as by_target, Conditional as by_if}
 use Rattle.syntax.specs.declared.parser.statement.Where.{Where}
 use Rattle.syntax.specs.declared.parser.statement.Where.TheVariants.{Body as in_body, Arm as in_arm}
-use Rattle.syntax.specs.declared.place.Place.{Place}
+use Rattle.word.specs.declared.place.Place.{Place}
 use Rattle.syntax.specs.declared.signature.Kind.{Kind}
 use Rattle.syntax.specs.declared.signature.Label.{Label}
 use Rattle.syntax.specs.declared.rule.Rule.TheVariants.{UnexpectedToken, Nesting}

@@ -1,6 +1,6 @@
 -- How a text is answered: by its tree, or by the first refusal, reading from the left.
 use Rattle.std.specs.Prelude.{◌≡◌, ℕ, ◌<◌, ◌≤◌, List, [], ◌∷◌, ◌++◌, length, Some, ◌⊎◌}
-use Rattle.syntax.specs.declared.place.Place.{Place}
+use Rattle.word.specs.declared.place.Place.{Place}
 use Rattle.syntax.specs.declared.refusal.Refusal.{Refusal}
 use Rattle.syntax.specs.declared.rule.Rule.{Rule}
 use Rattle.syntax.specs.declared.rule.Rule.TheVariants.{UnexpectedToken, Nesting, TextTooLong, OutOfMemory}

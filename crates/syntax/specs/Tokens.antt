@@ -1,6 +1,6 @@
 -- The tokens that a text spells. Each piece of the text is the longest spelling that stands there.
 use Rattle.std.specs.Prelude.{◌≡◌, ℕ, ◌+◌, ◌≤◌, ◌==◌, if◌then◌else◌, List, [], ◌∷◌, ◌++◌, length, take, drop}
-use Rattle.syntax.specs.declared.place.Place.{Place}
+use Rattle.word.specs.declared.place.Place.{Place}
 use Rattle.syntax.specs.declared.rule.Rule.{Rule}
 use Rattle.syntax.specs.declared.rule.Rule.TheVariants.{UnknownCharacter, BadNumber as BadNumberRule}
 use Rattle.syntax.specs.declared.token.TokenKind.{TokenKind}

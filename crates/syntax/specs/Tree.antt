@@ -1,7 +1,7 @@
 -- Syntax trees as values, without where they lie in memory.
 use Rattle.std.specs.Prelude.{ℕ, Bool, List, [], ◌∷◌, Option, map}
 use Rattle.std.specs.Option.{option_map}
-use Rattle.syntax.specs.declared.place.Place.{Place}
+use Rattle.word.specs.declared.place.Place.{Place}
 use Rattle.syntax.specs.declared.signature.Kind.{Kind}
 use Rattle.syntax.specs.declared.signature.Label.{Label}
 use Rattle.syntax.specs.declared.tree.BinaryOperator.{BinaryOperator}

@@ -3,13 +3,13 @@ ghost use Rattle.std.specs.List.{All};
 ghost use Rattle.syntax.specs.Lexeme.{lexemes};
 ghost use Rattle.syntax.specs.Tokens.{Lexes, OneList, IsSliceOf, ending, start};
 
+mod letters;
 mod number;
 mod piece;
 mod position;
 mod sign;
 #[cfg(test)]
 mod tests;
-mod word;
 
 use crate::{Place, Refusal, Rule, Token};
 use piece::{Piece, split_piece};

@@ -1,11 +1,10 @@
-// The language's text: its places, rules and refusals, the shapes of parameters and arguments,
-// its tokens and its syntax tree. What stands here is spoken of by every crate above.
+// The language's text: its rules and refusals, the shapes of parameters and arguments, its tokens and
+// its syntax tree. What stands here is spoken of by every crate above. Places are those of `word`.
 #![tactic(auto)]
 
 mod lexer;
 mod nesting;
 mod parser;
-mod place;
 mod refusal;
 mod rule;
 mod signature;
@@ -18,7 +17,6 @@ pub use lexer::{Lexed, ListEnd, TEXT_LIMIT, lex, one_list_for_a_text};
 pub use parser::{
     one_answer_for_a_text, one_program_for_tokens, parse, rows_are_blocks, texts_are_grammatical,
 };
-pub use place::Place;
 pub use refusal::Refusal;
 pub use rule::Rule;
 pub use signature::{Form, Kind, Label, Param};
@@ -28,3 +26,4 @@ pub use tree::{
 };
 pub use typing::{Declared, VariableType, Violation, WordType};
 pub use values::{Arg, Args, Numbers, Outcome};
+pub use word::Place;

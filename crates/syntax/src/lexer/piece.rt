@@ -4,8 +4,8 @@ ghost use Rattle.syntax.specs.Spelling.{SplitsAtFirst, is_blank, is_line_feed};
 ghost use Rattle.syntax.specs.Tokens.{BeginsWith, BeginsWithNone};
 
 use crate::TokenKind;
+use crate::lexer::letters::{is_word_byte, piece_of_word, split_word};
 use crate::lexer::sign::{first_sign, spelling};
-use crate::lexer::word::{is_word_byte, piece_of_word, split_word};
 
 /// What a piece of a text is.
 #[derive(Clone, Copy, Debug, PartialEq, Eq)]

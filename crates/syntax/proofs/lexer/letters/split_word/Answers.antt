@@ -4,8 +4,8 @@ use Rattle.std.specs.List.{position_or_len}
 use Rattle.syntax.specs.Spelling.{is_no_word_byte, SplitsAtFirst}
 use Rattle.syntax.proofs.TokenBytes.{word_byte_ascii}
 use Rattle.syntax.proofs.TokenRuns.{boundary_after, cut_is, run_at}
-use Rattle.syntax.proofs.lexer.word.split_word.Goals as goal
-use Rattle.syntax.proofs.lexer.word.split_word.Goals.{After-unwrap_or}
+use Rattle.syntax.proofs.lexer.letters.split_word.Goals as goal
+use Rattle.syntax.proofs.lexer.letters.split_word.Goals.{After-unwrap_or}
 
 -- where the text is cut
 cut : (c : After-unwrap_or) → c.unwrap_or.result ≡ position_or_len is_no_word_byte c.args.text.now

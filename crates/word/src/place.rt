@@ -1,3 +1,5 @@
+// Places in texts, which source and refusals name.
+
 use std::fmt;
 
 /// Where something stands in a text.

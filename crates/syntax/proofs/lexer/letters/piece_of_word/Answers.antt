@@ -4,7 +4,7 @@ use Rattle.syntax.specs.declared.lexer.piece.Piece.TheVariants.{Token}
 use Rattle.syntax.specs.declared.token.TokenKind.TheVariants.{Keyword as KeywordToken}
 use Rattle.syntax.specs.Spelling.{Spells, number, bad_number, keyword, name}
 use Rattle.syntax.proofs.TokenNumbers.{number_word, name_word}
-use Rattle.syntax.proofs.lexer.word.piece_of_word.Goals as goal
+use Rattle.syntax.proofs.lexer.letters.piece_of_word.Goals as goal
 
 pub returns-in-Some : goal.returns-in-Some
 returns-in-Some c =
