@@ -1,5 +1,5 @@
 -- Values that machine words can stand for: numbers are words, and what is chosen by is 0 or 1.
-use Rattle.std.specs.Prelude.{ℕ, ◌^◌, ◌<◌, List, [], ◌∷◌}
+use Rattle.std.specs.Prelude.{◌^◌, ◌<◌, List, [], ◌∷◌}
 use Rattle.inline.specs.Flat.{TermTree, number, truth, variable, binary, select}
 use Rattle.inline.specs.FlatMeaning.{Values, value_in}
 use Rattle.branch_removal.specs.Straight.{StraightTree, set, take, set_under, StraightProgram}

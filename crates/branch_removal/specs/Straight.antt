@@ -1,5 +1,6 @@
 -- Straight code as values, without where it lies in memory.
 use Rattle.std.specs.Prelude.{ℕ, List, Option, map}
+use Rattle.branch_removal.specs.declared.straight.Straight.{Straight}
 use Rattle.branch_removal.specs.declared.straight.StraightStatement.{StraightStatement}
 use Rattle.branch_removal.specs.declared.straight.StraightStatement.TheVariants.{Set, Take, SetUnder}
 use Rattle.inline.specs.Flat.{TermTree, term_tree}
@@ -33,3 +34,14 @@ straight_tree (SetUnder c x value) = set_under c x (term_tree value.now)
 
 abbrev pub straight_trees : List StraightStatement → List StraightTree
 straight_trees statements = map straight_tree statements
+
+abbrev pub straight_program : Straight → StraightProgram
+straight_program s = record {
+  parameters = s.parameters.now;
+  returned = s.returned;
+  nodes = s.nodes;
+  variables = s.variables;
+  controls = s.controls;
+  statements = straight_trees s.statements.items;
+  value = term_tree s.value.now;
+}

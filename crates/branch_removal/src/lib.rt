@@ -4,4 +4,4 @@
 
 mod straight;
 
-pub use straight::StraightStatement;
+pub use straight::{Straight, StraightStatement};
