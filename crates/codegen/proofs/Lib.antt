@@ -1,2 +1,4 @@
-pub mod SizeLemmas
 pub mod ImageLemmas
+pub mod SizeLemmas
+pub mod PlaceLemmas
+pub mod RoomLemmas

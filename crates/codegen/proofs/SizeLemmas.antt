@@ -1,52 +1,186 @@
--- How many slots and instructions an expression takes, against its nodes.
-use Rattle.std.proofs.Common.{◌≡◌, ℕ, ◌+◌, ◌*◌, ◌<◌, ◌≤◌, Bool, true, false, List, [], ◌∷◌, ◌++◌, length, max, cond, refl, sym, ap, ◌∙◌, arith, length-append}
-use Rattle.std.proofs.Math.Nat.{max-le}
+-- How many slots and instructions a procedure takes, against its nodes.
+use Rattle.std.proofs.Common.{ℕ, ◌+◌, ◌-◌, ◌*◌, ◌≤◌, Bool, true, false, cond, nat_lt, List, [], ◌∷◌, ◌++◌, length, Option, None, Some, max, subst, arith, length-append}
+use Rattle.std.proofs.Math.Nat.{max-le, le-max_left, le-max_right, add-max-add_right}
+use Rattle.branch_removal.specs.Removal.{set_within, removed, removed_all, controls_in, controls_in_all}
+use Rattle.branch_removal.specs.Straight.{StraightTree, set, take, set_under}
+use Rattle.codegen.specs.Emitted.{load_code, store_code, constant_code, within_code, expr_code, statement_code, statements_code, height_of, height_in, height_in_all, bit_of}
+use Rattle.codegen.specs.Layout.{variable_offset, control_offset, temporaries_offset}
+use Rattle.inline.specs.Flat.{TermTree}
+use Rattle.inline.specs.Numbering.{Numbers, number_of, term, names_after, statement, block}
 use Rattle.rv_code.specs.declared.instructions.Instr.{Instr}
-use Rattle.syntax.specs.Tree.{ExprTree, number, truth, name, binary, select}
-use Rattle.syntax.specs.Size.{nodes_in}
-use Rattle.codegen.specs.Emitted.{expr_code, height_of, load_code, store_code, constant_code, operator_code, choice_code, value_register, left_register, condition_register, offset_of, bit_of, is_near}
+use Rattle.syntax.specs.Size.{nodes_in, statement_nodes, block_nodes, statement_words, block_words}
+use Rattle.syntax.specs.Tree.{ExprTree, number, truth, name, binary, select, StatementTree, declaration, assignment, conditional, BlockTree, nothing, first}
 
--- an expression has more nodes than its temporaries take slots
-pub height_bound : (e : ExprTree) → height_of e < nodes_in e
-height_bound (number p v) = omega arith
-height_bound (truth p v) = omega arith
-height_bound (name p t) = omega arith
-height_bound (binary p o l r) =
-    let a = height_bound l in
-    let b = height_bound r in
-    let both : max (height_of l) (1 + height_of r) ≤ nodes_in l + nodes_in r = max-le (omega (arith, a)) (omega (arith, b)) in
+-- Slots.
+
+pub height : (names : Numbers) (e : ExprTree) → height_of (term names e) + 1 ≤ nodes_in e
+height names (number place value) = omega arith
+height names (truth place value) = omega arith
+height names (name place text) = omega arith
+height names (binary place operator left right) =
+    let a = height names left in
+    let b = height names right in
+    let both : max (height_of (term names left)) (1 + height_of (term names right)) ≤ nodes_in left + nodes_in right = max-le (omega (arith, a, b)) (omega (arith, a, b)) in
     omega (arith, both)
-height_bound (select p c a b) =
-    let h = height_bound c in
-    let i = height_bound a in
-    let j = height_bound b in
-    let inner : max (height_of a) (1 + height_of b) ≤ nodes_in a + nodes_in b = max-le (omega (arith, i, j)) (omega (arith, i, j)) in
-    let outer : max (height_of c) (1 + max (height_of a) (1 + height_of b)) ≤ nodes_in c + nodes_in a + nodes_in b = max-le (omega (arith, h, i, j)) (omega (arith, inner, h)) in
+height names (select place condition accepted otherwise) =
+    let h = height names condition in
+    let i = height names accepted in
+    let j = height names otherwise in
+    let inner : max (height_of (term names accepted)) (1 + height_of (term names otherwise)) ≤ nodes_in accepted + nodes_in otherwise = max-le (omega (arith, h, i, j)) (omega (arith, h, i, j)) in
+    let outer : max (height_of (term names condition)) (1 + max (height_of (term names accepted)) (1 + height_of (term names otherwise))) ≤ nodes_in condition + nodes_in accepted + nodes_in otherwise = max-le (omega (arith, h, i, j)) (omega (arith, inner, h)) in
     omega (arith, outer)
 
--- lengths of what is emitted
+both_heights : (xs ys : List StraightTree) (most : ℕ) → height_in_all xs ≤ most → height_in_all ys ≤ most → height_in_all (xs ++ ys) ≤ most
+both_heights [] ys most h k = k
+both_heights (x ∷ xs) ys most h k =
+    let l = le-max_left (height_in x) (height_in_all xs) in
+    let r = le-max_right (height_in x) (height_in_all xs) in
+    max-le (omega (arith, h, l)) (both_heights xs ys most (omega (arith, h, r)) k)
 
-chosen_length : (b : Bool) (xs ys : List Instr) (n : ℕ) → length xs ≤ n → length ys ≤ n → length (cond b xs ys) ≤ n
-chosen_length true xs ys n h k = h
-chosen_length false xs ys n h k = k
+pub greatest : (i j a n : ℕ) → i + a ≤ n → j + a ≤ n → max i j + a ≤ n
+greatest i j a n p q = subst (λ x. x ≤ n) (add-max-add_right i j a) (max-le p q)
 
-pub load_length : (register offset : ℕ) → length (load_code register offset) ≤ 3
-load_length register offset = chosen_length (is_near offset) _ _ 3 (omega arith) (omega arith)
+-- the sum of two greatest ones is the sum of some two
+sum_of_greatest : (a b i j n : ℕ) → a + i ≤ n → a + j ≤ n → b + i ≤ n → b + j ≤ n → max a b + max i j ≤ n
+sum_of_greatest a b i j n p q r s =
+    let x = greatest i j a n (omega (arith, p)) (omega (arith, q)) in
+    let y = greatest i j b n (omega (arith, r)) (omega (arith, s)) in
+    greatest a b (max i j) n (omega (arith, x)) (omega (arith, y))
 
-pub store_length : (register offset : ℕ) → length (store_code register offset) ≤ 3
-store_length register offset = chosen_length (is_near offset) _ _ 3 (omega arith) (omega arith)
+height_within : (within : Option ℕ) (x : ℕ) (value : TermTree) → height_in (set_within within x value) ≤ height_of value
+height_within None x value = omega arith
+height_within (Some control) x value = omega arith
 
-pub constant_length : (register n : ℕ) → length (constant_code register n) ≤ 2
-constant_length register n = chosen_length (is_near n) _ _ 2 (omega arith) (omega arith)
+-- a list of one
+height_one : (h n : ℕ) → h ≤ n → max h 0 ≤ n
+height_one h n below = max-le below (omega arith)
+
+mutual
+  -- the control values and the temporaries of a statement
+  statement_room : (names : Numbers) (n : ℕ) (within : Option ℕ) (control : ℕ) (s : StatementTree) → controls_in (statement names n s) + height_in_all (removed within control (statement names n s)) ≤ statement_nodes s
+  statement_room names n within control (declaration place label mutable kind text value) =
+      let h = height names value in
+      let one = height_one (height_of (term names value)) (nodes_in value) (omega (arith, h)) in
+      omega (arith, one)
+  statement_room names n within control (assignment place target text value) =
+      let h = height names value in
+      let w = height_within within (number_of names text) (term names value) in
+      let one = height_one (height_in (set_within within (number_of names text) (term names value))) (nodes_in value) (omega (arith, h, w)) in
+      omega (arith, one)
+  statement_room names n within control (conditional place condition accepted otherwise) =
+      let xs = removed_all (Some control) (control + 2) (block names n accepted) in
+      let ys = removed_all (Some (control + 1)) (control + 2) (block names (n + block_words accepted) otherwise) in
+      let a = controls_in_all (block names n accepted) in
+      let b = controls_in_all (block names (n + block_words accepted) otherwise) in
+      let i = height_in_all xs in
+      let j = height_in_all ys in
+      let c = height_of (term names condition) in
+      let h = height names condition in
+      let p : a + i ≤ block_nodes accepted = block_room names n (Some control) (control + 2) accepted in
+      let q : b + j ≤ block_nodes otherwise = block_room names (n + block_words accepted) (Some (control + 1)) (control + 2) otherwise in
+      let most = both_heights xs ys (max i j) (le-max_left i j) (le-max_right i j) in
+      let arms : max a b + max i j ≤ block_nodes accepted + block_nodes otherwise = sum_of_greatest a b i j (block_nodes accepted + block_nodes otherwise) (omega (arith, p)) (omega (arith, p, q)) (omega (arith, p, q)) (omega (arith, q)) in
+      let controls : max a b ≤ block_nodes accepted + block_nodes otherwise = max-le (omega (arith, p)) (omega (arith, q)) in
+      let all : max c (height_in_all (xs ++ ys)) + max a b ≤ nodes_in condition + block_nodes accepted + block_nodes otherwise - 1 = greatest c (height_in_all (xs ++ ys)) (max a b) (nodes_in condition + block_nodes accepted + block_nodes otherwise - 1) (omega (arith, controls, h)) (omega (arith, arms, most, h)) in
+      omega (arith, all, h)
+
+  pub block_room : (names : Numbers) (n : ℕ) (within : Option ℕ) (control : ℕ) (b : BlockTree) → controls_in_all (block names n b) + height_in_all (removed_all within control (block names n b)) ≤ block_nodes b
+  block_room names n within control nothing = omega arith
+  block_room names n within control (first s rest) =
+      let later = names_after names n s in
+      let m = n + statement_words s in
+      let xs = removed within control (statement names n s) in
+      let ys = removed_all within control (block later m rest) in
+      let a = controls_in (statement names n s) in
+      let b = controls_in_all (block later m rest) in
+      let i = height_in_all xs in
+      let j = height_in_all ys in
+      let p : a + i ≤ statement_nodes s = statement_room names n within control s in
+      let q : b + j ≤ block_nodes rest = block_room later m within control rest in
+      let most = both_heights xs ys (max i j) (le-max_left i j) (le-max_right i j) in
+      let all = sum_of_greatest a b i j (statement_nodes s + block_nodes rest) (omega (arith, p)) (omega (arith, p, q)) (omega (arith, p, q)) (omega (arith, q)) in
+      omega (arith, most, all)
+
+-- Instructions.
+
+one_of : (b : Bool) (xs ys : List Instr) (n : ℕ) → length xs ≤ n → length ys ≤ n → length (cond b xs ys) ≤ n
+one_of true xs ys n h k = h
+one_of false xs ys n h k = k
+
+load_length : (r o : ℕ) → length (load_code r o) ≤ 3
+load_length r o = one_of (nat_lt o 2048) _ _ 3 (omega arith) (omega arith)
+
+pub store_length : (r o : ℕ) → length (store_code r o) ≤ 3
+store_length r o = one_of (nat_lt o 2048) _ _ 3 (omega arith) (omega arith)
+
+constant_length : (r n : ℕ) → length (constant_code r n) ≤ 2
+constant_length r n = one_of (nat_lt n 2048) _ _ 2 (omega arith) (omega arith)
 
 -- at most 16 instructions a node
-pub code_length : (slots : List (List ℕ × ℕ)) (free : ℕ) (e : ExprTree) → length (expr_code slots free e) ≤ 16 * nodes_in e
-code_length slots free (number p v) = omega (arith, constant_length value_register v)
-code_length slots free (truth p v) = omega (arith, constant_length value_register (bit_of v))
-code_length slots free (name p t) = omega (arith, load_length value_register (offset_of slots t))
-code_length slots free (binary p o l r) =
+pub expr_length : (names : Numbers) (free : ℕ) (e : ExprTree) → length (expr_code free (term names e)) ≤ 16 * nodes_in e
+expr_length names free (number place value) = omega (arith, constant_length 5 value)
+expr_length names free (truth place value) = omega (arith, constant_length 5 (bit_of value))
+expr_length names free (name place text) = omega (arith, load_length 5 (variable_offset (number_of names text)))
+expr_length names free (binary place operator left right) =
     simp length-append
-    (omega (arith, code_length slots free l, code_length slots (free + 4) r, store_length value_register free, load_length left_register free))
-code_length slots free (select p c a b) =
+    (omega (arith, expr_length names free left, expr_length names (free + 4) right, store_length 5 free, load_length 6 free))
+expr_length names free (select place condition accepted otherwise) =
     simp length-append
-    (omega (arith, code_length slots free c, code_length slots (free + 4) a, code_length slots (free + 8) b, store_length value_register free, store_length value_register (free + 4), load_length left_register (free + 4), load_length condition_register free))
+    (omega (arith, expr_length names free condition, expr_length names (free + 4) accepted, expr_length names (free + 8) otherwise, store_length 5 free, store_length 5 (free + 4), load_length 6 (free + 4), load_length 7 free))
+
+within_length : (variables : ℕ) (within : Option ℕ) → length (within_code variables within) ≤ 5
+within_length variables None = omega arith
+within_length variables (Some control) = simp length-append (omega (arith, load_length 6 (control_offset variables control)))
+
+module _ (variables controls : ℕ) where
+  set_length : (x n : ℕ) (value : TermTree) → length (expr_code (temporaries_offset variables controls) value) ≤ n → length (statement_code variables controls (set x value)) ≤ n + 3
+  set_length x n value h = simp length-append (omega (arith, h, store_length 5 (variable_offset x)))
+
+  under_length : (control x n : ℕ) (value : TermTree) → length (expr_code (temporaries_offset variables controls) value) ≤ n → length (statement_code variables controls (set_under control x value)) ≤ n + 12
+  under_length control x n value h = simp length-append (omega (arith, h, load_length 6 (variable_offset x), load_length 7 (control_offset variables control), store_length 5 (variable_offset x)))
+
+  take_length : (control : ℕ) (within : Option ℕ) (n : ℕ) (value : TermTree) → length (expr_code (temporaries_offset variables controls) value) ≤ n → length (statement_code variables controls (take control within value)) ≤ n + 13
+  take_length control within n value h = simp length-append (omega (arith, h, within_length variables within, store_length 7 (control_offset variables control), store_length 5 (control_offset variables (control + 1))))
+
+  assigned_length : (within : Option ℕ) (x n : ℕ) (value : TermTree) → length (expr_code (temporaries_offset variables controls) value) ≤ n → length (statement_code variables controls (set_within within x value)) ≤ n + 12
+  assigned_length None x n value h = let all = set_length x n value h in omega (arith, all)
+  assigned_length (Some control) x n value h = under_length control x n value h
+
+  both_lengths : (xs ys : List StraightTree) (m n : ℕ) → length (statements_code variables controls xs) ≤ m → length (statements_code variables controls ys) ≤ n → length (statements_code variables controls (xs ++ ys)) ≤ m + n
+  both_lengths [] ys m n h k = omega (arith, k)
+  both_lengths (x ∷ xs) ys m n h k =
+      let i = statement_code variables controls x in
+      let e = length-append i (statements_code variables controls xs) in
+      let f = length-append i (statements_code variables controls (xs ++ ys)) in
+      let rest = both_lengths xs ys (length (statements_code variables controls xs)) n (omega arith) k in
+      omega (arith, e, f, rest, h)
+
+  one_length : (s : StraightTree) (n : ℕ) → length (statement_code variables controls s) ≤ n → length (statements_code variables controls (s ∷ [])) ≤ n
+  one_length s n h = let e = length-append (statement_code variables controls s) [] in omega (arith, e, h)
+
+  mutual
+    pub statement_length : (names : Numbers) (n : ℕ) (within : Option ℕ) (control : ℕ) (s : StatementTree) → length (statements_code variables controls (removed within control (statement names n s))) ≤ 16 * statement_nodes s
+    statement_length names n within control (declaration place label mutable kind text value) =
+        let v = expr_length names (temporaries_offset variables controls) value in
+        one_length (set n (term names value)) (16 * (1 + nodes_in value)) (let all = set_length n (16 * nodes_in value) (term names value) v in omega (arith, all))
+    statement_length names n within control (assignment place target text value) =
+        let v = expr_length names (temporaries_offset variables controls) value in
+        one_length (set_within within (number_of names text) (term names value)) (16 * (1 + nodes_in value)) (let all = assigned_length within (number_of names text) (16 * nodes_in value) (term names value) v in omega (arith, all))
+    statement_length names n within control (conditional place condition accepted otherwise) =
+        let xs = removed_all (Some control) (control + 2) (block names n accepted) in
+        let ys = removed_all (Some (control + 1)) (control + 2) (block names (n + block_words accepted) otherwise) in
+        let i = statement_code variables controls (take control within (term names condition)) in
+        let c = take_length control within (16 * nodes_in condition) (term names condition) (expr_length names (temporaries_offset variables controls) condition) in
+        let a = block_length names n (Some control) (control + 2) accepted in
+        let b = block_length names (n + block_words accepted) (Some (control + 1)) (control + 2) otherwise in
+        let arms = both_lengths xs ys (16 * block_nodes accepted) (16 * block_nodes otherwise) a b in
+        let e = length-append i (statements_code variables controls (xs ++ ys)) in
+        omega (arith, c, arms, e)
+
+    pub block_length : (names : Numbers) (n : ℕ) (within : Option ℕ) (control : ℕ) (b : BlockTree) → length (statements_code variables controls (removed_all within control (block names n b))) ≤ 16 * block_nodes b
+    block_length names n within control nothing = omega arith
+    block_length names n within control (first s rest) =
+        let later = names_after names n s in
+        let m = n + statement_words s in
+        let both = both_lengths (removed within control (statement names n s)) (removed_all within control (block later m rest)) (16 * statement_nodes s) (16 * block_nodes rest) (statement_length names n within control s) (block_length later m within control rest) in
+        omega (arith, both)

@@ -1,6 +1,8 @@
--- The instructions that are emitted for slots, numbers and expressions.
-use Rattle.std.specs.Prelude.{ℕ, ◌+◌, ◌*◌, ◌/◌, ◌%◌, ◌^◌, Bool, List, [], ◌∷◌, ◌++◌, max, nat_lt, unwrap_or, if◌then◌else◌}
-use Rattle.names.specs.Scope.{found}
+-- The instructions that are emitted for slots, numbers, expressions and statements.
+use Rattle.std.specs.Prelude.{ℕ, ◌+◌, ◌/◌, ◌%◌, ◌^◌, Bool, List, [], ◌∷◌, ◌++◌, Option, None, Some, max, nat_lt, if◌then◌else◌}
+use Rattle.branch_removal.specs.Straight.{StraightTree, set, take, set_under}
+use Rattle.codegen.specs.Layout.{variable_offset, control_offset, temporaries_offset}
+use Rattle.inline.specs.Flat.{TermTree, number, truth, variable, binary, select}
 use Rattle.rv_code.specs.declared.instructions.Instr.{Instr}
 use Rattle.rv_code.specs.declared.instructions.Instr.TheVariants.{Upper, Immediate, Register, Load, Store}
 use Rattle.rv_code.specs.declared.operations.UpperOperation.TheVariants.{Lui}
@@ -11,9 +13,8 @@ use Rattle.rv_code.specs.declared.operations.LoadOperation.TheVariants.{Lw}
 use Rattle.rv_code.specs.declared.operations.StoreOperation.TheVariants.{Sw}
 use Rattle.syntax.specs.declared.tree.BinaryOperator.{BinaryOperator}
 use Rattle.syntax.specs.declared.tree.BinaryOperator.TheVariants as operators
-use Rattle.syntax.specs.Tree.{ExprTree, number, truth, name, binary, select}
 
--- The registers: the frame's base, an expression's value, its left operand, a condition, and an address.
+-- The registers: the frame's base, an expression's value, its left operand, a condition or a mask, and an address.
 
 abbrev pub zero_register : ℕ
 zero_register = 0
@@ -89,30 +90,81 @@ choice_code =
 abbrev pub bit_of : Bool → ℕ
 bit_of b = if b then 1 else 0
 
--- where a variable's slot is
-abbrev pub offset_of : List (List ℕ × ℕ) → List ℕ → ℕ
-offset_of slots text = unwrap_or (found slots text) 0
-
 -- an expression into the value register; temporaries lie in slots from this offset on
-abbrev pub expr_code : List (List ℕ × ℕ) → ℕ → ExprTree → List Instr
-expr_code slots free (number place value) = constant_code value_register value
-expr_code slots free (truth place value) = constant_code value_register (bit_of value)
-expr_code slots free (name place text) = load_code value_register (offset_of slots text)
-expr_code slots free (binary place operator left right) =
-    expr_code slots free left ++ store_code value_register free
-    ++ expr_code slots (free + 4) right
+abbrev pub expr_code : ℕ → TermTree → List Instr
+expr_code free (number value) = constant_code value_register value
+expr_code free (truth value) = constant_code value_register (bit_of value)
+expr_code free (variable x) = load_code value_register (variable_offset x)
+expr_code free (binary operator left right) =
+    expr_code free left ++ store_code value_register free
+    ++ expr_code (free + 4) right
     ++ load_code left_register free ++ operator_code operator
-expr_code slots free (select place condition accepted otherwise) =
-    expr_code slots free condition ++ store_code value_register free
-    ++ expr_code slots (free + 4) accepted ++ store_code value_register (free + 4)
-    ++ expr_code slots (free + 8) otherwise
+expr_code free (select condition accepted otherwise) =
+    expr_code free condition ++ store_code value_register free
+    ++ expr_code (free + 4) accepted ++ store_code value_register (free + 4)
+    ++ expr_code (free + 8) otherwise
     ++ load_code left_register (free + 4) ++ load_code condition_register free ++ choice_code
 
+-- A control value is a mask: all ones where it is true, and 0 where it is not.
+
+-- of a condition in the value register, the mask for where it is true, and that for where it is not
+abbrev pub masks_code : List Instr
+masks_code =
+    Register Sub condition_register zero_register value_register
+    ∷ Immediate Addi value_register value_register 4095 ∷ []
+
+-- both masks joined with the one in a slot
+abbrev pub join_code : ℕ → List Instr
+join_code offset =
+    load_code left_register offset
+    ++ Register And condition_register condition_register left_register
+    ∷ Register And value_register value_register left_register ∷ []
+
+-- both masks joined with the enclosing control value, where there is one
+abbrev pub within_code : ℕ → Option ℕ → List Instr
+within_code variables None = []
+within_code variables (Some control) = join_code (control_offset variables control)
+
+-- the value where the mask is all ones, and what was there before where it is 0
+abbrev pub merge_code : List Instr
+merge_code =
+    Register Xor value_register value_register left_register
+    ∷ Register And value_register value_register condition_register
+    ∷ Register Xor value_register left_register value_register ∷ []
+
+-- a statement of a program with so many variables and control values
+abbrev pub statement_code : ℕ → ℕ → StraightTree → List Instr
+statement_code variables controls (set x value) =
+    expr_code (temporaries_offset variables controls) value ++ store_code value_register (variable_offset x)
+statement_code variables controls (take control within condition) =
+    expr_code (temporaries_offset variables controls) condition ++ masks_code ++ within_code variables within
+    ++ store_code condition_register (control_offset variables control)
+    ++ store_code value_register (control_offset variables (control + 1))
+statement_code variables controls (set_under control x value) =
+    expr_code (temporaries_offset variables controls) value
+    ++ load_code left_register (variable_offset x) ++ load_code condition_register (control_offset variables control)
+    ++ merge_code ++ store_code value_register (variable_offset x)
+
+abbrev pub statements_code : ℕ → ℕ → List StraightTree → List Instr
+statements_code variables controls [] = []
+statements_code variables controls (statement ∷ rest) =
+    statement_code variables controls statement ++ statements_code variables controls rest
+
 -- how many slots the temporaries of an expression take
-abbrev pub height_of : ExprTree → ℕ
-height_of (number place value) = 0
-height_of (truth place value) = 0
-height_of (name place text) = 0
-height_of (binary place operator left right) = max (height_of left) (1 + height_of right)
-height_of (select place condition accepted otherwise) =
+abbrev pub height_of : TermTree → ℕ
+height_of (number value) = 0
+height_of (truth value) = 0
+height_of (variable x) = 0
+height_of (binary operator left right) = max (height_of left) (1 + height_of right)
+height_of (select condition accepted otherwise) =
     max (height_of condition) (1 + max (height_of accepted) (1 + height_of otherwise))
+
+abbrev pub height_in : StraightTree → ℕ
+height_in (set x value) = height_of value
+height_in (take control within condition) = height_of condition
+height_in (set_under control x value) = height_of value
+
+-- how many those of statements take, which share them
+abbrev pub height_in_all : List StraightTree → ℕ
+height_in_all [] = 0
+height_in_all (statement ∷ rest) = max (height_in statement) (height_in_all rest)

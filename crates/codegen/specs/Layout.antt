@@ -1,30 +1,24 @@
--- Where a procedure's words lie in the frame: its parameters in their order, the result, the temporaries.
-use Rattle.std.specs.Prelude.{ℕ, ◌+◌, ◌*◌, List, [], ◌∷◌, length}
-use Rattle.names.specs.Scope.{declared}
+-- Where a program's words lie in the frame: the variables, of which the parameters are the first, then the
+-- result, the control values, and the temporaries.
+use Rattle.std.specs.Prelude.{ℕ, ◌+◌, ◌*◌, List, [], ◌∷◌}
 use Rattle.image.specs.declared.slot.Slot.{Slot}
-use Rattle.syntax.specs.declared.signature.Form.TheVariants.{SingleWord}
 use Rattle.syntax.specs.declared.signature.Param.{Param}
-use Rattle.syntax.specs.Tree.{ParameterTree, ProcedureTree}
 
--- the variables' slots, the next free one at `low`
-abbrev pub variables_from : List (List ℕ × ℕ) → ℕ → List ParameterTree → List (List ℕ × ℕ)
-variables_from slots low [] = slots
-variables_from slots low (p ∷ ps) = variables_from (declared slots p.name low) (low + 4) ps
+abbrev pub variable_offset : ℕ → ℕ
+variable_offset x = 4 * x
 
--- the export's parameter, without its name
-abbrev pub param_of : ParameterTree → Param
-param_of p = record { kind = p.kind; label = p.label; form = SingleWord; length = 1 }
+-- after so many variables
+abbrev pub result_offset : ℕ → ℕ
+result_offset variables = 4 * variables
+
+abbrev pub control_offset : ℕ → ℕ → ℕ
+control_offset variables control = 4 * variables + 4 + 4 * control
+
+-- after so many variables and control values
+abbrev pub temporaries_offset : ℕ → ℕ → ℕ
+temporaries_offset variables controls = 4 * variables + 4 + 4 * controls
 
 -- the parameters with their slots, the first at `low`
-abbrev pub slots_from : ℕ → List ParameterTree → List Slot
+abbrev pub slots_from : ℕ → List Param → List Slot
 slots_from low [] = []
-slots_from low (p ∷ ps) = record { param = param_of p; offset = low } ∷ slots_from (low + 4) ps
-
-abbrev pub variables_of : ProcedureTree → List (List ℕ × ℕ)
-variables_of p = variables_from [] 0 p.parameters
-
-abbrev pub result_offset : ProcedureTree → ℕ
-result_offset p = 4 * length p.parameters
-
-abbrev pub temporaries_offset : ProcedureTree → ℕ
-temporaries_offset p = result_offset p + 4
+slots_from low (p ∷ ps) = record { param = p; offset = low } ∷ slots_from (low + 4) ps

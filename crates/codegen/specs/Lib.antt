@@ -1,3 +1,4 @@
-pub mod Emitted
 pub mod Layout
+pub mod Emitted
 pub mod Generated
+pub mod Room

@@ -1,7 +1,7 @@
-// Instructions for slots and numbers, each appended to the code so far.
+// Instructions for slots, numbers and masks, each appended to the code so far.
 
 ghost use Rattle.std.specs.Prelude.{◌≡◌, ◌++◌, ◌^◌, ◌<◌, OnOk};
-ghost use Rattle.codegen.specs.Emitted.{upper_part, lower_part, load_code, store_code, constant_code, choice_code, operator_code};
+ghost use Rattle.codegen.specs.Emitted.{upper_part, lower_part, load_code, store_code, constant_code, choice_code, operator_code, masks_code, join_code, merge_code};
 
 use rv_code::{
     Immediate12, ImmediateOperation, Instr, LoadOperation, Reg, RegisterOperation, StoreOperation,
@@ -12,6 +12,9 @@ use syntax::BinaryOperator;
 
 /// What 12 bits hold as a number that is not negative.
 const NEAR: u32 = 2048;
+
+/// -1 as 12 bits.
+const MINUS_ONE: u32 = 4095;
 
 /// The upper part of a number, whose lower part is sign-extended when it is added.
 fn upper_part(n: u32) -> UpperImmediate
@@ -93,5 +96,35 @@ pub fn choice(code: &mut Vec<Instr>) -> Result<(), AllocError>
     code.push(Instr::Register(RegisterOperation::Xor, Reg::X6, Reg::X6, Reg::X5))?;
     code.push(Instr::Register(RegisterOperation::And, Reg::X6, Reg::X6, Reg::X7))?;
     code.push(Instr::Register(RegisterOperation::Xor, Reg::X5, Reg::X5, Reg::X6))?;
+    Ok(())
+}
+
+/// Of a condition in the value, the mask for where it is true, and in the value the one for where it is not.
+pub fn masks(code: &mut Vec<Instr>) -> Result<(), AllocError>
+    ensures { OnOk result (code.new.items ≡ code.old.items ++ masks_code) }
+{
+    let less_one = Immediate12::from_bits(MINUS_ONE);
+    code.push(Instr::Register(RegisterOperation::Sub, Reg::X7, Reg::X0, Reg::X5))?;
+    code.push(Instr::Immediate(ImmediateOperation::Addi, Reg::X5, Reg::X5, less_one))?;
+    Ok(())
+}
+
+/// Both masks joined with the one in the slot.
+pub fn join(code: &mut Vec<Instr>, offset: u32) -> Result<(), AllocError>
+    ensures { OnOk result (code.new.items ≡ code.old.items ++ join_code offset) }
+{
+    load(code, Reg::X6, offset)?;
+    code.push(Instr::Register(RegisterOperation::And, Reg::X7, Reg::X7, Reg::X6))?;
+    code.push(Instr::Register(RegisterOperation::And, Reg::X5, Reg::X5, Reg::X6))?;
+    Ok(())
+}
+
+/// The value where the mask is all ones, and the left operand where it is 0.
+pub fn merge(code: &mut Vec<Instr>) -> Result<(), AllocError>
+    ensures { OnOk result (code.new.items ≡ code.old.items ++ merge_code) }
+{
+    code.push(Instr::Register(RegisterOperation::Xor, Reg::X5, Reg::X5, Reg::X6))?;
+    code.push(Instr::Register(RegisterOperation::And, Reg::X5, Reg::X5, Reg::X7))?;
+    code.push(Instr::Register(RegisterOperation::Xor, Reg::X5, Reg::X6, Reg::X5))?;
     Ok(())
 }

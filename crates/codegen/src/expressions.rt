@@ -1,30 +1,29 @@
 // An expression's code, and how many slots its temporaries take.
 
-ghost use Rattle.std.specs.Prelude.{◌≡◌, ◌++◌, ◌+◌, ◌*◌, ◌≤◌, ◌<◌, ◌^◌, ℕ, List, OnOk};
-ghost use Rattle.codegen.specs.Emitted.{expr_code, height_of, offset_of};
-ghost use Rattle.syntax.specs.Tree.{expr_tree};
-ghost use Rattle.syntax.specs.Size.{nodes_in};
+ghost use Rattle.std.specs.Prelude.{◌≡◌, ◌++◌, ◌+◌, ◌*◌, ◌≤◌, OnOk};
+ghost use Rattle.codegen.specs.Emitted.{expr_code, height_of};
+ghost use Rattle.codegen.specs.Room.{IsUpTo};
+ghost use Rattle.inline.specs.Flat.{term_tree};
 
 use crate::emit;
-use names::Names;
+use crate::layout::Layout;
+use inline::Term;
 use rv_code::{Instr, Reg};
 use std::alloc::AllocError;
-use syntax::Expr;
 
 /// How many slots the temporaries of an expression take.
-pub fn height(expr: &Expr<'_>) -> u32
-    requires { nodes_in (expr_tree expr.now) ≤ 6000 }
-    ensures height { result ≡ height_of (expr_tree expr.now) }
-    ensures bound { result < nodes_in (expr_tree expr.now) }
+pub fn height(term: &Term) -> u32
+    requires { height_of (term_tree term.now) ≤ 6001 }
+    ensures { result ≡ height_of (term_tree term.now) }
 {
-    match expr {
-        Expr::Number(_, _) | Expr::Truth(_, _) | Expr::Name(_, _) => 0,
-        Expr::Binary(_, _, left, right) => {
+    match term {
+        Term::Number(_) | Term::Truth(_) | Term::Variable(_) => 0,
+        Term::Binary(_, left, right) => {
             let left = height(left);
             let right = height(right);
             left.max(1 + right)
         }
-        Expr::Select(_, condition, accepted, otherwise) => {
+        Term::Select(condition, accepted, otherwise) => {
             let condition = height(condition);
             let accepted = height(accepted);
             let otherwise = height(otherwise);
@@ -36,33 +35,32 @@ pub fn height(expr: &Expr<'_>) -> u32
 /// An expression into the value register; its temporaries lie in slots from `free` on.
 pub fn expression(
     code: &mut Vec<Instr>,
-    slots: &Names<'_, u32>,
+    layout: Layout,
     free: u32,
-    expr: &Expr<'_>,
+    term: &Term,
 ) -> Result<(), AllocError>
-    requires { free + 4 * height_of (expr_tree expr.now) ≤ 65536 }
-    ensures { OnOk result (code.new.items ≡ code.old.items ++ expr_code slots.now free (expr_tree expr.now)) }
+    requires variables { layout.variables ≤ 8192 }
+    requires places { IsUpTo layout.variables (term_tree term.now) }
+    requires room { free + 4 * height_of (term_tree term.now) ≤ 65536 }
+    ensures { OnOk result (code.new.items ≡ code.old.items ++ expr_code free (term_tree term.now)) }
 {
-    match expr {
-        Expr::Number(_, value) => emit::constant(code, Reg::X5, *value),
-        Expr::Truth(_, value) => emit::constant(code, Reg::X5, u32::from(*value)),
-        Expr::Name(_, text) => {
-            let offset = slots.find(text).unwrap_or(0);
-            emit::load(code, Reg::X5, offset)
-        }
-        Expr::Binary(_, operator, left, right) => {
-            expression(code, slots, free, left)?;
+    match term {
+        Term::Number(value) => emit::constant(code, Reg::X5, *value),
+        Term::Truth(value) => emit::constant(code, Reg::X5, u32::from(*value)),
+        Term::Variable(number) => emit::load(code, Reg::X5, layout.variable(*number)),
+        Term::Binary(operator, left, right) => {
+            expression(code, layout, free, left)?;
             emit::store(code, Reg::X5, free)?;
-            expression(code, slots, free + 4, right)?;
+            expression(code, layout, free + 4, right)?;
             emit::load(code, Reg::X6, free)?;
             emit::operator(code, *operator)
         }
-        Expr::Select(_, condition, accepted, otherwise) => {
-            expression(code, slots, free, condition)?;
+        Term::Select(condition, accepted, otherwise) => {
+            expression(code, layout, free, condition)?;
             emit::store(code, Reg::X5, free)?;
-            expression(code, slots, free + 4, accepted)?;
+            expression(code, layout, free + 4, accepted)?;
             emit::store(code, Reg::X5, free + 4)?;
-            expression(code, slots, free + 8, otherwise)?;
+            expression(code, layout, free + 8, otherwise)?;
             emit::load(code, Reg::X6, free + 4)?;
             emit::load(code, Reg::X7, free)?;
             emit::choice(code)

@@ -1,16 +1,16 @@
-ghost use Rattle.std.specs.Prelude.{◌≡◌, ◌≤◌, ◌<◌, ◌*◌, ◌^◌, map, length, All, IfOk};
-ghost use Rattle.codegen.specs.Generated.{procedure_code, image_of};
+ghost use Rattle.std.specs.Prelude.{◌≡◌, ◌<◌, ◌^◌, map, All, IfOk};
+ghost use Rattle.codegen.specs.Generated.{program_code, program_height, image_of};
+ghost use Rattle.codegen.specs.Room.{HasRoom};
 ghost use Rattle.rv_code.specs.Words.{word_of};
-ghost use Rattle.syntax.specs.Tree.{procedure_tree};
-ghost use Rattle.syntax.specs.Size.{nodes_of};
 
 use crate::emit;
 use crate::expressions::{expression, height};
-use crate::layout::{WORD_BYTES, slots, variables};
+use crate::layout::{Layout, WORD_BYTES, slots};
+use crate::statements::{greatest_height, statements};
+use branch_removal::Straight;
 use image::{Image, ResultSlot};
 use rv_code::{Instr, Reg, encode};
 use std::alloc::{AllocError, Global};
-use syntax::Procedure;
 
 /// The words of instructions.
 fn words(alloc: Global, code: &[Instr]) -> Result<Vec<u32>, AllocError>
@@ -24,39 +24,48 @@ fn words(alloc: Global, code: &[Instr]) -> Result<Vec<u32>, AllocError>
     Ok(words)
 }
 
-/// The code of a procedure, whose temporaries lie from `free` on.
-fn code(alloc: Global, export: &Procedure<'_>, result_offset: u32) -> Result<Vec<Instr>, AllocError>
-    requires nodes { nodes_of (procedure_tree export.now) ≤ 6000 }
-    requires parameters { length export.now.parameters.items ≤ 8192 }
-    requires offset { result_offset ≡ 4 * length export.now.parameters.items }
-    ensures { IfOk result (λ code. code.items ≡ procedure_code (procedure_tree export.now)) }
+/// The code of a program, in its layout.
+fn code(alloc: Global, straight: &Straight<'_>, layout: Layout) -> Result<Vec<Instr>, AllocError>
+    requires room { HasRoom straight.now }
+    requires variables { layout.variables ≡ straight.now.variables }
+    requires controls { layout.controls ≡ straight.now.controls }
+    ensures { IfOk result (λ code. code.items ≡ program_code straight.now) }
 {
-    let names = variables(alloc, export.parameters.as_slice())?;
     let mut code = Vec::new(alloc);
-    expression(&mut code, &names, result_offset + WORD_BYTES, &export.value)?;
-    emit::store(&mut code, Reg::X5, result_offset)?;
+    statements(&mut code, layout, straight.statements())?;
+    expression(&mut code, layout, layout.temporaries(), straight.value())?;
+    emit::store(&mut code, Reg::X5, layout.result())?;
     code.push(Instr::Ecall)?;
     Ok(code)
 }
 
-/// The image of an exported procedure, which has so many nodes.
-pub fn generate(alloc: Global, export: &Procedure<'_>, nodes: u32) -> Result<Image, AllocError>
-    requires counted { nodes ≡ nodes_of (procedure_tree export.now) }
-    requires nodes { nodes ≤ 6000 }
-    requires parameters { length export.now.parameters.items ≤ 8192 }
-    ensures { IfOk result (λ image. image ≡ image_of (procedure_tree export.now)) }
+/// How many slots the temporaries of a program take.
+fn temporaries(straight: &Straight<'_>) -> u32
+    requires { HasRoom straight.now }
+    ensures { result ≡ program_height straight.now }
 {
-    let result_offset = WORD_BYTES * export.parameters.len() as u32;
-    let temporaries = WORD_BYTES * height(&export.value);
-    let returned = ResultSlot {
-        kind: export.kind,
-        label: export.label,
-        offset: result_offset,
+    greatest_height(straight.statements()).max(height(straight.value()))
+}
+
+/// The image of straight code.
+pub fn generate(alloc: Global, straight: &Straight<'_>) -> Result<Image, AllocError>
+    requires { HasRoom straight.now }
+    ensures { IfOk result (λ image. image ≡ image_of straight.now) }
+{
+    let layout = Layout {
+        variables: straight.variables(),
+        controls: straight.controls(),
     };
-    let code = code(alloc, export, result_offset)?;
-    let slots = slots(alloc, export.parameters.as_slice())?;
+    let word = straight.returned();
+    let returned = ResultSlot {
+        kind: word.kind,
+        label: word.label,
+        offset: layout.result(),
+    };
+    let code = code(alloc, straight, layout)?;
+    let slots = slots(alloc, straight.parameters())?;
     let words = words(alloc, code.as_slice())?;
-    let frame_bytes = result_offset + WORD_BYTES + temporaries;
-    let max_steps = 32 * u64::from(nodes) + 64;
+    let frame_bytes = layout.temporaries() + WORD_BYTES * temporaries(straight);
+    let max_steps = 32 * u64::from(straight.nodes()) + 64;
     Ok(Image::new(slots, Some(returned), frame_bytes, max_steps, words))
 }

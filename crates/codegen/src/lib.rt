@@ -1,10 +1,13 @@
-// The code generator: slots at fixed offsets of the frame, and the instructions that compute a
-// procedure's result in them. It stands on the syntax tree, the instructions and the image's fields.
+// The code generator: places at fixed offsets of the frame, and the instructions that run straight code
+// in them. It stands on straight code, the instructions and the image's fields.
 #![tactic(auto)]
 
 mod emit;
 mod expressions;
 mod generator;
+mod laws;
 mod layout;
+mod statements;
 
 pub use generator::generate;
+pub use laws::limits_leave_room;

@@ -1,0 +1,13 @@
+// A law that holds of the definitions alone.
+
+ghost use Rattle.std.specs.Prelude.{◌≤◌};
+ghost use Rattle.branch_removal.specs.Removal.{straightened};
+ghost use Rattle.codegen.specs.Room.{HasRoom};
+ghost use Rattle.inline.specs.Numbering.{flattened};
+ghost use Rattle.syntax.specs.Size.{nodes_of, declared_bytes};
+ghost use Rattle.syntax.specs.Tree.{ProcedureTree};
+
+/// There is room for the straight code of each procedure within the limits.
+pub fn limits_leave_room()
+    ensures { (p : ProcedureTree) → nodes_of p ≤ 6000 → declared_bytes p ≤ 32768 → HasRoom (straightened (flattened p)) }
+{}
