@@ -1,14 +1,17 @@
 ghost use Rattle.std.specs.Prelude.{◌≡◌, ℕ, List, IfOk, IfErr};
+ghost use Rattle.branch_removal.specs.Removal.{straightened};
 ghost use Rattle.codegen.specs.Generated.{image_of};
 ghost use Rattle.image.specs.Fields.{IsImage};
+ghost use Rattle.inline.specs.Numbering.{flattened};
 ghost use Rattle.syntax.specs.Tree.{ProcedureTree, program_tree};
 ghost use Rattle.word.specs.declared.place.Place.{Place};
 ghost use Rattle.syntax.specs.declared.rule.Rule.{Rule};
 ghost use Rattle.hepurita.specs.Built.{Judges, JudgesProgram, IsRefusal, IsBuilt, accepts, refuses};
 
-use crate::sizes::measure;
-use codegen::generate;
+use branch_removal::{controls_are_few, remove};
+use codegen::{generate, limits_leave_room};
 use image::{Image, write};
+use inline::inline;
 use labels::check;
 use simulation::texts_are_compiled;
 use std::alloc::Global;
@@ -17,16 +20,20 @@ use syntax::{Program, Refusal, one_answer_for_a_text, parse};
 /// The image of a program that violates no rule, or the first violation. Names, types and labels are
 /// asked before sizes.
 fn compile(alloc: Global, program: &Program<'_>) -> Result<Image, Refusal>
-    ensures accepted { IfOk result (λ image. (export : ProcedureTree) × JudgesProgram (program_tree program.now) (accepts export) × (image ≡ image_of export)) }
+    ensures accepted { IfOk result (λ image. (export : ProcedureTree) × JudgesProgram (program_tree program.now) (accepts export) × (image ≡ image_of (straightened (flattened export)))) }
     ensures allowed { IfOk result IsImage }
     ensures refused { IfErr result (IsRefusal (JudgesProgram (program_tree program.now))) }
 {
+    // The laws that the passes' conditions rest on.
+    controls_are_few();
+    limits_leave_room();
     let checked = check(alloc, program)?;
     let Some(export) = &checked.program().export else {
         unreachable!()
     };
-    let nodes = measure(export)?;
-    let image = generate(alloc, export, nodes)?;
+    let flat = inline(alloc, export)?;
+    let straight = remove(alloc, &flat)?;
+    let image = generate(alloc, &straight)?;
     let _words = image.words();
     Ok(image)
 }
