@@ -1,22 +1,22 @@
 -- The machine reads each program, to its tree.
-use Rattle.std.proofs.Common.{◌≡◌, ℕ, ◌+◌, ◌<◌, ◌≤◌, Bool, true, false, ◌&&◌, ◌⊎◌, inl, inr, List, [], ◌∷◌, ◌++◌, Option, Some, None, refl, sym, subst, ap, ◌∙◌, arith, if◌then◌else◌, append_assoc}
+use Rattle.std.proofs.Common.{◌≡◌, ℕ, ◌+◌, ◌<◌, ◌≤◌, Bool, true, false, ◌&&◌, ◌⊎◌, inl, inr, List, [], ◌∷◌, ◌++◌, Option, Some, None, refl, sym, ap, ◌∙◌, arith, if◌then◌else◌, append_assoc}
 use Rattle.std.proofs.lemmas.Bool.Decides.{nat_tests}
 use Rattle.std.proofs.lemmas.List.{append-nil}
-use Rattle.std.specs.Prelude.{nat_le, nat_lt}
+use Rattle.std.specs.Prelude.{nat_le}
 use Rattle.std.specs.Option.{option_map, option_and_then}
 use Rattle.syntax.specs.declared.signature.Kind.{Kind}
 use Rattle.syntax.specs.declared.signature.Label.{Label}
 use Rattle.syntax.specs.declared.token.TokenKind.{TokenKind}
 use Rattle.syntax.specs.declared.token.TokenKind.TheVariants as token
-use Rattle.syntax.specs.declared.token.Keyword.TheVariants.{Export, Public, Secret, Mut, If, Else, Bool as BoolWord, Uint32 as Uint32Word, Return, Select, True, False}
-use Rattle.syntax.specs.declared.token.Sign.TheVariants.{OpenRound, CloseRound, OpenCurly, CloseCurly, Comma, Semicolon, Assign}
+use Rattle.syntax.specs.declared.token.Keyword.TheVariants.{Mut, If, Else, Return}
+use Rattle.syntax.specs.declared.token.Sign.TheVariants.{CloseRound, CloseCurly, Comma, Semicolon}
 use Rattle.syntax.specs.declared.token.Suffix.{Suffix}
 use Rattle.syntax.specs.declared.token.Suffix.TheVariants.{U32}
 use Rattle.syntax.specs.declared.tree.BinaryOperator.{BinaryOperator}
 use Rattle.syntax.specs.declared.tree.BinaryOperator.TheVariants.{BitXor, BitAnd, Add, Subtract}
 use Rattle.syntax.specs.Grammar.{operator_of, level_of, label_of, word_of, ExprAt, a_number, a_true, a_false, a_name, in_brackets, a_select, a_binary, Parameter, a_parameter, Parameters, no_parameters, some_parameters, MoreParameters, no_more, one_more, Mutable, no_mut, a_mut, Statement, a_declaration, an_assignment, a_conditional, Statements, no_statement, one_statement, Arm, an_arm, Otherwise, no_else, an_else, Procedure, a_procedure, IsProgram, IsBeginning, no_procedure, an_export}
 use Rattle.syntax.specs.Lexeme.{Lexeme}
-use Rattle.syntax.specs.Tree.{ExprTree, number, truth, name, binary, select, StatementTree, declaration, assignment, conditional, BlockTree, nothing, first, ParameterTree, ProcedureTree, ProgramTree}
+use Rattle.syntax.specs.Tree.{ExprTree, binary, select, StatementTree, declaration, assignment, conditional, BlockTree, nothing, first, ParameterTree, ProcedureTree, ProgramTree}
 use Rattle.syntax.specs.declared.parser.expression.Begins.{Begins}
 use Rattle.syntax.specs.declared.parser.expression.Begins.TheVariants.{Number as by_number, Truth as by_truth, Name as by_name, Bracket as by_bracket, Select as by_select}
 use Rattle.syntax.specs.declared.parser.statement.Start.{Start}

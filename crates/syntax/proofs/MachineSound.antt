@@ -2,22 +2,21 @@
 use Rattle.std.proofs.Common.{◌≡◌, ℕ, ◌+◌, ◌≤◌, Bool, true, false, ◌&&◌, ◌⊎◌, inl, inr, List, [], ◌∷◌, ◌++◌, Option, Some, None, refl, sym, subst, ap, ◌∙◌, arith, if◌then◌else◌, append_assoc}
 use Rattle.std.proofs.lemmas.List.{append-nil}
 use Rattle.std.proofs.lemmas.Bool.Decides.{nat_tests}
-use Rattle.std.specs.Prelude.{nat_le, nat_lt}
+use Rattle.std.specs.Prelude.{nat_le}
 use Rattle.std.specs.Option.{option_map, option_and_then}
 use Rattle.word.specs.declared.place.Place.{Place}
 use Rattle.syntax.specs.declared.signature.Kind.{Kind}
 use Rattle.syntax.specs.declared.signature.Kind.TheVariants.{Boolean}
 use Rattle.syntax.specs.declared.signature.Label.{Label}
-use Rattle.syntax.specs.declared.signature.Label.TheVariants.{Public as PublicLabel, Secret as SecretLabel}
+use Rattle.syntax.specs.declared.signature.Label.TheVariants.{Public as PublicLabel}
 use Rattle.syntax.specs.declared.token.TokenKind.{TokenKind}
 use Rattle.syntax.specs.declared.token.TokenKind.TheVariants as token
-use Rattle.syntax.specs.declared.token.Keyword.{Keyword}
 use Rattle.syntax.specs.declared.token.Keyword.TheVariants.{Export, Public, Secret, Mut, If, Else, Return, Select, True, False, Bool as BoolWord}
 use Rattle.syntax.specs.declared.token.Sign.TheVariants.{OpenRound, CloseRound, OpenCurly, CloseCurly, Comma, Semicolon, Assign}
 use Rattle.syntax.specs.declared.token.Suffix.{Suffix}
-use Rattle.syntax.specs.declared.token.Suffix.TheVariants.{U8, U16, U32}
+use Rattle.syntax.specs.declared.token.Suffix.TheVariants.{U32}
 use Rattle.syntax.specs.declared.tree.BinaryOperator.{BinaryOperator}
-use Rattle.syntax.specs.Grammar.{operator_of, level_of, label_of, word_of, Is, ExprAt, a_number, a_true, a_false, a_name, in_brackets, a_select, a_binary, Parameter, a_parameter, Parameters, no_parameters, some_parameters, MoreParameters, no_more, one_more, Mutable, no_mut, a_mut, Statement, a_declaration, an_assignment, a_conditional, Statements, no_statement, one_statement, Arm, an_arm, Otherwise, no_else, an_else, Procedure, a_procedure, IsProgram, IsBeginning, no_procedure, an_export}
+use Rattle.syntax.specs.Grammar.{operator_of, level_of, label_of, word_of, ExprAt, a_number, a_true, a_false, a_name, in_brackets, a_select, a_binary, Parameter, a_parameter, Parameters, no_parameters, some_parameters, no_more, one_more, Mutable, no_mut, a_mut, Statement, a_declaration, an_assignment, a_conditional, Statements, no_statement, one_statement, Arm, an_arm, Otherwise, no_else, an_else, Procedure, a_procedure, IsProgram, IsBeginning, no_procedure, an_export}
 use Rattle.syntax.specs.Lexeme.{Lexeme}
 use Rattle.syntax.specs.Tree.{ExprTree, number, truth, name, binary, select, StatementTree, declaration, assignment, conditional, BlockTree, nothing, first, ParameterTree, ProcedureTree, ProgramTree}
 use Rattle.syntax.specs.declared.parser.expression.Begins.{Begins}
@@ -27,7 +26,7 @@ use Rattle.syntax.specs.declared.parser.statement.Start.TheVariants.{Declaration
 use Rattle.syntax.specs.declared.parser.statement.Where.{Where}
 use Rattle.syntax.specs.declared.parser.statement.Where.TheVariants.{Body as in_body, Arm as in_arm}
 use Rattle.syntax.specs.Machine.{Wanted, a_word, export_word, mut_word, else_word, return_word, opening_round, closing_round, opening_curly, closing_curly, a_comma, a_semicolon, an_equals, State, ended, one, either, a_label, a_kind, parameters, more_parameters, expr, more, statements, kind_of, fits, begins_of, starts_with, labelled, parameter, operand, within, joined, declared_word, arm, otherwise, statement, started, step, at_end, procedure, program, run}
-use Rattle.syntax.proofs.MachineMeaning.{Grows, Finishes}
+use Rattle.syntax.proofs.MachineMeaning.{Finishes}
 
 -- a token that fits is of the wanted kind
 pub kind-fits : (wanted : Wanted) (kind : TokenKind) → fits wanted kind ≡ true → kind ≡ kind_of wanted

@@ -1,11 +1,11 @@
 -- What the parser's functions share: faults passed on, and single steps of the machine.
-use Rattle.std.proofs.Common.{◌≡◌, ℕ, ◌+◌, ◌≤◌, Bool, true, false, List, [], ◌∷◌, ◌++◌, map, Option, Some, None, Result, Ok, Err, refl, sym, subst, ap, ◌∙◌, if◌then◌else◌}
+use Rattle.std.proofs.Common.{◌≡◌, ℕ, ◌+◌, ◌≤◌, true, false, List, [], ◌∷◌, ◌++◌, map, Some, None, Result, Ok, Err, refl, sym, subst, ap, ◌∙◌, if◌then◌else◌}
 use Rattle.std.specs.Result.{IsErrAnd, IfOk, IfErr}
 use Rattle.std.specs.Option.{option_map}
 use Rattle.syntax.specs.declared.signature.Kind.{Kind}
 use Rattle.syntax.specs.declared.signature.Label.{Label}
 use Rattle.syntax.specs.declared.parser.Fault.{Fault}
-use Rattle.syntax.specs.declared.parser.Fault.TheVariants.{Refused, Memory}
+use Rattle.syntax.specs.declared.parser.Fault.TheVariants.{Memory}
 use Rattle.syntax.specs.declared.parser.Parser.{Parser}
 use Rattle.syntax.specs.declared.parser.expression.Begins.{Begins}
 use Rattle.syntax.specs.declared.parser.statement.Start.{Start}

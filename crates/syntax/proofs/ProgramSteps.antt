@@ -1,11 +1,11 @@
 -- How the parser tells an empty program from an export, and how its faults become refusals.
-use Rattle.std.proofs.Common.{◌≡◌, ℕ, Bool, true, false, List, [], ◌∷◌, Some, None, Result, Ok, Err, MatchResult, refl, sym, subst, ap, ◌∙◌, arith, length, nat_eq, suc}
+use Rattle.std.proofs.Common.{◌≡◌, ℕ, true, false, List, [], ◌∷◌, Some, None, Result, Ok, Err, MatchResult, refl, sym, subst, arith, length, nat_eq, suc}
 use Rattle.std.proofs.lemmas.Bool.Decides.{nat_tests}
 use Rattle.std.specs.Result.{IsErrAnd}
 use Rattle.syntax.specs.declared.parser.Fault.{Fault}
 use Rattle.syntax.specs.declared.parser.Parser.{Parser}
 use Rattle.syntax.specs.declared.token.Token.{Token}
-use Rattle.syntax.specs.Lexeme.{Lexeme, lexeme, lexemes}
+use Rattle.syntax.specs.Lexeme.{lexemes}
 use Rattle.syntax.specs.Machine.{State, program, procedure, ended, one, export_word, verdict}
 use Rattle.syntax.specs.Nesting.{Nest}
 use Rattle.syntax.specs.ParserViews.{ahead, nest, FaultIs}

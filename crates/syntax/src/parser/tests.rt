@@ -1,10 +1,20 @@
 use super::*;
-use crate::{BinaryOperator, Expr};
+use crate::{BinaryOperator, Expr, Kind, Label, Statement};
 use std::test::Fail;
 
 const FRONT: &str = "export secret uint32 f(secret uint32 x) { return ";
 
 const PLAIN: &str = "export public uint32 f() { return ";
+
+/// It needs statements and a closing bracket.
+const OPEN: &str = "export public uint32 f(public bool b) { ";
+
+const BRANCHING: &str = "export secret uint32 f(secret bool t) {
+secret mut bool s = t;
+secret mut uint32 y = 0;
+if (s) { s = false; y = 1; } else { y = 2; }
+return y;
+}";
 
 /// A front, a piece some times, and a back.
 fn repeated(
@@ -35,6 +45,15 @@ fn refusal(alloc: Global, text: &str) -> Option<(Rule, u32, u32, u32)> {
             .place
             .map(|p| (refusal.rule, p.offset, p.line, p.column)),
     }
+}
+
+/// The refusal of a text that opens a procedure and goes on so.
+fn refusal_after_opening(
+    alloc: Global,
+    rest: &str,
+) -> Result<Option<(Rule, u32, u32, u32)>, AllocError> {
+    let text = repeated(alloc, OPEN, rest, 1, "")?;
+    Ok(refusal(alloc, text.as_str()))
 }
 
 #[test]
@@ -80,6 +99,99 @@ fn differences_group_to_the_left(rt: HostRuntime) -> Result<(), Fail> {
             Expr::Binary(Place { column: 56, .. }, BinaryOperator::Subtract, _, _)
         )
     );
+    Ok(())
+}
+
+#[test]
+fn declarations_have_the_places_of_their_names(rt: HostRuntime) -> Result<(), Fail> {
+    let program = parse(rt.alloc(), BRANCHING)?;
+    let export = program.export.ok_or("no export")?;
+    assert_eq!(rt; export.body.len(), 3);
+    assert_eq!(rt;
+        (export.return_place.line, export.return_place.column),
+        (5, 1)
+    );
+    let [first, second, ..] = export.body.as_slice() else {
+        return Err(Fail::from("too few statements"));
+    };
+    let (Statement::Declare(s), Statement::Declare(y)) = (first, second) else {
+        return Err(Fail::from("no declarations"));
+    };
+    assert!(rt; s.mutable && s.label == Label::Secret && s.kind == Kind::Boolean);
+    assert_eq!(rt; s.name, "s");
+    assert_eq!(rt; (s.place.offset, s.place.line, s.place.column), (56, 2, 17));
+    assert!(rt; y.mutable && y.kind == Kind::Uint32);
+    assert_eq!(rt; (y.place.line, y.place.column), (3, 19));
+    Ok(())
+}
+
+/// The columns of an assignment's name and of its `=`.
+fn columns(statement: &Statement<'_>) -> Option<(u32, u32)> {
+    match statement {
+        Statement::Assign(a) => Some((a.target.column, a.place.column)),
+        Statement::Declare(_) | Statement::If(_, _, _, _) => None,
+    }
+}
+
+#[test]
+fn a_conditional_has_both_its_arms(rt: HostRuntime) -> Result<(), Fail> {
+    let program = parse(rt.alloc(), BRANCHING)?;
+    let export = program.export.ok_or("no export")?;
+    let Some(Statement::If(place, condition, accepted, otherwise)) = export.body.last() else {
+        return Err(Fail::from("no conditional"));
+    };
+    assert_eq!(rt; (place.offset, place.line, place.column), (88, 4, 1));
+    assert!(rt; matches!(condition, Expr::Name(Place { column: 5, .. }, "s")));
+    let [one, two] = accepted.as_slice() else {
+        return Err(Fail::from("another first arm"));
+    };
+    assert_eq!(rt;
+        (columns(one), columns(two)),
+        (Some((10, 12)), Some((21, 23)))
+    );
+    let [three] = otherwise.as_slice() else {
+        return Err(Fail::from("another second arm"));
+    };
+    assert_eq!(rt; columns(three), Some((37, 39)));
+    Ok(())
+}
+
+#[test]
+fn mut_and_else_may_be_missing(rt: HostRuntime) -> Result<(), Fail> {
+    let text = repeated(
+        rt.alloc(),
+        OPEN,
+        "public uint32 x = 1; if (b) { } return x; }",
+        1,
+        "",
+    )?;
+    let program = parse(rt.alloc(), text.as_str())?;
+    let export = program.export.ok_or("no export")?;
+    let [first, second] = export.body.as_slice() else {
+        return Err(Fail::from("not two statements"));
+    };
+    let (Statement::Declare(x), Statement::If(place, _, accepted, otherwise)) = (first, second)
+    else {
+        return Err(Fail::from("other statements"));
+    };
+    assert!(rt; !x.mutable);
+    assert_eq!(rt; (x.place.column, place.column), (55, 62));
+    assert!(rt; accepted.is_empty() && otherwise.is_empty());
+    Ok(())
+}
+
+#[test]
+fn statements_out_of_place_are_named(rt: HostRuntime) -> Result<(), Fail> {
+    let nested = refusal_after_opening(rt.alloc(), "if (b) { if (b) { } } return 1; }")?;
+    assert_eq!(rt; nested, Some((Rule::UnexpectedToken, 49, 1, 50)));
+    let else_if = refusal_after_opening(rt.alloc(), "if (b) { } else if (b) { } return 1; }")?;
+    assert_eq!(rt; else_if, Some((Rule::UnexpectedToken, 56, 1, 57)));
+    let no_return = refusal_after_opening(rt.alloc(), "public uint32 x = 1; }")?;
+    assert_eq!(rt; no_return, Some((Rule::UnexpectedToken, 61, 1, 62)));
+    let mut_twice = refusal_after_opening(rt.alloc(), "public mut mut uint32 x = 1; return x; }")?;
+    assert_eq!(rt; mut_twice, Some((Rule::UnexpectedToken, 51, 1, 52)));
+    let after_return = refusal_after_opening(rt.alloc(), "return 1; x = 1; }")?;
+    assert_eq!(rt; after_return, Some((Rule::UnexpectedToken, 50, 1, 51)));
     Ok(())
 }
 

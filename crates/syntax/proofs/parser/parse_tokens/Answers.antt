@@ -1,4 +1,4 @@
-use Rattle.std.proofs.Common.{◌≡◌, ap, sym, subst, ◌∙◌, inr}
+use Rattle.std.proofs.Common.{ap, sym, subst, ◌∙◌, inr}
 use Rattle.syntax.specs.Lexeme.{lexemes}
 use Rattle.syntax.specs.Machine.{program, verdict}
 use Rattle.syntax.specs.ParserViews.{nest, FaultIs}

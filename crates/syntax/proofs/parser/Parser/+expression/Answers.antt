@@ -1,6 +1,4 @@
-use Rattle.std.proofs.Common.{◌≡◌, ◌≤◌, ◌+◌, Some, None, Option, arith, rules, ap, sym, subst, refl, ◌∙◌, length}
-use Rattle.syntax.specs.declared.parser.expression.Begins.TheVariants.{Bracket}
-use Rattle.syntax.specs.declared.parser.expression.Joint.{Joint}
+use Rattle.std.proofs.Common.{◌≡◌, ◌+◌, None, arith, rules, ap, sym, subst, refl, ◌∙◌}
 use Rattle.syntax.specs.Grammar.{level_of}
 use Rattle.syntax.specs.Lexeme.{lexeme}
 use Rattle.syntax.specs.Machine.{State, expr, more, one, operand, opening_round, closing_round, a_comma, after_select}

@@ -1,4 +1,4 @@
-use Rattle.std.proofs.Common.{◌≡◌, ◌≤◌, ◌<◌, ℕ, length, ◌+◌, ◌*◌}
+use Rattle.std.proofs.Common.{◌≡◌, ◌≤◌, length, ◌+◌, ◌*◌}
 use Rattle.syntax.specs.Machine.{State, expr, more}
 use Rattle.syntax.specs.ParserViews.{ahead}
 use Rattle.syntax.specs.Tree.{ExprTree, expr_tree}

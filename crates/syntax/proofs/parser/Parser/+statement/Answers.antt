@@ -1,6 +1,5 @@
-use Rattle.std.proofs.Common.{◌≡◌, ◌≤◌, ◌∙◌, ◌++◌, ◌∷◌, [], Bool, None, arith, rules, ap, sym, subst, refl, if◌then◌else◌}
-use Rattle.syntax.specs.Lexeme.{lexeme}
-use Rattle.syntax.specs.Machine.{State, statements, statement, arm, otherwise, conditioned, expr, one, opening_round, closing_round, else_word}
+use Rattle.std.proofs.Common.{◌≡◌, ◌∙◌, None, arith, rules, ap, sym, subst, refl, if◌then◌else◌}
+use Rattle.syntax.specs.Machine.{statements, arm, otherwise, conditioned, expr, one, opening_round, closing_round, else_word}
 use Rattle.syntax.specs.ParserViews.{ahead, after_start}
 use Rattle.syntax.specs.Tree.{ExprTree, BlockTree, nothing, conditional, expr_tree, statement_tree, block_tree}
 use Rattle.syntax.proofs.ParserSteps.{passed, fault-back, leads-after, more_statements}

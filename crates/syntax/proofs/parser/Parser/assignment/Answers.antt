@@ -1,6 +1,6 @@
-use Rattle.std.proofs.Common.{◌≡◌, ◌∙◌, refl}
+use Rattle.std.proofs.Common.{◌∙◌, refl}
 use Rattle.syntax.specs.Lexeme.{Lexeme, lexeme}
-use Rattle.syntax.specs.Machine.{State, assigned, expr, one, an_equals, a_semicolon}
+use Rattle.syntax.specs.Machine.{assigned, expr, one, an_equals, a_semicolon}
 use Rattle.syntax.specs.Tree.{ExprTree, expr_tree, assignment}
 use Rattle.syntax.proofs.ParserSteps.{passed, fault-back}
 use Rattle.syntax.proofs.parser.Parser.assignment.Goals as goal

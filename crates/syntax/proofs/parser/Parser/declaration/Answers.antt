@@ -1,7 +1,7 @@
-use Rattle.std.proofs.Common.{◌≡◌, ◌∙◌, true, false, refl, ap}
+use Rattle.std.proofs.Common.{◌∙◌, true, false, refl, ap}
 use Rattle.syntax.specs.declared.signature.Kind.{Kind}
 use Rattle.syntax.specs.Lexeme.{Lexeme, lexeme}
-use Rattle.syntax.specs.Machine.{State, declared, declared_word, expr, one, a_word, an_equals, a_semicolon, mut_word}
+use Rattle.syntax.specs.Machine.{declared, declared_word, expr, one, a_word, an_equals, a_semicolon, mut_word}
 use Rattle.syntax.specs.ParserViews.{ahead}
 use Rattle.syntax.specs.Tree.{ExprTree, expr_tree, declaration}
 use Rattle.syntax.proofs.ParserSteps.{passed, fault-back}

@@ -1,7 +1,7 @@
-use Rattle.std.proofs.Common.{◌≡◌, ap, sym, refl, ◌∙◌, arith, map, List, [], ◌∷◌, ◌++◌}
-use Rattle.syntax.specs.Machine.{State, parameters, more_parameters, parameter, closing_round, a_comma}
+use Rattle.std.proofs.Common.{ap, sym, refl, ◌∙◌, arith, map, [], ◌∷◌, ◌++◌}
+use Rattle.syntax.specs.Machine.{parameters, more_parameters, parameter, closing_round, a_comma}
 use Rattle.syntax.specs.ParserViews.{ahead}
-use Rattle.syntax.specs.Tree.{ParameterTree, parameter_tree}
+use Rattle.syntax.specs.Tree.{parameter_tree}
 use Rattle.syntax.proofs.ParserSteps.{passed, fault-back, ahead-closes, ahead-opens, ahead-comma, ahead-last, map-push}
 use Rattle.syntax.proofs.parser.Parser.parameters.Goals as goal
 

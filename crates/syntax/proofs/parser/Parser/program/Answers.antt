@@ -1,5 +1,5 @@
-use Rattle.std.proofs.Common.{◌≡◌, ap, sym, refl, ◌∙◌, Some}
-use Rattle.syntax.specs.Machine.{State, program, ended, one, export_word}
+use Rattle.std.proofs.Common.{◌≡◌, sym, refl, ◌∙◌, Some}
+use Rattle.syntax.specs.Machine.{program, ended, export_word}
 use Rattle.syntax.specs.ParserViews.{ahead}
 use Rattle.syntax.specs.Reading.{accepted}
 use Rattle.syntax.specs.Tree.{ProcedureTree, program_tree, procedure_tree}

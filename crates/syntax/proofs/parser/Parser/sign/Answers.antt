@@ -1,4 +1,4 @@
-use Rattle.std.proofs.Common.{◌≡◌, ◌≤◌, arith, sym}
+use Rattle.std.proofs.Common.{◌≤◌, arith, sym}
 use Rattle.syntax.specs.Grammar.{level_of}
 use Rattle.syntax.specs.Lexeme.{lexeme}
 use Rattle.syntax.specs.Machine.{more}

@@ -1,4 +1,4 @@
-use Rattle.std.proofs.Common.{◌≡◌, sym}
+use Rattle.std.proofs.Common.{sym}
 use Rattle.syntax.specs.Lexeme.{lexeme}
 use Rattle.syntax.specs.Machine.{statements, statement}
 use Rattle.syntax.specs.ParserViews.{after_start}

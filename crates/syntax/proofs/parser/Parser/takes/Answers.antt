@@ -1,4 +1,4 @@
-use Rattle.std.proofs.Common.{◌≡◌, ◌∙◌, sym, ap, if◌then◌else◌}
+use Rattle.std.proofs.Common.{◌∙◌, sym, ap, if◌then◌else◌}
 use Rattle.syntax.specs.Machine.{either}
 use Rattle.syntax.specs.ParserViews.{ahead}
 use Rattle.syntax.proofs.ParserSteps.{passed, fault-back, ahead-takes}
