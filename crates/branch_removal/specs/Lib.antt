@@ -2,3 +2,4 @@ pub mod Straight
 pub mod Removal
 pub mod StraightMeaning
 pub mod Fitness
+pub mod Path

@@ -2,3 +2,4 @@ pub mod Bases
 pub mod Loaded
 pub mod Agreement
 pub mod Compiled
+pub mod Followed
