@@ -3,3 +3,4 @@ pub mod StraightCodes
 pub mod Removal
 pub mod StraightMeaning
 pub mod Fitness
+pub mod Path

@@ -1,126 +1,120 @@
--- The arguments: what the names hold, and what lies in the slots.
-use Rattle.std.proofs.Common.{◌≡◌, ℕ, zero, suc, ◌+◌, ◌*◌, ◌%◌, ◌^◌, ◌<◌, ◌≤◌, Bool, true, false, ◌&&◌, cond, nat_le, nat_lt, List, [], ◌∷◌, length, map, Option, Some, None, is_some, refl, sym, ap, ◌∙◌, subst, arith, inl}
+-- The arguments, loaded: what the variables hold, and what lies in the slots.
+use Rattle.std.proofs.Common.{◌≡◌, ℕ, zero, suc, ◌+◌, ◌*◌, ◌/◌, ◌%◌, ◌^◌, ◌<◌, ◌≤◌, true, ◌&&◌, cond, nat_le, nat_lt, List, [], ◌∷◌, length, Some, None, is_some, refl, ap, ap₂, ◌∙◌, subst, arith, inl, inr}
 use Rattle.std.proofs.lemmas.Bool.Decides.{nat_tests}
-use Rattle.std.proofs.lemmas.Option.{none-some, same_Some}
-use Rattle.std.specs.Str.{bytes_eq}
-use Rattle.arguments.specs.Within.{AreWithin, greatest_of}
-use Rattle.codegen.specs.Layout.{param_of, slots_from}
-use Rattle.image.specs.declared.slot.Slot.{Slot}
-use Rattle.rv_machine.specs.Bytes.{ByteMap, number_at, with_number, zeros}
-use Rattle.rv_machine.specs.ByteLaws.{number_at_apart, number_at-with_number, number_at-zero}
-use Rattle.syntax.specs.declared.signature.Label.TheVariants.{Public}
+use Rattle.std.specs.List.{AllByRecursion}
+use Rattle.arguments.specs.Within.{AreWithin, IsWithin, HasShape, greatest_of}
+use Rattle.branch_removal.specs.StraightMeaning.{start}
+use Rattle.codegen.specs.Layout.{variable_offset, control_offset, slots_from}
+use Rattle.codegen.specs.Room.{IsWord}
+use Rattle.inline.specs.FlatMeaning.{given}
+use Rattle.rv_machine.specs.Bytes.{ByteMap, joined, number_at, with_number, zeros}
+use Rattle.rv_machine.specs.ByteLaws.{number_at_apart, number_at-with_number, number_at-zero, number_at-suc}
+use Rattle.rv_machine.specs.Machine.{State}
+use Rattle.syntax.specs.declared.signature.Form.{Form}
+use Rattle.syntax.specs.declared.signature.Kind.{Kind}
+use Rattle.syntax.specs.declared.signature.Kind.TheVariants.{Boolean, Uint8, Uint16, Uint32}
 use Rattle.syntax.specs.declared.signature.Param.{Param}
-use Rattle.syntax.specs.declared.typing.WordType.{WordType}
-use Rattle.syntax.specs.declared.typing.Declared.TheVariants.{Variable}
 use Rattle.syntax.specs.declared.values.Arg.{Arg}
 use Rattle.syntax.specs.declared.values.Arg.TheVariants.{Word, Array}
-use Rattle.syntax.specs.Meaning.{holding}
-use Rattle.syntax.specs.Tree.{ParameterTree}
-use Rattle.syntax.specs.Typing.{parameter_type}
-use Rattle.arguments.specs.Agreement.{EqualWherePublic}
 use Rattle.simulation.specs.Loaded.{with_argument, with_arguments}
-use Rattle.simulation.proofs.Held.{is_some-number_at, data_after}
-use Rattle.simulation.proofs.Parameters.{declared_in, slot_in, same_type}
-use Rattle.simulation.proofs.Values.{greatest}
+use Rattle.simulation.proofs.Values.{Ready}
 
--- the parameters, without their slots
-pub params_from : (low : ℕ) (ps : List ParameterTree) → map (λ (slot : Slot). slot.param) (slots_from low ps) ≡ map param_of ps
-params_from low [] = refl
-params_from low (p ∷ ps) = ap (λ (rest : List Param). param_of p ∷ rest) (params_from (low + 4) ps)
+greatest : (kind : Kind) → greatest_of kind < 2 ^ 32
+greatest Boolean = omega arith
+greatest Uint8 = omega arith
+greatest Uint16 = omega arith
+greatest Uint32 = omega arith
 
--- The frame's bytes.
+-- a single word is no array
+no_array : (p : Param) (words : List ℕ) → IsWord p → IsWithin p (Array words) → ⊥
+no_array p words is within = subst (λ (form : Form). HasShape form p.length (Array words)) is.form within.shape
 
-within : (base n a : ℕ) → base ≤ a → a < base + n → (nat_le base a && nat_lt a (base + n)) ≡ true
-within base n a low high = grind (arith, nat_tests)
+small_word : (p : Param) (w : ℕ) → IsWithin p (Word w) → w < 2 ^ 32
+small_word p w within =
+    let most = greatest p.kind in
+    let fits : w ≤ greatest_of p.kind = within.values 0 0 (omega arith) in
+    omega (arith, most, fits)
 
-pub is_some-zeros : (base n m a : ℕ) → base ≤ a → a + m ≤ base + n → is_some (number_at (zeros base n) m a) ≡ true
-is_some-zeros base n zero a low high = ap is_some (number_at-zero (zeros base n) a)
-is_some-zeros base n (suc m) a low high =
-    is_some-number_at (zeros base n) m a
-    ∙ (ap (λ b. is_some {T = ℕ} (cond b (Some 0) None) && is_some (number_at (zeros base n) m (a + 1))) (within base n a low (omega arith))
-    ∙ is_some-zeros base n m (a + 1) (omega arith) (omega arith))
+-- each variable holds a word in the beginning
+pub given_fits : (ps : List Param) (args : List Arg) (x : ℕ) → AllByRecursion IsWord ps → AreWithin ps args → given args x < 2 ^ 32
+given_fits [] [] x words fits = omega arith
+given_fits [] (arg ∷ args) x words fits = absurd fits
+given_fits (p ∷ ps) [] x words fits = absurd fits
+given_fits (p ∷ ps) (Array ws ∷ args) x words fits = absurd (no_array p ws words.0 fits.0)
+given_fits (p ∷ ps) (Word w ∷ args) zero words fits = small_word p w fits.0
+given_fits (p ∷ ps) (Word w ∷ args) (suc x) words fits = given_fits ps args x words.1 fits.1
 
--- each word of the frame is data
-abbrev pub AllData : ℕ → ℕ → ByteMap → Type 0
-AllData frame size bytes = (o : ℕ) → o % 4 ≡ 0 → o + 4 ≤ size → is_some (number_at bytes 4 (frame + o)) ≡ true
+-- beyond the parameters 0
+given_beyond : (ps : List Param) (args : List Arg) (x : ℕ) → AreWithin ps args → length ps ≤ x → given args x ≡ 0
+given_beyond [] [] x fits beyond = refl
+given_beyond [] (arg ∷ args) x fits beyond = absurd fits
+given_beyond (p ∷ ps) [] x fits beyond = absurd fits
+given_beyond (p ∷ ps) (arg ∷ args) zero fits beyond = absurd (omega (arith, beyond))
+given_beyond (p ∷ ps) (arg ∷ args) (suc x) fits beyond = given_beyond ps args x fits.1 (omega (arith, beyond))
+
+within_zeros : (base n a : ℕ) → base ≤ a → a < base + n → (nat_le base a && nat_lt a (base + n)) ≡ true
+within_zeros base n a low high = grind (arith, nat_tests)
+
+-- each number in the zeros is 0
+number_at-zeros : (base n m a : ℕ) → base ≤ a → a + m ≤ base + n → number_at (zeros base n) m a ≡ Some 0
+number_at-zeros base n zero a low high = number_at-zero (zeros base n) a
+number_at-zeros base n (suc m) a low high =
+    let byte : zeros base n a ≡ Some 0 = ap (λ b. cond b (Some 0) None) (within_zeros base n a low (omega arith)) in
+    number_at-suc (zeros base n) m a ∙ ap₂ joined byte (number_at-zeros base n m (a + 1) (omega arith) (omega arith))
 
 module _ (frame size : ℕ) where
-  one_argument : (bytes : ByteMap) (low : ℕ) (p : ParameterTree) (arg : Arg) → low % 4 ≡ 0 → low + 4 ≤ size → AllData frame size bytes → AllData frame size (with_argument frame bytes (record { param = param_of p; offset = low }) arg)
-  one_argument bytes low p (Word w) aligned room there o even inside = data_after bytes (frame + low) w (frame + o) (there low aligned room) ∙ there o even inside
-  one_argument bytes low p (Array ws) aligned room there o even inside = there o even inside
-
-  pub all_arguments : (bytes : ByteMap) (low : ℕ) (ps : List ParameterTree) (args : List Arg) → low % 4 ≡ 0 → low + 4 * length ps ≤ size → AllData frame size bytes → AllData frame size (with_arguments frame bytes (slots_from low ps) args)
-  all_arguments bytes low [] args aligned room there = there
-  all_arguments bytes low (p ∷ ps) [] aligned room there = there
-  all_arguments bytes low (p ∷ ps) (arg ∷ args) aligned room there =
-      all_arguments (with_argument frame bytes (record { param = param_of p; offset = low }) arg) (low + 4) ps args (omega arith) (omega arith)
-      (one_argument bytes low p arg aligned (omega arith) there)
-
-  below_one : (bytes : ByteMap) (low : ℕ) (p : ParameterTree) (arg : Arg) (x : ℕ) → x + 4 ≤ low → number_at (with_argument frame bytes (record { param = param_of p; offset = low }) arg) 4 (frame + x) ≡ number_at bytes 4 (frame + x)
+  below_one : (bytes : ByteMap) (low : ℕ) (p : Param) (arg : Arg) (x : ℕ) → x + 4 ≤ low → number_at (with_argument frame bytes (record { param = p; offset = low }) arg) 4 (frame + x) ≡ number_at bytes 4 (frame + x)
   below_one bytes low p (Word w) x below = number_at_apart bytes 4 (frame + low) w 4 (frame + x) (inl (omega arith))
   below_one bytes low p (Array ws) x below = refl
 
   -- words below the slots stay as they are
-  below_all : (bytes : ByteMap) (low : ℕ) (ps : List ParameterTree) (args : List Arg) (x : ℕ) → x + 4 ≤ low → number_at (with_arguments frame bytes (slots_from low ps) args) 4 (frame + x) ≡ number_at bytes 4 (frame + x)
+  below_all : (bytes : ByteMap) (low : ℕ) (ps : List Param) (args : List Arg) (x : ℕ) → x + 4 ≤ low → number_at (with_arguments frame bytes (slots_from low ps) args) 4 (frame + x) ≡ number_at bytes 4 (frame + x)
   below_all bytes low [] args x below = refl
   below_all bytes low (p ∷ ps) [] x below = refl
   below_all bytes low (p ∷ ps) (arg ∷ args) x below =
-      below_all (with_argument frame bytes (record { param = param_of p; offset = low }) arg) (low + 4) ps args x (omega arith) ∙ below_one bytes low p arg x below
+      below_all (with_argument frame bytes (record { param = p; offset = low }) arg) (low + 4) ps args x (omega arith) ∙ below_one bytes low p arg x below
 
-  -- a variable's value, in its slot
-  pub record IsHeld (bytes : ByteMap) (type : WordType) (held : Option ℕ) (slot : Option ℕ) (v : ℕ) : Type 0 where
-    pub holds : held ≡ Some v
-    pub fits : v ≤ greatest_of type.kind
-    pub there : (o : ℕ) → slot ≡ Some o → number_at bytes 4 (frame + o) ≡ Some v
+  -- from an offset on each word is 0
+  IsBlank : ℕ → ByteMap → Type 0
+  IsBlank low bytes = (o : ℕ) → low ≤ o → o + 4 ≤ size → number_at bytes 4 (frame + o) ≡ Some 0
 
-  module _ (bytes : ByteMap) (low : ℕ) (p : ParameterTree) (ps : List ParameterTree) (w : ℕ) (args : List Arg) (small : w ≤ greatest_of p.kind) (text : List ℕ) (type : WordType) where
-    next : ByteMap
-    next = with_arguments frame (with_number bytes 4 (frame + low) w) (slots_from (low + 4) ps) args
+  -- the arguments lie in their order, and zeros after them
+  laid : (bytes : ByteMap) (low : ℕ) (ps : List Param) (args : List Arg) (x : ℕ) → AllByRecursion IsWord ps → AreWithin ps args → IsBlank low bytes → low + 4 * x + 4 ≤ size → number_at (with_arguments frame bytes (slots_from low ps) args) 4 (frame + (low + 4 * x)) ≡ Some (given args x)
+  unfolding IsBlank
+  laid bytes low [] [] x words fits blank room = blank (low + 4 * x) (omega arith) room
+  laid bytes low [] (arg ∷ args) x words fits blank room = absurd fits
+  laid bytes low (p ∷ ps) [] x words fits blank room = absurd fits
+  laid bytes low (p ∷ ps) (Array ws ∷ args) x words fits blank room = absurd (no_array p ws words.0 fits.0)
+  laid bytes low (p ∷ ps) (Word w ∷ args) zero words fits blank room =
+      let small = small_word p w fits.0 in
+      let cut : w % 256 ^ 4 ≡ w = omega (arith, small) in
+      let start : low + 4 * 0 ≡ low = omega arith in
+      let next = with_number bytes 4 (frame + low) w in
+      ap (λ o. number_at (with_arguments frame next (slots_from (low + 4) ps) args) 4 (frame + o)) start
+      ∙ (below_all next (low + 4) ps args low (omega arith) ∙ (number_at-with_number bytes 4 (frame + low) w ∙ ap Some cut))
+  laid bytes low (p ∷ ps) (Word w ∷ args) (suc x) words fits blank room =
+      let step : low + 4 * suc x ≡ (low + 4) + 4 * x = omega arith in
+      let next = with_number bytes 4 (frame + low) w in
+      ap (λ o. number_at (with_arguments frame next (slots_from (low + 4) ps) args) 4 (frame + o)) step
+      ∙ laid next (low + 4) ps args x words.1 fits.1 (λ o above inside. number_at_apart bytes 4 (frame + low) w 4 (frame + o) (inr (omega (arith, above))) ∙ blank o (omega (arith, above)) inside) (omega (arith, room, step))
 
-    first_there : (o : ℕ) → Some low ≡ Some o → number_at next 4 (frame + o) ≡ Some w
-    unfolding next
-    first_there o e =
-        let same = same_Some low o e in
-        let most = greatest p.kind in
-        let cut : w % 256 ^ 4 ≡ w = omega (arith, small, most) in
-        ap (λ x. number_at (with_arguments frame (with_number bytes 4 (frame + low) w) (slots_from (low + 4) ps) args) 4 (frame + x)) (sym same)
-        ∙ (below_all (with_number bytes 4 (frame + low) w) (low + 4) ps args low (omega arith) ∙ (number_at-with_number bytes 4 (frame + low) w ∙ ap Some cut))
+  -- the word of the frame with a number
+  word_at : (ps : List Param) (args : List Arg) (o x : ℕ) → o ≡ 4 * x → AllByRecursion IsWord ps → AreWithin ps args → o + 4 ≤ size → number_at (with_arguments frame (zeros frame size) (slots_from 0 ps) args) 4 (frame + o) ≡ Some (given args x)
+  unfolding IsBlank
+  word_at ps args o x is words fits room =
+      let same : o ≡ 0 + 4 * x = omega (arith, is) in
+      ap (λ a. number_at (with_arguments frame (zeros frame size) (slots_from 0 ps) args) 4 (frame + a)) same
+      ∙ laid (zeros frame size) 0 ps args x words fits (λ a low inside. number_at-zeros frame size 4 (frame + a) (omega arith) (omega (arith, inside))) (omega (arith, room, is))
 
-    by_name : (b : Bool) → (declared_in ps text ≡ Some (Variable type) → (v : ℕ) × IsHeld next type (holding ps args text) (slot_in (low + 4) ps text) v) → cond b (Some (Variable (parameter_type p))) (declared_in ps text) ≡ Some (Variable type) → (v : ℕ) × IsHeld next type (cond b (Some w) (holding ps args text)) (cond b (Some low) (slot_in (low + 4) ps text)) v
-    by_name true rest h = (w, record { holds = refl; fits = subst (λ (t : WordType). w ≤ greatest_of t.kind) (same_type (parameter_type p) type h) small; there = first_there })
-    by_name false rest h = rest h
+  module _ (variables controls : ℕ) (ps : List Param) (args : List Arg) (few : length ps ≤ variables) (room : control_offset variables controls ≤ size) (words : AllByRecursion IsWord ps) (fits : AreWithin ps args) (s : State) (base : s.regs 2 ≡ frame) (bytes : s.bytes ≡ with_arguments frame (zeros frame size) (slots_from 0 ps) args) where
+    there : (o x : ℕ) → o ≡ 4 * x → o + 4 ≤ size → number_at s.bytes 4 (frame + o) ≡ Some (given args x)
+    there o x is inside = ap (λ (b : ByteMap). number_at b 4 (frame + o)) bytes ∙ word_at ps args o x is words fits inside
 
-  all_held : (bytes : ByteMap) (low : ℕ) (ps : List ParameterTree) (args : List Arg) → AreWithin (map param_of ps) args → (text : List ℕ) (type : WordType) → declared_in ps text ≡ Some (Variable type) → (v : ℕ) × IsHeld (with_arguments frame bytes (slots_from low ps) args) type (holding ps args text) (slot_in low ps text) v
-  unfolding next
-  all_held bytes low [] args fits text type h = absurd (none-some _ h)
-  all_held bytes low (p ∷ ps) [] fits text type h = absurd fits
-  all_held bytes low (p ∷ ps) (Array ws ∷ args) fits text type h = absurd fits.0.shape
-  all_held bytes low (p ∷ ps) (Word w ∷ args) fits text type h =
-      by_name bytes low p ps w args (fits.0.values 0 0 (omega arith)) text type (bytes_eq text p.name) (all_held (with_number bytes 4 (frame + low) w) (low + 4) ps args fits.1 text type) h
-
-  pub held_arguments : (bytes : ByteMap) (low : ℕ) (ps : List ParameterTree) (args : List Arg) → AreWithin (map param_of ps) args → (text : List ℕ) (type : WordType) → declared_in ps text ≡ Some (Variable type) → (v : ℕ) × IsHeld (with_arguments frame bytes (slots_from low ps) args) type (holding ps args text) (slot_in low ps text) v
-  held_arguments = all_held
-
--- Arguments that agree.
-
-word_of : Arg → Option ℕ
-word_of (Word w) = Some w
-word_of (Array ws) = None
-
-same_word : (a b : ℕ) → Word a ≡ Word b → Some a ≡ Some b
-unfolding word_of
-same_word a b h = ap word_of h
-
-agree_by : (p : ParameterTree) (ps : List ParameterTree) (a b : ℕ) (one other : List Arg) (text : List ℕ) (type : WordType) → (p.label ≡ Public → Word a ≡ Word b) → type.label ≡ Public → (t : Bool) → (declared_in ps text ≡ Some (Variable type) → holding ps one text ≡ holding ps other text) → cond t (Some (Variable (parameter_type p))) (declared_in ps text) ≡ Some (Variable type) → cond t (Some a) (holding ps one text) ≡ cond t (Some b) (holding ps other text)
-agree_by p ps a b one other text type equal label true rest h = same_word a b (equal (ap (λ (x : WordType). x.label) (same_type (parameter_type p) type h) ∙ label))
-agree_by p ps a b one other text type equal label false rest h = rest h
-
--- public names hold the same
-pub held_agree : (ps : List ParameterTree) (one other : List Arg) → AreWithin (map param_of ps) one → AreWithin (map param_of ps) other → EqualWherePublic (map param_of ps) one other → (text : List ℕ) (type : WordType) → declared_in ps text ≡ Some (Variable type) → type.label ≡ Public → holding ps one text ≡ holding ps other text
-held_agree [] one other a b equal text type h label = absurd (none-some _ h)
-held_agree (p ∷ ps) [] other a b equal text type h label = absurd a
-held_agree (p ∷ ps) (x ∷ one) [] a b equal text type h label = absurd b
-held_agree (p ∷ ps) (Array xs ∷ one) (y ∷ other) a b equal text type h label = absurd a.0.shape
-held_agree (p ∷ ps) (Word x ∷ one) (Array ys ∷ other) a b equal text type h label = absurd b.0.shape
-held_agree (p ∷ ps) (Word x ∷ one) (Word y ∷ other) a b equal text type h label =
-    agree_by p ps x y one other text type equal.0 label (bytes_eq text p.name) (λ g. held_agree ps one other a.1 b.1 equal.1 text type g label) h
+    -- the beginning of a run
+    pub loaded : Ready frame size variables controls (start args) s
+    loaded = record {
+      held = record { base = base; data_there = λ o aligned inside. ap is_some (there o (o / 4) (omega (arith, aligned)) inside) };
+      words = λ x below. given_fits ps args x words fits;
+      variables_there = λ x below. there (variable_offset x) x refl (omega (arith, below, room));
+      controls_there = λ c below. there (control_offset variables c) (variables + 1 + c) (omega arith) (omega (arith, below, room)) ∙ ap Some (given_beyond ps args (variables + 1 + c) fits (omega (arith, few)));
+    }

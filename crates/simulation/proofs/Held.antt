@@ -3,12 +3,16 @@ use Rattle.std.proofs.Common.{◌≡◌, ℕ, zero, suc, ◌+◌, ◌%◌, ◌�
 use Rattle.rv_machine.specs.Bytes.{ByteMap, joined, number_at, with_number}
 use Rattle.rv_machine.specs.ByteLaws.{number_at-suc, number_at-zero, is_some-with_number}
 use Rattle.rv_machine.specs.Machine.{State}
-use Rattle.syntax.specs.Meaning as meaning
+use Rattle.branch_removal.specs.StraightMeaning.{StraightState}
 
 -- x2 has the frame's base, and the frame's words are data
-pub record Held (frame size : ℕ) (env : meaning.State) (s : State) : Type 0 where
+pub record HeldAt (frame size : ℕ) (s : State) : Type 0 where
   pub base : s.regs 2 ≡ frame
   pub data_there : (o : ℕ) → o % 4 ≡ 0 → o + 4 ≤ size → is_some (number_at s.bytes 4 (frame + o)) ≡ true
+
+-- beside any state of straight code
+abbrev pub Held : ℕ → ℕ → StraightState → State → Type 0
+Held frame size env s = HeldAt frame size s
 
 is_some-joined : (a b : Option ℕ) → is_some (joined a b) ≡ (is_some a && is_some b)
 is_some-joined (Some x) (Some y) = refl

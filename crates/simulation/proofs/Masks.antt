@@ -1,14 +1,17 @@
--- What operators and the choice by a mask compute.
-use Rattle.std.proofs.Common.{◌≡◌, ℕ, zero, suc, ◌+◌, ◌%◌, ◌^◌, ◌<◌, ◌≤◌, ◌==◌, if◌then◌else◌, bit_and, bit_xor, refl, ap, ◌∙◌, arith, ne_eqb}
+-- What operators, the choice by a mask and control values compute.
+use Rattle.std.proofs.Common.{◌≡◌, ℕ, Bool, true, false, not, ◌&&◌, zero, suc, ◌+◌, ◌%◌, ◌^◌, ◌<◌, ◌≤◌, ◌==◌, if◌then◌else◌, bit_and, bit_xor, refl, sym, ap, ◌∙◌, arith, ne_eqb}
 use Rattle.std.specs.Int.{bit_at}
 use Rattle.std.specs.Int.Bits.{and_zero_r, xor_zero_r}
 use Rattle.std.proofs.lemmas.Nat.{and_mask, and_le_l, xor_of_32}
 use Rattle.std.proofs.lemmas.Nat.Bits.{bit_at_xor, bit_at-lt, same_from_bits}
-use Rattle.rv_machine.specs.Effects.{difference_of, register_value}
+use Rattle.rv_machine.specs.Effects.{sum_of, difference_of, register_value}
 use Rattle.codegen.specs.Emitted.{operation_of}
 use Rattle.syntax.specs.declared.tree.BinaryOperator.{BinaryOperator}
 use Rattle.syntax.specs.declared.tree.BinaryOperator.TheVariants.{BitXor, BitAnd, Add, Subtract}
-use Rattle.syntax.specs.Meaning.{operated}
+use Rattle.syntax.specs.Meaning.{bit_of, operated}
+use Rattle.branch_removal.specs.Fitness.{IsFit}
+use Rattle.inline.specs.Flat.{TermTree, number, truth, variable, binary, select}
+use Rattle.inline.specs.FlatMeaning.{Values, value_in}
 
 -- the choice of a where c is 1, of b where c is 0
 abbrev pub chosen : ℕ → ℕ → ℕ → ℕ
@@ -45,8 +48,70 @@ operation BitAnd a b h = refl
 operation Add a b h = refl
 operation Subtract a b h = omega arith
 
-pub operated-fits : (operator : BinaryOperator) (a b : ℕ) → a ≤ 4294967295 → b ≤ 4294967295 → operated operator a b ≤ 4294967295
-operated-fits BitXor a b p q = let h = xor_of_32 a b (omega arith) (omega arith) in omega (arith, h)
-operated-fits BitAnd a b p q = let h = and_le_l a b in omega (arith, h)
+-- Control values.
+
+-- a control value's word
+abbrev pub mask_of : Bool → ℕ
+mask_of b = if b then 4294967295 else 0
+
+pub mask_fits : (b : Bool) → mask_of b < 2 ^ 32
+mask_fits true = omega arith
+mask_fits false = omega arith
+
+-- the masks of a condition
+pub mask_when : (v : ℕ) → v < 2 → difference_of 0 v ≡ mask_of (not (v == 0))
+mask_when zero h = refl
+mask_when (suc v) h =
+    let e : suc v ≡ 1 = omega arith in
+    ap (λ x. difference_of 0 x) e ∙ ap (λ x. mask_of (not (x == 0))) (sym e)
+
+pub mask_otherwise : (v : ℕ) → v < 2 → sum_of v 4294967295 ≡ mask_of (v == 0)
+mask_otherwise zero h = refl
+mask_otherwise (suc v) h =
+    let e : suc v ≡ 1 = omega arith in
+    ap (λ x. sum_of x 4294967295) e ∙ ap (λ x. mask_of (x == 0)) (sym e)
+
+-- two masks joined, the enclosing one second
+pub masks_join : (outer inner : Bool) → bit_and (mask_of inner) (mask_of outer) ≡ mask_of (outer && inner)
+masks_join true true = refl
+masks_join true false = refl
+masks_join false true = refl
+masks_join false false = refl
+
+-- the new word under a mask, and the old one elsewhere
+abbrev pub merged : ℕ → ℕ → ℕ → ℕ
+merged mask old new = bit_xor old (bit_and (bit_xor new old) mask)
+
+all_ones : (x : ℕ) → x < 2 ^ 32 → bit_and x 4294967295 ≡ x
+all_ones x below =
+    let m = and_mask x 32 in
+    let same : x % 2 ^ 32 ≡ x = omega arith in
+    m ∙ same
+
+pub merge : (b : Bool) (old new : ℕ) → old < 2 ^ 32 → new < 2 ^ 32 → merged (mask_of b) old new ≡ (if b then new else old)
+merge true old new p q = ap (λ x. bit_xor old x) (all_ones (bit_xor new old) (xor_of_32 new old q p)) ∙ xor_back new old
+merge false old new p q = ap (λ x. bit_xor old x) (and_zero_r (bit_xor new old)) ∙ xor_zero_r old
+
+-- Values that are words.
+
+operated-fits : (operator : BinaryOperator) (a b : ℕ) → a < 2 ^ 32 → b < 2 ^ 32 → operated operator a b < 2 ^ 32
+operated-fits BitXor a b p q = xor_of_32 a b p q
+operated-fits BitAnd a b p q = let h = and_le_l a b in omega (arith, h, p)
 operated-fits Add a b p q = omega arith
 operated-fits Subtract a b p q = omega arith
+
+picked : (c a b : ℕ) → a < 2 ^ 32 → b < 2 ^ 32 → (if c == 0 then b else a) < 2 ^ 32
+picked zero a b p q = q
+picked (suc c) a b p q = rw (ne_eqb (suc c) 0 (λ z. omega arith)) p
+
+pub bit-fits : (b : Bool) → bit_of b < 2 ^ 32
+bit-fits true = omega arith
+bit-fits false = omega arith
+
+-- an expression that is fit has a word for its value
+pub value_fits : (m : Values) (e : TermTree) → IsFit m e → value_in m e < 2 ^ 32
+value_fits m (number value) fit = fit
+value_fits m (truth value) fit = bit-fits value
+value_fits m (variable x) fit = fit
+value_fits m (binary operator left right) fit = operated-fits operator (value_in m left) (value_in m right) (value_fits m left fit.0) (value_fits m right fit.1)
+value_fits m (select condition accepted otherwise) fit = picked (value_in m condition) (value_in m accepted) (value_in m otherwise) (value_fits m accepted fit.2) (value_fits m otherwise fit.3)

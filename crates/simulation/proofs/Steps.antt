@@ -18,9 +18,9 @@ use Rattle.rv_machine.specs.Leakage.{Leads, stays, turns}
 use Rattle.rv_machine.specs.Machine.{State, Code, ending_of, with_value, with_stored}
 use Rattle.rv_machine.specs.Registers.{register, with_register}
 use Rattle.rv_machine.specs.TurnLaws.{IsAt, turn_of, with_value-pc, with_value-regs, with_value-bytes, with_stored-pc, with_stored-regs, with_stored-bytes, load_leads, store_leads}
-use Rattle.syntax.specs.Meaning as meaning
+use Rattle.branch_removal.specs.StraightMeaning.{StraightState}
 use Rattle.simulation.specs.Compiled.{IsInside}
-use Rattle.simulation.proofs.Straight.{Placed, Before, Runs}
+use Rattle.simulation.proofs.Straight.{none, always, Placed, Before, Runs}
 
 -- asked of no state
 abbrev pub Always : Before
@@ -62,24 +62,24 @@ stands code p i is placed ok s at = subst (λ q. IsAt code q i) (sym at) (record
 next_pc : (pc p q : ℕ) → pc ≡ p → p + 4 < 2 ^ 32 → q ≡ (pc + 4) % 2 ^ 32 → q ≡ p + 4
 next_pc pc p q at below e = omega arith
 
-shown : (code : Code) (s t : State) (p a b : ℕ) (e : ℕ → Option Event) → s.pc ≡ p → b ≡ a → Leads code 1 s (record { pc = s.pc; event = e b } ∷ []) t → Leads code 1 s (record { pc = p; event = e a } ∷ []) t
-shown code s t p a b e at is leads =
+observed : (code : Code) (s t : State) (p a b : ℕ) (e : ℕ → Option Event) → s.pc ≡ p → b ≡ a → Leads code 1 s (record { pc = s.pc; event = e b } ∷ []) t → Leads code 1 s (record { pc = p; event = e a } ∷ []) t
+observed code s t p a b e at is leads =
     let first = subst (λ x. Leads code 1 s (record { pc = s.pc; event = e x } ∷ []) t) is leads in
     subst (λ x. Leads code 1 s (record { pc = x; event = e a } ∷ []) t) at first
 
 -- the address of a load or a store, and that data is there
-pub record Fit (rs offset a : ℕ) (env : meaning.State) (s : State) : Type 0 where
+pub record Fit (rs offset a : ℕ) (env : StraightState) (s : State) : Type 0 where
   pub address : address_of s.regs rs offset ≡ a
   pub data_there : is_some (number_at s.bytes 4 a) ≡ true
 
 -- a register has the number that is there
-pub record Reads (rd a : ℕ) (env : meaning.State) (s t : State) : Type 0 where
+pub record Reads (rd a : ℕ) (env : StraightState) (s t : State) : Type 0 where
   pub there : number_at s.bytes 4 a ≡ Some (t.regs rd)
   pub others : (q : ℕ) → q ≢ rd → t.regs q ≡ s.regs q
   pub same : t.bytes ≡ s.bytes
 
 -- the number is put there
-pub record Writes (rs a : ℕ) (env : meaning.State) (s t : State) : Type 0 where
+pub record Writes (rs a : ℕ) (env : StraightState) (s t : State) : Type 0 where
   pub written : t.bytes ≡ with_number s.bytes 4 a (register s.regs rs)
   pub same : t.regs ≡ s.regs
 
@@ -89,27 +89,30 @@ some_of None h = absurd (false≢true h)
 
 module _ (code : Code) (frame size : ℕ) where
   -- an instruction that writes a register
-  pub computing : (i : Instr) (rd : ℕ) (value : (ℕ → ℕ) → ℕ) → IsInstr i → rd ≢ 0 → ((pc : ℕ) (regs : ℕ → ℕ) → effect_of i pc regs ≡ Computes rd (value regs)) → Runs code frame size (i ∷ []) Always (λ env s t. Moves rd (value s.regs) s t)
+  pub computing : (i : Instr) (rd : ℕ) (value : (ℕ → ℕ) → ℕ) → IsInstr i → rd ≢ 0 → ((pc : ℕ) (regs : ℕ → ℕ) → effect_of i pc regs ≡ Computes rd (value regs)) → Runs code frame size none (i ∷ []) Always (λ env s t. Moves rd (value s.regs) s t)
   computing i rd value ok nonzero effect p placed = record {
-    seen = record { pc = p; event = None } ∷ [];
-    inside = All-one (λ (o : Observation). IsInside frame size o.event) (record { pc = p; event = None }) tt;
-    runs = λ env s at fit.
+    leak = always (record { pc = p; event = None } ∷ []);
+    runs = λ env s rest at fit.
+        let inside = All-one (λ (o : Observation). IsInside frame size o.event) (record { pc = p; event = None }) tt in
         let v = value s.regs in
         let turn = turn_of code s i _ (stands code p i [] placed ok s at) (ap (λ e. ending_of e s) (effect s.pc s.regs) ∙ ending_of-Computes rd v s) in
         record {
           end = with_value s rd v;
-          leads = shown code s (with_value s rd v) p 0 0 (λ a. None) at refl (turns turn stays);
+          seen = record { pc = p; event = None } ∷ [];
+          shown = refl;
+          inside = inside;
+          leads = observed code s (with_value s rd v) p 0 0 (λ a. None) at refl (turns turn stays);
           at = next_pc s.pc p _ at placed.1 (with_value-pc s rd v);
           done = moved s rd v nonzero;
         };
   }
 
   -- a load
-  pub loading : (rd rs offset a : ℕ) → IsInstr (instr.Load Lw rd rs offset) → rd ≢ 0 → a % 4 ≡ 0 → frame ≤ a → a + 4 ≤ frame + size → Runs code frame size (instr.Load Lw rd rs offset ∷ []) (Fit rs offset a) (Reads rd a)
+  pub loading : (rd rs offset a : ℕ) → IsInstr (instr.Load Lw rd rs offset) → rd ≢ 0 → a % 4 ≡ 0 → frame ≤ a → a + 4 ≤ frame + size → Runs code frame size none (instr.Load Lw rd rs offset ∷ []) (Fit rs offset a) (Reads rd a)
   loading rd rs offset a ok nonzero even low high p placed = record {
-    seen = record { pc = p; event = Some (event.Load a Word) } ∷ [];
-    inside = All-one (λ (o : Observation). IsInside frame size o.event) (record { pc = p; event = Some (event.Load a Word) }) (low, high);
-    runs = λ env s at fit.
+    leak = always (record { pc = p; event = Some (event.Load a Word) } ∷ []);
+    runs = λ env s rest at fit.
+        let inside = All-one (λ (o : Observation). IsInside frame size o.event) (record { pc = p; event = Some (event.Load a Word) }) (low, high) in
         let found = some_of (number_at s.bytes 4 a) fit.data_there in
         let v = found.0 in
         let is = fit.address in
@@ -118,25 +121,31 @@ module _ (code : Code) (frame size : ℕ) where
         let moves = moved s rd v nonzero in
         record {
           end = with_value s rd v;
-          leads = shown code s (with_value s rd v) p a b (λ x. Some (event.Load x Word)) at is leads;
+          seen = record { pc = p; event = Some (event.Load a Word) } ∷ [];
+          shown = refl;
+          inside = inside;
+          leads = observed code s (with_value s rd v) p a b (λ x. Some (event.Load x Word)) at is leads;
           at = next_pc s.pc p _ at placed.1 (with_value-pc s rd v);
           done = record { there = found.1 ∙ ap Some (sym moves.there); others = moves.others; same = moves.same };
         };
   }
 
   -- a store
-  pub storing : (rs2 rs offset a : ℕ) → IsInstr (instr.Store Sw rs2 rs offset) → a % 4 ≡ 0 → frame ≤ a → a + 4 ≤ frame + size → Runs code frame size (instr.Store Sw rs2 rs offset ∷ []) (Fit rs offset a) (Writes rs2 a)
+  pub storing : (rs2 rs offset a : ℕ) → IsInstr (instr.Store Sw rs2 rs offset) → a % 4 ≡ 0 → frame ≤ a → a + 4 ≤ frame + size → Runs code frame size none (instr.Store Sw rs2 rs offset ∷ []) (Fit rs offset a) (Writes rs2 a)
   storing rs2 rs offset a ok even low high p placed = record {
-    seen = record { pc = p; event = Some (event.Store a Word) } ∷ [];
-    inside = All-one (λ (o : Observation). IsInside frame size o.event) (record { pc = p; event = Some (event.Store a Word) }) (low, high);
-    runs = λ env s at fit.
+    leak = always (record { pc = p; event = Some (event.Store a Word) } ∷ []);
+    runs = λ env s rest at fit.
+        let inside = All-one (λ (o : Observation). IsInside frame size o.event) (record { pc = p; event = Some (event.Store a Word) }) (low, high) in
         let is = fit.address in
         let b = address_of s.regs rs offset in
         let v = register s.regs rs2 in
         let leads = store_leads code s Sw rs2 rs offset (stands code p _ [] placed ok s at) (ap (λ x. x % 4) is ∙ even) (ap (λ x. is_some (number_at s.bytes 4 x)) is ∙ fit.data_there) in
         record {
           end = with_stored s Word b v;
-          leads = shown code s (with_stored s Word b v) p a b (λ x. Some (event.Store x Word)) at is leads;
+          seen = record { pc = p; event = Some (event.Store a Word) } ∷ [];
+          shown = refl;
+          inside = inside;
+          leads = observed code s (with_stored s Word b v) p a b (λ x. Some (event.Store x Word)) at is leads;
           at = next_pc s.pc p _ at placed.1 (with_stored-pc s Sw b v);
           done = record { written = with_stored-bytes s Sw b v ∙ ap (λ x. with_number s.bytes 4 x v) is; same = with_stored-regs s Sw b v };
         };

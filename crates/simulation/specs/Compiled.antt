@@ -2,7 +2,7 @@
 use Rattle.std.specs.Prelude.{◌≡◌, ℕ, ◌+◌, ◌*◌, ◌%◌, ◌^◌, ◌<◌, ◌≤◌, List, length, map, Option, Some, None, All}
 use Rattle.std.specs.Option.{option_map}
 use Rattle.arguments.specs.Within.{AreWithin}
-use Rattle.codegen.specs.Layout.{param_of}
+use Rattle.inline.specs.Numbering.{param_of}
 use Rattle.image.specs.Fields.{Fields}
 use Rattle.image.specs.declared.slot.ResultSlot.{ResultSlot}
 use Rattle.rv_machine.specs.Leakage.{Halts}

@@ -1,3 +1,4 @@
 pub mod Bases
 pub mod Loaded
 pub mod Compiled
+pub mod Followed

@@ -5,4 +5,4 @@
 
 mod laws;
 
-pub use laws::{bases_fit, images_are_compiled, one_outcome, texts_are_compiled};
+pub use laws::{bases_fit, straight_code_is_followed};
