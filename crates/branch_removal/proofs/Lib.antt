@@ -8,3 +8,4 @@ pub mod Held
 pub mod Fit
 pub mod BranchTrees
 pub mod FewControls
+pub mod Paths

@@ -10,6 +10,8 @@ ghost use Rattle.syntax.specs.Size.{nodes_of};
 ghost use Rattle.syntax.specs.Tree.{ProcedureTree};
 ghost use Rattle.syntax.specs.declared.values.Arg.{Arg};
 ghost use Rattle.branch_removal.specs.Fitness.{IsFitOn};
+ghost use Rattle.arguments.specs.Agreement.{Agree};
+ghost use Rattle.branch_removal.specs.Path.{path_of};
 ghost use Rattle.branch_removal.specs.Removal.{controls_in_all, straightened};
 ghost use Rattle.branch_removal.specs.StraightMeaning.{outcome_of as outcome_of_straight};
 
@@ -26,4 +28,10 @@ pub fn straight_is_fit()
 /// There are no more control values than nodes.
 pub fn controls_are_few()
     ensures { (p : ProcedureTree) → controls_in_all (flattened p).body ≤ nodes_of p }
+{}
+
+/// On arguments that are equal where they are public, the path is one and the same.
+pub fn public_paths_agree()
+    ensures { (p : FlatProgram) (one other : List Arg) → IsTypedProgram p → Agree p.parameters one other
+        → path_of (straightened p) one ≡ path_of (straightened p) other }
 {}

@@ -7,6 +7,6 @@ mod laws;
 mod removal;
 mod straight;
 
-pub use laws::{controls_are_few, removal_keeps_outcome, straight_is_fit};
+pub use laws::{controls_are_few, public_paths_agree, removal_keeps_outcome, straight_is_fit};
 pub use removal::remove;
 pub use straight::{Straight, StraightStatement};

@@ -14,3 +14,5 @@ pub mod Arguments
 pub mod Placing
 pub mod WholeRuns
 pub mod BaseLemmas
+mod Compiler
+mod TextLemmas

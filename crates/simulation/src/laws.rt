@@ -1,20 +1,57 @@
 // The laws, which hold of the definitions alone.
 
-ghost use Rattle.std.specs.Prelude.{◌≡◌, ℕ, ◌+◌, ◌*◌, ◌<◌, ◌≤◌, List, length, Some};
+ghost use Rattle.std.specs.Prelude.{◌≡◌, ℕ, ◌+◌, ◌*◌, ◌<◌, List, length, Some};
+ghost use Rattle.branch_removal.specs.Removal.{straightened};
 ghost use Rattle.branch_removal.specs.Straight.{StraightProgram};
 ghost use Rattle.codegen.specs.Generated.{image_of};
 ghost use Rattle.codegen.specs.Room.{HasRoom};
 ghost use Rattle.image.specs.Fields.{Fields};
-ghost use Rattle.syntax.specs.Size.{nodes_of};
-ghost use Rattle.syntax.specs.Tree.{ProcedureTree};
+ghost use Rattle.inline.specs.Numbering.{flattened};
+ghost use Rattle.syntax.specs.Grammatical.{IsGrammatical};
+ghost use Rattle.syntax.specs.Reading.{Reads, accepted};
+ghost use Rattle.syntax.specs.Size.{nodes_of, size_violations};
+ghost use Rattle.syntax.specs.Tree.{ProcedureTree, ProgramTree};
+ghost use Rattle.syntax.specs.Typing.{procedure_violations, violations};
 ghost use Rattle.simulation.specs.Bases.{code_base, frame_base};
 ghost use Rattle.simulation.specs.Compiled.{AreBases, IsCompiled};
 ghost use Rattle.simulation.specs.Followed.{IsFollowed};
+
+use branch_removal::{public_paths_agree, removal_keeps_outcome, straight_is_fit};
+use codegen::limits_leave_room;
+use inline::{flat_is_typed, flat_keeps_meaning, flat_values_fit, public_results_agree};
+use syntax::texts_are_grammatical;
 
 /// The machine follows straight code, on the image that is generated for it.
 pub fn straight_code_is_followed()
     ensures { (p : StraightProgram) (code frame : ℕ) → HasRoom p → AreBases (image_of p) code frame → IsFollowed p code frame }
 {}
+
+/// The image that is generated for a procedure of the grammar, which violates no rule and no
+/// limit, is that procedure, compiled.
+pub fn images_are_compiled()
+    ensures { (p : ProcedureTree) → length (procedure_violations p) ≡ 0 → length (size_violations p) ≡ 0 → IsGrammatical p
+        → IsCompiled p (image_of (straightened (flattened p))) }
+{
+    flat_is_typed();
+    flat_keeps_meaning();
+    flat_values_fit();
+    public_results_agree();
+    removal_keeps_outcome();
+    straight_is_fit();
+    public_paths_agree();
+    limits_leave_room();
+    straight_code_is_followed();
+}
+
+/// The image that is generated for the export of a text, where the text is a program that violates
+/// no rule and no limit, is that export, compiled.
+pub fn texts_are_compiled()
+    ensures { (text : List ℕ) (program : ProgramTree) (p : ProcedureTree) → Reads text (accepted program) → program.export ≡ Some p
+        → length (violations program) ≡ 0 → length (size_violations p) ≡ 0 → IsCompiled p (image_of (straightened (flattened p))) }
+{
+    texts_are_grammatical();
+    images_are_compiled();
+}
 
 /// Code and frame of a compiled image may lie at the standard bases, and eight images beside one
 /// another, the code 2^20 and the frames 2^16 bytes apart.

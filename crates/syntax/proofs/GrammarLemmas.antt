@@ -11,8 +11,7 @@ use Rattle.syntax.specs.declared.token.TokenKind.TheVariants as token
 use Rattle.syntax.specs.declared.token.Keyword.{Keyword}
 use Rattle.syntax.specs.declared.token.Keyword.TheVariants.{Bool as BoolWord, Uint32 as Uint32Word}
 use Rattle.syntax.specs.Grammar as grammar
-use Rattle.syntax.specs.Grammar.{ExprAt, a_number, a_true, a_false, a_name, in_brackets, a_select, a_binary, Parameter, a_parameter, MoreParameters, no_more, one_more, Parameters, no_parameters, some_parameters, Mutable, no_mut, a_mut, Statement, a_declaration, an_assignment, a_conditional, Statements, no_statement, one_statement, Arm, an_arm, Otherwise, no_else, an_else, Procedure, a_procedure, IsProgram, no_procedure, an_export}
-use Rattle.syntax.specs.declared.parser.statement.Where.{Where}
+use Rattle.syntax.specs.Grammar.{Where, ExprAt, a_number, a_true, a_false, a_name, in_brackets, a_select, a_binary, Parameter, a_parameter, MoreParameters, no_more, one_more, Parameters, no_parameters, some_parameters, Mutable, no_mut, a_mut, Statement, a_declaration, an_assignment, a_conditional, Statements, no_statement, one_statement, Arm, an_arm, Otherwise, no_else, an_else, Procedure, a_procedure, IsProgram, no_procedure, an_export}
 use Rattle.syntax.specs.Grammatical.{IsWordKind, AreSmall, IsPlain, ArePlain, IsGrammatical}
 use Rattle.syntax.specs.Lexeme.{Lexeme}
 use Rattle.syntax.specs.Reading.{Reads, by_tokens, Answers, a_program, accepted}

@@ -16,15 +16,13 @@ use Rattle.syntax.specs.declared.token.Sign.TheVariants.{OpenRound, CloseRound, 
 use Rattle.syntax.specs.declared.token.Suffix.{Suffix}
 use Rattle.syntax.specs.declared.token.Suffix.TheVariants.{U32}
 use Rattle.syntax.specs.declared.tree.BinaryOperator.{BinaryOperator}
-use Rattle.syntax.specs.Grammar.{operator_of, level_of, label_of, word_of, ExprAt, a_number, a_true, a_false, a_name, in_brackets, a_select, a_binary, Parameter, a_parameter, Parameters, no_parameters, some_parameters, no_more, one_more, Mutable, no_mut, a_mut, Statement, a_declaration, an_assignment, a_conditional, Statements, no_statement, one_statement, Arm, an_arm, Otherwise, no_else, an_else, Procedure, a_procedure, IsProgram, IsBeginning, no_procedure, an_export}
+use Rattle.syntax.specs.Grammar.{operator_of, level_of, label_of, word_of, Where, in_body, in_arm, ExprAt, a_number, a_true, a_false, a_name, in_brackets, a_select, a_binary, Parameter, a_parameter, Parameters, no_parameters, some_parameters, no_more, one_more, Mutable, no_mut, a_mut, Statement, a_declaration, an_assignment, a_conditional, Statements, no_statement, one_statement, Arm, an_arm, Otherwise, no_else, an_else, Procedure, a_procedure, IsProgram, IsBeginning, no_procedure, an_export}
 use Rattle.syntax.specs.Lexeme.{Lexeme}
 use Rattle.syntax.specs.Tree.{ExprTree, number, truth, name, binary, select, StatementTree, declaration, assignment, conditional, BlockTree, nothing, first, ParameterTree, ProcedureTree, ProgramTree}
 use Rattle.syntax.specs.declared.parser.expression.Begins.{Begins}
 use Rattle.syntax.specs.declared.parser.expression.Begins.TheVariants.{Number as by_number, Truth as by_truth, Name as by_name, Bracket as by_bracket, Select as by_select}
 use Rattle.syntax.specs.declared.parser.statement.Start.{Start}
 use Rattle.syntax.specs.declared.parser.statement.Start.TheVariants.{Declaration as by_label, Assignment as by_target, Conditional as by_if}
-use Rattle.syntax.specs.declared.parser.statement.Where.{Where}
-use Rattle.syntax.specs.declared.parser.statement.Where.TheVariants.{Body as in_body, Arm as in_arm}
 use Rattle.syntax.specs.Machine.{Wanted, a_word, export_word, mut_word, else_word, return_word, opening_round, closing_round, opening_curly, closing_curly, a_comma, a_semicolon, an_equals, State, ended, one, either, a_label, a_kind, parameters, more_parameters, expr, more, statements, kind_of, fits, begins_of, starts_with, labelled, parameter, operand, within, joined, declared_word, arm, otherwise, statement, started, step, at_end, procedure, program, run}
 use Rattle.syntax.proofs.MachineMeaning.{Finishes}
 

@@ -9,9 +9,8 @@ use Rattle.syntax.specs.declared.parser.Fault.TheVariants.{Memory}
 use Rattle.syntax.specs.declared.parser.Parser.{Parser}
 use Rattle.syntax.specs.declared.parser.expression.Begins.{Begins}
 use Rattle.syntax.specs.declared.parser.statement.Start.{Start}
-use Rattle.syntax.specs.declared.parser.statement.Where.{Where}
 use Rattle.syntax.specs.declared.tree.BinaryOperator.{BinaryOperator}
-use Rattle.syntax.specs.Grammar.{label_of, word_of, operator_of, level_of}
+use Rattle.syntax.specs.Grammar.{label_of, word_of, operator_of, level_of, Where}
 use Rattle.syntax.specs.Lexeme.{Lexeme, lexemes}
 use Rattle.syntax.specs.Nesting.{Nest, after}
 use Rattle.syntax.specs.Tokens.{Ending, ending}

@@ -3,9 +3,9 @@ use Rattle.std.proofs.Common.{◌≡◌, Bool, true, false, if◌then◌else◌,
 use Rattle.std.proofs.Math.Path.{fun_ext}
 use mathlib.Core.Former.{Count}
 use Rattle.syntax.specs.declared.parser.Parser.{Parser}
-use Rattle.syntax.specs.declared.parser.statement.Where.{Where}
 use Rattle.syntax.specs.declared.signature.Label.{Label}
 use Rattle.syntax.specs.declared.tree.Statement.{Statement, If, If', Row_of-Statement, end_of-Statement, more_of-Statement, items-the_row-Statement, items_hidden-the_row-Statement-0}
+use Rattle.syntax.specs.Grammar.{Where}
 use Rattle.syntax.specs.Blocks.{RowsAreBlocks}
 use Rattle.syntax.specs.Machine.{State, statements, declared_word}
 use Rattle.syntax.specs.ParserViews.{ahead}

@@ -13,8 +13,6 @@ use Rattle.syntax.specs.declared.token.Suffix.{Suffix}
 use Rattle.syntax.specs.declared.token.Suffix.TheVariants.{U32}
 use Rattle.syntax.specs.declared.tree.BinaryOperator.{BinaryOperator}
 use Rattle.syntax.specs.declared.tree.BinaryOperator.TheVariants.{BitXor, BitAnd, Add, Subtract}
-use Rattle.syntax.specs.declared.parser.statement.Where.{Where}
-use Rattle.syntax.specs.declared.parser.statement.Where.TheVariants.{Body as in_body, Arm as in_arm}
 use Rattle.syntax.specs.Lexeme.{Lexeme}
 use Rattle.syntax.specs.Tree.{ExprTree, number, truth, name, binary, select, StatementTree, declaration, assignment, conditional, BlockTree, nothing, first, ParameterTree, ProcedureTree, ProgramTree}
 
@@ -78,7 +76,12 @@ pub data Parameters : List Lexeme → List ParameterTree → List Lexeme → Typ
   no_parameters : (closing : Lexeme) (rest : List Lexeme) → Is (token.Sign CloseRound) closing → Parameters (closing ∷ rest) [] rest
   some_parameters : (list second rest : List Lexeme) (tree : ParameterTree) (trees : List ParameterTree) → Parameter list tree second → MoreParameters second trees rest → Parameters list (tree ∷ trees) rest
 
--- `mut`, where it stands
+-- where a statement stands: in the body of a procedure, or in an arm of a conditional
+pub data Where : Type 0 where
+  in_body : Where
+  in_arm : Where
+
+-- `mut`, or nothing
 pub data Mutable : List Lexeme → Bool → List Lexeme → Type 0 where
   no_mut : (rest : List Lexeme) → Mutable rest false rest
   a_mut : (t : Lexeme) (rest : List Lexeme) → Is (token.Keyword Mut) t → Mutable (t ∷ rest) true rest

@@ -7,8 +7,6 @@ use Rattle.syntax.specs.declared.parser.expression.Begins.{Begins}
 use Rattle.syntax.specs.declared.parser.expression.Begins.TheVariants.{Number as by_number, Truth as by_truth, Name as by_name, Bracket as by_bracket, Select as by_select}
 use Rattle.syntax.specs.declared.parser.statement.Start.{Start}
 use Rattle.syntax.specs.declared.parser.statement.Start.TheVariants.{Declaration as by_label, Assignment as by_target, Conditional as by_if}
-use Rattle.syntax.specs.declared.parser.statement.Where.{Where}
-use Rattle.syntax.specs.declared.parser.statement.Where.TheVariants.{Body as in_body, Arm as in_arm}
 use Rattle.word.specs.declared.place.Place.{Place}
 use Rattle.syntax.specs.declared.signature.Kind.{Kind}
 use Rattle.syntax.specs.declared.signature.Label.{Label}
@@ -19,7 +17,7 @@ use Rattle.syntax.specs.declared.token.Keyword.TheVariants.{Export, Mut, If, Els
 use Rattle.syntax.specs.declared.token.Sign.TheVariants.{OpenRound, CloseRound, OpenCurly, CloseCurly, Comma, Semicolon, Assign}
 use Rattle.syntax.specs.declared.token.Suffix.TheVariants.{U32}
 use Rattle.syntax.specs.declared.tree.BinaryOperator.{BinaryOperator}
-use Rattle.syntax.specs.Grammar.{operator_of, level_of, label_of, word_of}
+use Rattle.syntax.specs.Grammar.{operator_of, level_of, label_of, word_of, Where, in_body, in_arm}
 use Rattle.syntax.specs.Lexeme.{Lexeme}
 use Rattle.syntax.specs.Nesting.{Nest, after, nesting_limit}
 use Rattle.syntax.specs.Reading.{Answer, accepted, refused}

@@ -6,8 +6,9 @@ use Rattle.syntax.specs.declared.parser.Fault.TheVariants.{Refused, Memory}
 use Rattle.syntax.specs.declared.parser.Parser.{Parser}
 use Rattle.syntax.specs.declared.parser.expression.Joint.{Joint}
 use Rattle.syntax.specs.declared.parser.statement.Begun.{Begun}
-use Rattle.syntax.specs.declared.parser.statement.Where.{Where}
-use Rattle.syntax.specs.Grammar.{level_of}
+use Rattle.syntax.specs.declared.parser.statement.Where.{Where as WhereOf}
+use Rattle.syntax.specs.declared.parser.statement.Where.TheVariants.{Body, Arm}
+use Rattle.syntax.specs.Grammar.{level_of, Where, in_body, in_arm}
 use Rattle.syntax.specs.Lexeme.{Lexeme, lexeme, lexemes}
 use Rattle.syntax.specs.Machine.{State, Wanted, fits, expr, more, statements, statement, verdict}
 use Rattle.syntax.specs.Nesting.{Nest}
@@ -41,6 +42,11 @@ stands wanted (t ∷ ts) = fits wanted t.kind
 abbrev pub after_sign : ℕ → ExprTree → (ExprTree → State) → Option Joint → State
 after_sign level left k None = k left
 after_sign level left k (Some joint) = expr (level_of joint.operator + 1) (λ right. more level (level_of joint.operator) (binary joint.place joint.operator left right) k)
+
+-- where statements stand
+abbrev pub standing : WhereOf → Where
+standing Body = in_body
+standing Arm = in_arm
 
 -- after its first token a statement follows; without one there are no more
 abbrev pub after_start : Where → (BlockTree → State) → Option Begun → State

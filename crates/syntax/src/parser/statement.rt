@@ -1,7 +1,7 @@
 ghost use Rattle.std.specs.Prelude.{◌≡◌, ◌≤◌, ◌<◌, IfOk, IfErr, OnOk, OnSome, length};
 ghost use Rattle.syntax.specs.Lexeme.{lexeme};
 ghost use Rattle.syntax.specs.Machine.{State, starts_with, statements as statements_state, statement as statement_state, declared, assigned, conditioned, arm as arm_state, otherwise as otherwise_state};
-ghost use Rattle.syntax.specs.ParserViews.{Leads, after_start};
+ghost use Rattle.syntax.specs.ParserViews.{Leads, standing, after_start};
 ghost use Rattle.syntax.specs.Tree.{StatementTree, BlockTree, statement_tree, block_tree, declaration as declaration_tree, assignment as assignment_tree, expr_tree};
 
 use super::step::label_of;
@@ -32,7 +32,7 @@ struct Begun<'a> {
 
 /// How a statement that begins with such a token begins.
 fn starts_with(inside: Where, kind: TokenKind) -> Option<Start>
-    ensures { result ≡ starts_with inside kind }
+    ensures { result ≡ starts_with (standing inside) kind }
 {
     match (inside, kind) {
         (_, TokenKind::Name) => Some(Start::Assignment),
@@ -46,7 +46,7 @@ impl<'t, 'a> Parser<'t, 'a> {
     #[cycle(statement)]
     pub fn statements(&mut self, inside: Where) -> Result<Vec<Statement<'a>>, Fault>
         ensures leads { (k : BlockTree → State)
-            → Leads (statements_state inside k) (λ ss. k (block_tree ss.items)) result self.old self.new }
+            → Leads (statements_state (standing inside) k) (λ ss. k (block_tree ss.items)) result self.old self.new }
         ensures shorter { OnOk result (length self.new.rest.now ≤ length self.old.rest.now) }
     {
         let mut statements = Vec::new(self.alloc);
@@ -59,7 +59,7 @@ impl<'t, 'a> Parser<'t, 'a> {
     /// Takes the token that stands next, where it begins a statement.
     fn start(&mut self, inside: Where) -> Result<Option<Begun<'a>>, Fault>
         ensures leads { (k : BlockTree → State)
-            → Leads (statements_state inside k) (after_start inside k) result self.old self.new }
+            → Leads (statements_state (standing inside) k) (after_start (standing inside) k) result self.old self.new }
         ensures shorter { IfOk result (λ b. OnSome b (length self.new.rest.now < length self.old.rest.now)) }
         ensures same { IfOk result (λ b. length self.new.rest.now ≤ length self.old.rest.now) }
     {

@@ -1,6 +1,6 @@
 use Rattle.std.proofs.Common.{◌≡◌, ◌∙◌, None, arith, rules, ap, sym, subst, refl, if◌then◌else◌}
 use Rattle.syntax.specs.Machine.{statements, arm, otherwise, conditioned, expr, one, opening_round, closing_round, else_word}
-use Rattle.syntax.specs.ParserViews.{ahead, after_start}
+use Rattle.syntax.specs.ParserViews.{ahead, after_start, standing}
 use Rattle.syntax.specs.Tree.{ExprTree, BlockTree, nothing, conditional, expr_tree, statement_tree, block_tree}
 use Rattle.syntax.proofs.ParserSteps.{passed, fault-back, leads-after, more_statements}
 use Rattle.syntax.proofs.StatementSteps.{followed_by, followed-nothing, ahead-push, conditional_tree}
@@ -49,7 +49,7 @@ otherwise-returns-then-branch-clause-leads t c = λ k.
 pub statements-loop-statements-preserved : goal.statements-loop-statements-preserved
 statements-loop-statements-preserved t c = record {
   same = λ k.
-      let inside = c.args.inside in
+      let inside = standing c.args.inside in
       let ss = c.loop-statements.statements.items in
       let k' = λ (b : BlockTree). k (followed_by ss b) in
       let begun = subst (λ o. ahead (statements inside k') c.loop-statements.self ≡ ahead (after_start inside k' o) c.start.new.self) c.in-Some.is (c.in_ok-begun.ensures.leads k') in
@@ -63,7 +63,7 @@ statements-loop-statements-preserved t c = record {
 
 pub statements-returns-clause-leads : goal.statements-returns-clause-leads
 statements-returns-clause-leads t c = λ k.
-    let inside = c.args.inside in
+    let inside = standing c.args.inside in
     let ss = c.loop-statements.statements.items in
     let k' = λ (b : BlockTree). k (followed_by ss b) in
     let none : c.in_ok-begun.field-0 ≡ None = search rules in

@@ -1,6 +1,6 @@
 use Rattle.std.proofs.Common.{◌≡◌, ◌≤◌, length, ◌+◌, ◌*◌}
 use Rattle.syntax.specs.Machine.{State, statements}
-use Rattle.syntax.specs.ParserViews.{ahead}
+use Rattle.syntax.specs.ParserViews.{ahead, standing}
 use Rattle.syntax.specs.Tree.{BlockTree}
 use Rattle.syntax.proofs.StatementSteps.{followed_by}
 use Rattle.syntax.proofs.parser.Parser.+statement.Given as goal
@@ -22,7 +22,7 @@ decreases-otherwise l = 8 * length l.self.now.rest.now + 3
 
 abbrev pub invariant-statements-loop-statements : goal.invariant-statements-loop-statements
 invariant-statements-loop-statements l = record {
-  same : (k : BlockTree → State) → ahead (statements l.inside k) l.fn.self ≡ ahead (statements l.inside (λ b. k (followed_by l.statements.items b))) l.self;
+  same : (k : BlockTree → State) → ahead (statements (standing l.inside) k) l.fn.self ≡ ahead (statements (standing l.inside) (λ b. k (followed_by l.statements.items b))) l.self;
   shorter : length l.self.rest.now ≤ length l.fn.self.rest.now;
 }
 
