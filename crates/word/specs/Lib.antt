@@ -1,2 +1,3 @@
 pub mod Operators
+pub mod Places
 pub mod Widths

@@ -1,5 +1,8 @@
 // Places in texts, which source and refusals name.
 
+ghost use Rattle.std.specs.Prelude.{Some};
+ghost use Rattle.word.specs.Places.{place_text};
+
 use std::fmt;
 
 /// Where something stands in a text.
@@ -24,6 +27,8 @@ impl Place {
 
 /// `LINE:COLUMN`.
 impl fmt::Display for Place {
+    ghost output = { λ place. Some (place_text place) };
+
     fn fmt<W: fmt::Write>(&self, f: &mut fmt::Formatter<W>) -> fmt::Result {
         let line = self.line;
         let column = self.column;

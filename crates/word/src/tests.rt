@@ -148,3 +148,15 @@ fn selects_by_masks(rt: HostRuntime) -> Result<(), Fail> {
     assert_eq!(rt; select(0xffff_0000, 0x1234_5678, 0x9abc_def0), 0x1234_def0);
     Ok(())
 }
+
+#[test]
+fn places_are_printed(rt: HostRuntime) -> Result<(), Fail> {
+    let place = Place {
+        offset: 41,
+        line: 3,
+        column: 14,
+    };
+    let text = format!(in rt.alloc(); "{place}")?;
+    assert_eq!(rt; text.as_str(), "3:14");
+    Ok(())
+}
