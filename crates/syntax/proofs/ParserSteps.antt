@@ -117,17 +117,8 @@ verdict-takes wanted next other n (t ∷ ts) e h =
     ap (λ b. token_answer (if b then Some next else step other t) t n' go) h
     ∙ sym (ap (λ b. token_answer (if b then Some next else None) t n' go) h)
 
-verdict-passes : (wanted : Wanted) (next other : State) (n : Nest) (ts : List Lexeme) (e : Ending) → stands wanted ts ≡ false → verdict (either wanted next other) n ts e ≡ verdict other n ts e
-verdict-passes wanted next other n [] e h = refl
-verdict-passes wanted next other n (t ∷ ts) e h =
-    let n' = after t.kind n in
-    ap (λ b. token_answer (if b then Some next else step other t) t n' (λ s. verdict s n' ts e)) h
-
 pub ahead-takes : (wanted : Wanted) (next other : State) (p : Parser) → stands wanted (lexemes p.rest.now) ≡ true → ahead (either wanted next other) p ≡ ahead (one wanted (λ _. next)) p
 ahead-takes wanted next other p h = verdict-takes wanted next other (nest p.nesting) (lexemes p.rest.now) (ending p.end) h
-
-pub ahead-passes : (wanted : Wanted) (next other : State) (p : Parser) → stands wanted (lexemes p.rest.now) ≡ false → ahead (either wanted next other) p ≡ ahead other p
-ahead-passes wanted next other p h = verdict-passes wanted next other (nest p.nesting) (lexemes p.rest.now) (ending p.end) h
 
 pub map-push : (ps : List ParameterOf) (p : ParameterOf) → map parameter_tree (ps ++ p ∷ []) ≡ map parameter_tree ps ++ parameter_tree p ∷ []
 map-push [] p = refl
