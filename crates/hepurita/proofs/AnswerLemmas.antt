@@ -17,7 +17,7 @@ use Rattle.rv_machine.specs.RunLaws.{Ran-halts}
 use Rattle.rv_machine.specs.declared.observation.Observation.{Observation}
 use Rattle.rv_machine.specs.declared.stops.Stop.{Stop}
 use Rattle.rv_machine.specs.declared.stops.Stop.TheVariants.{Ecall, Break, Illegal, AccessFault, Misaligned, Budget, RecorderRefused}
-use Rattle.simulation.specs.Agreement.{Agree}
+use Rattle.arguments.specs.Agreement.{Agree}
 use Rattle.simulation.specs.Bases.{code_base, frame_base}
 use Rattle.simulation.specs.Compiled.{AreBases, IsCompiled, RunsTo}
 use Rattle.simulation.specs.Loaded.{params_of, code_at, loaded_at, results_in}

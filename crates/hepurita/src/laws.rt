@@ -5,7 +5,7 @@ ghost use Rattle.arguments.specs.Within.{AreWithin};
 ghost use Rattle.image.specs.Fields.{Fields};
 ghost use Rattle.observing.specs.declared.pairing.Pairing.{Pairing};
 ghost use Rattle.rv_machine.specs.declared.observation.Observation.{Observation};
-ghost use Rattle.simulation.specs.Agreement.{Agree};
+ghost use Rattle.arguments.specs.Agreement.{Agree};
 ghost use Rattle.simulation.specs.Loaded.{params_of};
 ghost use Rattle.syntax.specs.declared.signature.Label.{Label};
 ghost use Rattle.syntax.specs.declared.values.Arg.{Arg};

@@ -1,5 +1,5 @@
 -- The compiler's theorem, from what each pass keeps.
-use Rattle.std.proofs.Common.{◌≡◌, ℕ, ◌≤◌, List, [], ◌∷◌, length, map, refl, sym, ap, ◌∙◌, subst, arith}
+use Rattle.std.proofs.Common.{◌≡◌, ℕ, ◌+◌, List, [], ◌∷◌, length, map, refl, sym, ap, ◌∙◌, subst, arith}
 use Rattle.std.proofs.lemmas.List.{length-map}
 use Rattle.arguments.specs.Agreement.{Agree}
 use Rattle.arguments.specs.Within.{AreWithin}
@@ -33,7 +33,7 @@ use Rattle.simulation.specs.Loaded.{params_of, code_at, loaded_at, results_in}
 -- the slots have the parameters
 slot_params : (low : ℕ) (ps : List Param) → map (λ (slot : Slot). slot.param) (slots_from low ps) ≡ ps
 slot_params low [] = refl
-slot_params low (p ∷ ps) = ap (λ rest. p ∷ rest) (slot_params _ ps)
+slot_params low (p ∷ ps) = ap (λ (rest : List Param). p ∷ rest) (slot_params (low + 4) ps)
 
 -- what the passes keep of a procedure
 pub record IsKept (p : ProcedureTree) : Type 0 where
@@ -76,9 +76,9 @@ module _ (p : ProcedureTree) (kept : IsKept p) (follows : (code frame : ℕ) →
   -- each run that halts shows the one list of its path, and leaves the one outcome
   one_list : (code frame : ℕ) (args : List Arg) (n : ℕ) (seen : List Observation) (s : State) (bases : AreBases (image_of code_of) code frame) → AreWithin (map param_of p.parameters) args → Halts (code_at code (image_of code_of)) n (loaded_at code frame (image_of code_of) args) seen Ecall s →
       (seen ≡ (follows code frame bases).shown (path_of code_of args)) × (results_in frame (image_of code_of) s.bytes ≡ outcome_of_flat (flattened p) args)
-  one_list code frame args n seen s bases fits halts =
+  one_list code frame args n seen s bases fits stopped =
       let run = run_of code frame args bases fits in
-      let same = Halts-determined halts run.halts in
+      let same = Halts-determined stopped run.halts in
       (same.1, ap (λ (t : State). results_in frame (image_of code_of) t.bytes) same.3 ∙ (run.outcome ∙ kept.same args))
 
   same_list : (code frame : ℕ) (one other : List Arg) (m n : ℕ) (seen seen' : List Observation) (s t : State) → AreBases (image_of code_of) code frame → Agree (params_of (image_of code_of)) one other → Halts (code_at code (image_of code_of)) m (loaded_at code frame (image_of code_of) one) seen Ecall s → Halts (code_at code (image_of code_of)) n (loaded_at code frame (image_of code_of) other) seen' Ecall t → seen ≡ seen'

@@ -1,6 +1,6 @@
 // The laws, which hold of the definitions alone.
 
-ghost use Rattle.std.specs.Prelude.{◌≡◌, ℕ, ◌+◌, ◌*◌, ◌<◌, List, length, Some};
+ghost use Rattle.std.specs.Prelude.{◌≡◌, ℕ, ◌+◌, ◌*◌, ◌<◌, ◌≤◌, List, length, Some};
 ghost use Rattle.branch_removal.specs.Removal.{straightened};
 ghost use Rattle.branch_removal.specs.Straight.{StraightProgram};
 ghost use Rattle.codegen.specs.Generated.{image_of};
