@@ -11,3 +11,6 @@ mod sizes;
 pub use flat::{FlatStatement, Term};
 pub use inlining::inline;
 pub use program::Flat;
+
+#[cfg(test)]
+mod tests;
