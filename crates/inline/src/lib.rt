@@ -16,3 +16,6 @@ pub use laws::{
     typed_values_fit,
 };
 pub use program::Flat;
+
+#[cfg(test)]
+mod tests;
