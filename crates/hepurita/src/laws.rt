@@ -18,7 +18,8 @@ ghost use Rattle.hepurita.specs.Paired.{Paired};
 
 use arguments::faultless_arguments;
 use image::one_spelling;
-use simulation::{bases_fit, one_outcome};
+use inline::one_outcome;
+use simulation::bases_fit;
 use syntax::{Label, one_answer_for_a_text};
 
 /// The calls, one after another. The image of an accepted text, read from the bytes that `build`
