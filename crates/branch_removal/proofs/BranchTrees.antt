@@ -16,7 +16,7 @@ abbrev arms : FlatStatement → ((n : Count) × Row_of-FlatStatement n) × ((n :
 arms (Branch' condition shape accepted shape' otherwise) = ((_, accepted), (_, otherwise))
 arms _ = ((_, end_of-FlatStatement), (_, end_of-FlatStatement))
 
-pub branch_tree : (condition : Term) (accepted otherwise : Vec FlatStatement Global) →
+branch_tree : (condition : Term) (accepted otherwise : Vec FlatStatement Global) →
     flat_tree (Branch condition accepted otherwise) ≡ branch (term_tree condition) (flat_block accepted.items) (flat_block otherwise.items)
 branch_tree condition accepted otherwise =
     let both = arms (Branch condition accepted otherwise) in

@@ -23,67 +23,67 @@ fit-append s [] those one two = two
 fit-append s (statement ∷ these) those one two = (one.0, fit-append (after s statement) these those one.1 two)
 
 -- statements are fit, and after them the variables in scope are within their kinds
-pub record Runs (types : Types) (s : StraightState) (code : List StraightTree) : Type 0 where
+pub record Sound (types : Types) (s : StraightState) (code : List StraightTree) : Type 0 where
   pub fit : AreFit s code
   pub held : Held types (after_all s code).variables
 
-runs-append : (types : Types) (s : StraightState) (these those : List StraightTree) → AreFit s these → Runs types (after_all s these) those → Runs types s (these ++ those)
-runs-append types s these those fit runs = record {
-  fit = fit-append s these those fit runs.fit;
-  held = subst (λ (t : StraightState). Held types t.variables) (sym (after-append s these those)) runs.held;
+sound-append : (types : Types) (s : StraightState) (these those : List StraightTree) → AreFit s these → Sound types (after_all s these) those → Sound types s (these ++ those)
+sound-append types s these those fit sound = record {
+  fit = fit-append s these those fit sound.fit;
+  held = subst (λ (t : StraightState). Held types t.variables) (sym (after-append s these those)) sound.held;
 }
 
 -- what is within its kind after an arm
 narrowed : (types : Types) (label : Label) (body : FlatBlock) (s : StraightState) (code : List StraightTree) → AreTyped types label body
-    → Runs (types_after_all types body) s code → Runs types s code
-narrowed types label body s code typed runs = record {
-  fit = runs.fit;
-  held = record { below = λ y word known. runs.held.below y word (stays_all types label body typed y word known) };
+    → Sound (types_after_all types body) s code → Sound types s code
+narrowed types label body s code typed sound = record {
+  fit = sound.fit;
+  held = record { below = λ y word known. sound.held.below y word (stays_all types label body typed y word known) };
 }
 
 mutual
-  pub runs : (types : Types) (label : Label) (statement : FlatTree) → IsTyped types label statement
+  pub sound : (types : Types) (label : Label) (statement : FlatTree) → IsTyped types label statement
       → (within : Option ℕ) (control : ℕ) (s : StraightState) → Held types s.variables
-      → Runs (types_after types statement) s (removed within control statement)
-  runs types label (declare x word value) typed within control s held = record {
+      → Sound (types_after types statement) s (removed within control statement)
+  sound types label (declare x word value) typed within control s held = record {
     fit = (suits_fit types s.variables held word value typed.1, tt);
     held = held_declared types s.variables held x word value typed.1;
   }
-  runs types label (assign x value) typed None control s held = record {
+  sound types label (assign x value) typed None control s held = record {
     fit = (suits_fit types s.variables held typed.word value typed.suits, tt);
     held = held_set types s.variables held x typed.word value typed.known typed.suits;
   }
-  runs types label (assign x value) typed (Some c) control s held = record {
+  sound types label (assign x value) typed (Some c) control s held = record {
     fit = (suits_fit types s.variables held typed.word value typed.suits, tt);
     held = cond_both (s.controls c) (with_variable s x (value_in s.variables value)) s (λ (t : StraightState). Held types t.variables)
         (λ on. held_set types s.variables held x typed.word value typed.known typed.suits) (λ off. held);
   }
-  runs types label (branch condition accepted otherwise) typed within control s held =
+  sound types label (branch condition accepted otherwise) typed within control s held =
       let taken : StraightState = after s (take control within condition) in
       let code : List StraightTree = removed_all (Some control) (control + 2) accepted in
       let other : List StraightTree = removed_all (Some (control + 1)) (control + 2) otherwise in
       let inner : Label = joined typed.0.label label in
-      let one = narrowed types inner accepted taken code typed.3 (runs_all types inner accepted typed.3 (Some control) (control + 2) taken held) in
-      let two = narrowed types inner otherwise (after_all taken code) other typed.4 (runs_all types inner otherwise typed.4 (Some (control + 1)) (control + 2) (after_all taken code) one.held) in
-      let both = runs-append types taken code other one.fit two in
+      let one = narrowed types inner accepted taken code typed.3 (sound_all types inner accepted typed.3 (Some control) (control + 2) taken held) in
+      let two = narrowed types inner otherwise (after_all taken code) other typed.4 (sound_all types inner otherwise typed.4 (Some (control + 1)) (control + 2) (after_all taken code) one.held) in
+      let both = sound-append types taken code other one.fit two in
       let below = value_below types s.variables held condition typed.0 typed.1.typed typed.1.small in
       record {
         fit = ((rw (typed.2) at below, is_fit types s.variables held condition typed.0 typed.1.typed typed.1.small), both.fit);
         held = both.held;
       }
 
-  pub runs_all : (types : Types) (label : Label) (body : FlatBlock) → AreTyped types label body
+  pub sound_all : (types : Types) (label : Label) (body : FlatBlock) → AreTyped types label body
       → (within : Option ℕ) (control : ℕ) (s : StraightState) → Held types s.variables
-      → Runs (types_after_all types body) s (removed_all within control body)
-  runs_all types label nothing typed within control s held = record { fit = tt; held = held }
-  runs_all types label (first statement rest) typed within control s held =
-      let one = runs types label statement typed.0 within control s held in
-      runs-append (types_after_all (types_after types statement) rest) s (removed within control statement) (removed_all within control rest) one.fit
-      (runs_all (types_after types statement) label rest typed.1 within control (after_all s (removed within control statement)) one.held)
+      → Sound (types_after_all types body) s (removed_all within control body)
+  sound_all types label nothing typed within control s held = record { fit = tt; held = held }
+  sound_all types label (first statement rest) typed within control s held =
+      let one = sound types label statement typed.0 within control s held in
+      sound-append (types_after_all (types_after types statement) rest) s (removed within control statement) (removed_all within control rest) one.fit
+      (sound_all (types_after types statement) label rest typed.1 within control (after_all s (removed within control statement)) one.held)
 
 -- the whole program, on arguments within the parameters' kinds
 pub program_fit : (p : FlatProgram) (args : List Arg) → IsTypedProgram p → Fits (parameter_types p.parameters) (given args) → IsFitOn (straightened p) args
 program_fit p args typed fits =
-    let body = runs_all (parameter_types p.parameters) Public p.body typed.body None 0 (start args)
+    let body = sound_all (parameter_types p.parameters) Public p.body typed.body None 0 (start args)
     (record { below = λ y word known. within_limit word.kind (given args y) (fits y word known) }) in
     record { statements = body.fit; value = suits_fit (types_after_all (parameter_types p.parameters) p.body) _ body.held p.returned p.value typed.value }
