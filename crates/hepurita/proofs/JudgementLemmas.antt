@@ -1,14 +1,16 @@
 -- A text is not both accepted and refused, nor accepted for two exports; and its export is small.
-use Rattle.std.proofs.Common.{◌≡◌, ◌⊎◌, inl, inr, ℕ, ◌<◌, ◌≤◌, List, Some, length, Contains, ap, sym, subst, ◌∙◌, arith}
-use Rattle.std.proofs.lemmas.Bool.{cases_lt}
+use Rattle.std.proofs.Common.{◌≡◌, ℕ, ◌≤◌, Bool, true, false, nat_lt, List, ◌++◌, Some, length, length-append, Contains, refl, ap, sym, subst, ◌∙◌, arith}
+use Rattle.std.proofs.lemmas.Bool.Decides.{nat_tests}
+use Rattle.std.proofs.lemmas.List.{length-map}
 use Rattle.word.specs.declared.place.Place.{Place}
 use Rattle.syntax.specs.declared.rule.Rule.{Rule}
+use Rattle.syntax.specs.declared.rule.Rule.TheVariants.{InlinedSize, DeclaredBytes}
 use Rattle.syntax.specs.declared.typing.Violation.{Violation}
 use Rattle.syntax.specs.Reading.{accepted, refused, OneAnswer}
-use Rattle.syntax.specs.Size.{nodes_of, most_nodes, size_violations}
+use Rattle.syntax.specs.Size.{nodes_of, declared_bytes, most_nodes, most_declared_bytes, size_violations}
 use Rattle.syntax.specs.Tree.{ProcedureTree, ProgramTree}
+use Rattle.syntax.specs.Typing.{when}
 use Rattle.hepurita.specs.Built.{Judges, JudgesProgram, accepts, refuses, ill_typed, too_large, fine, unreadable, readable}
-use Rattle.hepurita.proofs.BuiltLemmas.{too_many_nodes}
 
 -- none of no violations is the first
 none : (all : List Violation) (v : Violation) → length all ≡ 0 → Contains all v → ⊥
@@ -38,9 +40,17 @@ one_export one text export other (readable {program} reads (fine typed is small)
     let some : Some export ≡ Some other = sym is ∙ ap (λ (q : ProgramTree). q.export) same ∙ is' in
     cc
 
+not_passed : (b : Bool) (rule : Rule) → length (when b rule) ≡ 0 → b ≡ false
+not_passed true rule h = absurd (omega (arith, h))
+not_passed false rule h = refl
+
+within : (most n : ℕ) → nat_lt most n ≡ false → n ≤ most
+within most n h = grind (arith, nat_tests)
+
 pub few_nodes : (text : List ℕ) (export : ProcedureTree) → Judges text (accepts export) → nodes_of export ≤ most_nodes
-few_nodes text export (readable reads (fine typed is small)) = by (cases_lt most_nodes (nodes_of export))
-  where
-    by : (most_nodes < nodes_of export) ⊎ (nodes_of export ≤ most_nodes) → nodes_of export ≤ most_nodes
-    by (inl many) = absurd (none (size_violations export) _ small (too_many_nodes export many).there)
-    by (inr few) = few
+few_nodes text export (readable reads (fine typed is small)) =
+    let a = when (nat_lt most_nodes (nodes_of export)) InlinedSize in
+    let b = when (nat_lt most_declared_bytes (declared_bytes export)) DeclaredBytes in
+    let m = length-map {B = Violation} (a ++ b) (λ rule. record { place = export.place; rule = rule }) in
+    let n = length-append a b in
+    within most_nodes (nodes_of export) (not_passed _ InlinedSize (omega (arith, small, m, n)))
