@@ -10,6 +10,7 @@ use rv_code::{
     Immediate12, ImmediateOperation, Instr, LoadOperation, Reg, RegisterOperation, StoreOperation,
     UpperImmediate, UpperOperation,
 };
+use word::Width;
 
 /// What an instruction does, before memory has its say.
 #[derive(Clone, Copy, Debug, PartialEq, Eq)]
@@ -83,7 +84,7 @@ fn immediate_value(operation: ImmediateOperation, a: u32, b: u32) -> u32
     ensures { result ≡ immediate_value operation a b }
 {
     match operation {
-        ImmediateOperation::Addi => a.wrapping_add(b),
+        ImmediateOperation::Addi => word::add(Width::W32, a, b),
     }
 }
 
@@ -91,10 +92,10 @@ fn register_value(operation: RegisterOperation, a: u32, b: u32) -> u32
     ensures { result ≡ register_value operation a b }
 {
     match operation {
-        RegisterOperation::Add => a.wrapping_add(b),
-        RegisterOperation::Sub => a.wrapping_sub(b),
-        RegisterOperation::Xor => a ^ b,
-        RegisterOperation::And => a & b,
+        RegisterOperation::Add => word::add(Width::W32, a, b),
+        RegisterOperation::Sub => word::subtract(Width::W32, a, b),
+        RegisterOperation::Xor => word::bit_xor(a, b),
+        RegisterOperation::And => word::bit_and(a, b),
     }
 }
 
@@ -112,5 +113,5 @@ fn sign_extended(immediate: Immediate12) -> u32
 fn address(hart: &Hart, rs1: Reg, offset: Immediate12) -> u32
     ensures { result ≡ address_of (regs_of hart.now) rs1 offset }
 {
-    hart.reg(rs1).wrapping_add(sign_extended(offset))
+    word::add(Width::W32, hart.reg(rs1), sign_extended(offset))
 }

@@ -3,6 +3,7 @@
 ghost use Rattle.std.specs.Prelude.{◌≡◌, ◌+◌, ◌%◌, ◌^◌, slice_index};
 
 use rv_code::Reg;
+use word::Width;
 
 /// A program counter and 32 registers, of which x0 holds 0.
 #[derive(Drop)]
@@ -55,6 +56,6 @@ impl Hart {
         ensures pc { pc_of self.new ≡ (pc_of self.old + 4) % 2 ^ 32 }
         ensures registers { regs_of self.new ≡ regs_of self.old }
     {
-        self.pc = self.pc.wrapping_add(4);
+        self.pc = word::add(Width::W32, self.pc, 4);
     }
 }

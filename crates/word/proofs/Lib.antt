@@ -1,0 +1,3 @@
+pub mod Rotation
+pub mod Selection
+pub mod WidthLemmas
