@@ -1,5 +1,7 @@
 pub mod Signed
 pub mod Words
 pub mod Reading
+pub mod RowLaws
+pub mod FieldLaws
 pub mod WordLaws
 pub mod Text

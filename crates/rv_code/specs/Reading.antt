@@ -3,18 +3,26 @@
 use Rattle.std.specs.Prelude.{ℕ, ◌+◌, ◌*◌, ◌/◌, ◌%◌, ◌^◌, List, [], ◌∷◌, Option, Some, None, ◌==◌, ◌&&◌, if◌then◌else◌, find}
 use Rattle.std.specs.Option.{option_map}
 use Rattle.rv_code.specs.declared.instructions.Instr.{Instr}
-use Rattle.rv_code.specs.declared.instructions.Instr.TheVariants.{Upper, Immediate, Register, Load, Store, Ecall, Ebreak}
+use Rattle.rv_code.specs.declared.instructions.Instr.TheVariants.{Upper, Jump, JumpRegister, Branch, Load, Store, Immediate, Shift, Register, Multiply, Divide, Fence, Ecall, Ebreak}
 use Rattle.rv_code.specs.declared.operations.UpperOperation.{UpperOperation}
-use Rattle.rv_code.specs.declared.operations.UpperOperation.TheVariants.{Lui}
-use Rattle.rv_code.specs.declared.operations.ImmediateOperation.{ImmediateOperation}
-use Rattle.rv_code.specs.declared.operations.ImmediateOperation.TheVariants.{Addi}
-use Rattle.rv_code.specs.declared.operations.RegisterOperation.{RegisterOperation}
-use Rattle.rv_code.specs.declared.operations.RegisterOperation.TheVariants.{Add, Sub, Xor, And}
+use Rattle.rv_code.specs.declared.operations.UpperOperation.TheVariants.{Lui, Auipc}
+use Rattle.rv_code.specs.declared.operations.BranchTest.{BranchTest}
+use Rattle.rv_code.specs.declared.operations.BranchTest.TheVariants.{Beq, Bne, Blt, Bge, Bltu, Bgeu}
 use Rattle.rv_code.specs.declared.operations.LoadOperation.{LoadOperation}
-use Rattle.rv_code.specs.declared.operations.LoadOperation.TheVariants.{Lw}
+use Rattle.rv_code.specs.declared.operations.LoadOperation.TheVariants.{Lb, Lh, Lw, Lbu, Lhu}
 use Rattle.rv_code.specs.declared.operations.StoreOperation.{StoreOperation}
-use Rattle.rv_code.specs.declared.operations.StoreOperation.TheVariants.{Sw}
-use Rattle.rv_code.specs.Words.{op_imm_opcode, op_opcode, load_opcode, store_opcode, system_opcode, upper_opcode, immediate_funct3, register_funct3, register_funct7, load_funct3, store_funct3, ecall_word, ebreak_word}
+use Rattle.rv_code.specs.declared.operations.StoreOperation.TheVariants.{Sb, Sh, Sw}
+use Rattle.rv_code.specs.declared.operations.ImmediateOperation.{ImmediateOperation}
+use Rattle.rv_code.specs.declared.operations.ImmediateOperation.TheVariants.{Addi, Slti, Sltiu, Xori, Ori, Andi}
+use Rattle.rv_code.specs.declared.operations.ShiftOperation.{ShiftOperation}
+use Rattle.rv_code.specs.declared.operations.ShiftOperation.TheVariants.{Slli, Srli, Srai}
+use Rattle.rv_code.specs.declared.operations.RegisterOperation.{RegisterOperation}
+use Rattle.rv_code.specs.declared.operations.RegisterOperation.TheVariants.{Add, Sub, Sll, Slt, Sltu, Xor, Srl, Sra, Or, And}
+use Rattle.rv_code.specs.declared.operations.MultiplyOperation.{MultiplyOperation}
+use Rattle.rv_code.specs.declared.operations.MultiplyOperation.TheVariants.{Mul, Mulh, Mulhsu, Mulhu}
+use Rattle.rv_code.specs.declared.operations.DivideOperation.{DivideOperation}
+use Rattle.rv_code.specs.declared.operations.DivideOperation.TheVariants.{Div, Divu, Rem, Remu}
+use Rattle.rv_code.specs.Words.{bits_of, op_imm_opcode, op_opcode, load_opcode, store_opcode, branch_opcode, jal_opcode, jalr_opcode, misc_mem_opcode, system_opcode, upper_opcode, branch_funct3, load_funct3, store_funct3, immediate_funct3, shift_funct3, shift_funct7, register_funct3, register_funct7, multiply_funct3, divide_funct3, muldiv_funct7, ecall_word, ebreak_word}
 
 -- The fields of a word, as the R format has them.
 
@@ -36,7 +44,7 @@ rs2_at word = word / 2 ^ 20 % 2 ^ 5
 abbrev pub funct7_at : ℕ → ℕ
 funct7_at word = word / 2 ^ 25 % 2 ^ 7
 
--- The immediates of the I, S and U formats.
+-- The immediates of the other formats; offsets in halves.
 
 abbrev pub i_immediate_at : ℕ → ℕ
 i_immediate_at word = word / 2 ^ 20 % 2 ^ 12
@@ -44,35 +52,60 @@ i_immediate_at word = word / 2 ^ 20 % 2 ^ 12
 abbrev pub s_immediate_at : ℕ → ℕ
 s_immediate_at word = (rd_at word + funct7_at word * 2 ^ 5) % 2 ^ 12
 
+abbrev pub b_offset_at : ℕ → ℕ
+b_offset_at word = (bits_of 8 4 word + bits_of 25 6 word * 2 ^ 4 + bits_of 7 1 word * 2 ^ 10 + word / 2 ^ 31 * 2 ^ 11) % 2 ^ 12
+
 abbrev pub u_immediate_at : ℕ → ℕ
 u_immediate_at word = word / 2 ^ 12 % 2 ^ 20
+
+abbrev pub j_offset_at : ℕ → ℕ
+j_offset_at word = (bits_of 21 10 word + bits_of 20 1 word * 2 ^ 10 + bits_of 12 8 word * 2 ^ 11 + word / 2 ^ 31 * 2 ^ 19) % 2 ^ 20
+
+-- The three fields of FENCE.
+
+abbrev pub mode_at : ℕ → ℕ
+mode_at word = word / 2 ^ 28 % 2 ^ 4
+
+abbrev pub before_at : ℕ → ℕ
+before_at word = word / 2 ^ 24 % 2 ^ 4
+
+abbrev pub after_at : ℕ → ℕ
+after_at word = word / 2 ^ 20 % 2 ^ 4
 
 -- The operations of each group, and the one whose row has these fixed fields.
 
 abbrev pub upper_operations : List UpperOperation
-upper_operations = Lui ∷ []
+upper_operations = Lui ∷ Auipc ∷ []
 
-abbrev pub immediate_operations : List ImmediateOperation
-immediate_operations = Addi ∷ []
-
-abbrev pub register_operations : List RegisterOperation
-register_operations = Add ∷ Sub ∷ Xor ∷ And ∷ []
+abbrev pub branch_tests : List BranchTest
+branch_tests = Beq ∷ Bne ∷ Blt ∷ Bge ∷ Bltu ∷ Bgeu ∷ []
 
 abbrev pub load_operations : List LoadOperation
-load_operations = Lw ∷ []
+load_operations = Lb ∷ Lh ∷ Lw ∷ Lbu ∷ Lhu ∷ []
 
 abbrev pub store_operations : List StoreOperation
-store_operations = Sw ∷ []
+store_operations = Sb ∷ Sh ∷ Sw ∷ []
+
+abbrev pub immediate_operations : List ImmediateOperation
+immediate_operations = Addi ∷ Slti ∷ Sltiu ∷ Xori ∷ Ori ∷ Andi ∷ []
+
+abbrev pub shift_operations : List ShiftOperation
+shift_operations = Slli ∷ Srli ∷ Srai ∷ []
+
+abbrev pub register_operations : List RegisterOperation
+register_operations = Add ∷ Sub ∷ Sll ∷ Slt ∷ Sltu ∷ Xor ∷ Srl ∷ Sra ∷ Or ∷ And ∷ []
+
+abbrev pub multiply_operations : List MultiplyOperation
+multiply_operations = Mul ∷ Mulh ∷ Mulhsu ∷ Mulhu ∷ []
+
+abbrev pub divide_operations : List DivideOperation
+divide_operations = Div ∷ Divu ∷ Rem ∷ Remu ∷ []
 
 abbrev pub upper_with : ℕ → Option UpperOperation
 upper_with opcode = find (λ o. upper_opcode o == opcode) upper_operations
 
-abbrev pub immediate_with : ℕ → Option ImmediateOperation
-immediate_with funct3 = find (λ o. immediate_funct3 o == funct3) immediate_operations
-
-abbrev pub register_with : ℕ → ℕ → Option RegisterOperation
-register_with funct3 funct7 =
-    find (λ o. register_funct3 o == funct3 && register_funct7 o == funct7) register_operations
+abbrev pub branch_with : ℕ → Option BranchTest
+branch_with funct3 = find (λ o. branch_funct3 o == funct3) branch_tests
 
 abbrev pub load_with : ℕ → Option LoadOperation
 load_with funct3 = find (λ o. load_funct3 o == funct3) load_operations
@@ -80,16 +113,28 @@ load_with funct3 = find (λ o. load_funct3 o == funct3) load_operations
 abbrev pub store_with : ℕ → Option StoreOperation
 store_with funct3 = find (λ o. store_funct3 o == funct3) store_operations
 
+abbrev pub immediate_with : ℕ → Option ImmediateOperation
+immediate_with funct3 = find (λ o. immediate_funct3 o == funct3) immediate_operations
+
+abbrev pub shift_with : ℕ → ℕ → Option ShiftOperation
+shift_with funct3 funct7 = find (λ o. shift_funct3 o == funct3 && shift_funct7 o == funct7) shift_operations
+
+abbrev pub register_with : ℕ → ℕ → Option RegisterOperation
+register_with funct3 funct7 = find (λ o. register_funct3 o == funct3 && register_funct7 o == funct7) register_operations
+
+abbrev pub multiply_with : ℕ → Option MultiplyOperation
+multiply_with funct3 = find (λ o. multiply_funct3 o == funct3) multiply_operations
+
+abbrev pub divide_with : ℕ → Option DivideOperation
+divide_with funct3 = find (λ o. divide_funct3 o == funct3) divide_operations
+
 -- The instruction of each group.
 
 abbrev pub upper_made : ℕ → UpperOperation → Instr
 upper_made word operation = Upper operation (rd_at word) (u_immediate_at word)
 
-abbrev pub immediate_made : ℕ → ImmediateOperation → Instr
-immediate_made word operation = Immediate operation (rd_at word) (rs1_at word) (i_immediate_at word)
-
-abbrev pub register_made : ℕ → RegisterOperation → Instr
-register_made word operation = Register operation (rd_at word) (rs1_at word) (rs2_at word)
+abbrev pub branch_made : ℕ → BranchTest → Instr
+branch_made word operation = Branch operation (rs1_at word) (rs2_at word) (b_offset_at word)
 
 abbrev pub load_made : ℕ → LoadOperation → Instr
 load_made word operation = Load operation (rd_at word) (rs1_at word) (i_immediate_at word)
@@ -97,14 +142,26 @@ load_made word operation = Load operation (rd_at word) (rs1_at word) (i_immediat
 abbrev pub store_made : ℕ → StoreOperation → Instr
 store_made word operation = Store operation (rs2_at word) (rs1_at word) (s_immediate_at word)
 
+abbrev pub immediate_made : ℕ → ImmediateOperation → Instr
+immediate_made word operation = Immediate operation (rd_at word) (rs1_at word) (i_immediate_at word)
+
+abbrev pub shift_made : ℕ → ShiftOperation → Instr
+shift_made word operation = Shift operation (rd_at word) (rs1_at word) (rs2_at word)
+
+abbrev pub register_made : ℕ → RegisterOperation → Instr
+register_made word operation = Register operation (rd_at word) (rs1_at word) (rs2_at word)
+
+abbrev pub multiply_made : ℕ → MultiplyOperation → Instr
+multiply_made word operation = Multiply operation (rd_at word) (rs1_at word) (rs2_at word)
+
+abbrev pub divide_made : ℕ → DivideOperation → Instr
+divide_made word operation = Divide operation (rd_at word) (rs1_at word) (rs2_at word)
+
 unfoldable pub upper_at : ℕ → Option Instr
 upper_at word = option_map (upper_made word) (upper_with (opcode_at word))
 
-unfoldable pub immediate_at : ℕ → Option Instr
-immediate_at word = option_map (immediate_made word) (immediate_with (funct3_at word))
-
-unfoldable pub register_at : ℕ → Option Instr
-register_at word = option_map (register_made word) (register_with (funct3_at word) (funct7_at word))
+unfoldable pub branch_at : ℕ → Option Instr
+branch_at word = option_map (branch_made word) (branch_with (funct3_at word))
 
 unfoldable pub load_at : ℕ → Option Instr
 load_at word = option_map (load_made word) (load_with (funct3_at word))
@@ -112,15 +169,58 @@ load_at word = option_map (load_made word) (load_with (funct3_at word))
 unfoldable pub store_at : ℕ → Option Instr
 store_at word = option_map (store_made word) (store_with (funct3_at word))
 
+unfoldable pub immediate_at : ℕ → Option Instr
+immediate_at word = option_map (immediate_made word) (immediate_with (funct3_at word))
+
+unfoldable pub shift_at : ℕ → Option Instr
+shift_at word = option_map (shift_made word) (shift_with (funct3_at word) (funct7_at word))
+
+unfoldable pub register_at : ℕ → Option Instr
+register_at word = option_map (register_made word) (register_with (funct3_at word) (funct7_at word))
+
+unfoldable pub multiply_at : ℕ → Option Instr
+multiply_at word = option_map (multiply_made word) (multiply_with (funct3_at word))
+
+unfoldable pub divide_at : ℕ → Option Instr
+divide_at word = option_map (divide_made word) (divide_with (funct3_at word))
+
+abbrev pub jump_at : ℕ → Option Instr
+jump_at word = Some (Jump (rd_at word) (j_offset_at word))
+
+unfoldable pub jump_register_at : ℕ → Option Instr
+jump_register_at word =
+    if funct3_at word == 0 then Some (JumpRegister (rd_at word) (rs1_at word) (i_immediate_at word)) else None
+
+-- SLLI, SRLI and SRAI are the immediate operations whose funct3 ends in 01
+unfoldable pub op_imm_at : ℕ → Option Instr
+op_imm_at word = if funct3_at word % 4 == 1 then shift_at word else immediate_at word
+
+-- multiplications have the lower four funct3, divisions the upper four
+unfoldable pub muldiv_at : ℕ → Option Instr
+muldiv_at word = if funct3_at word / 4 == 0 then multiply_at word else divide_at word
+
+unfoldable pub op_at : ℕ → Option Instr
+op_at word = if funct7_at word == muldiv_funct7 then muldiv_at word else register_at word
+
+unfoldable pub fence_at : ℕ → Option Instr
+fence_at word =
+    if funct3_at word == 0
+    then Some (Fence (mode_at word) (before_at word) (after_at word) (rs1_at word) (rd_at word))
+    else None
+
 unfoldable pub system_at : ℕ → Option Instr
 system_at word = if word == ecall_word then Some Ecall else if word == ebreak_word then Some Ebreak else None
 
 abbrev pub group_at : ℕ → ℕ → Option Instr
 group_at opcode word =
-    if opcode == op_imm_opcode then immediate_at word
-    else if opcode == op_opcode then register_at word
+    if opcode == op_imm_opcode then op_imm_at word
+    else if opcode == op_opcode then op_at word
     else if opcode == load_opcode then load_at word
     else if opcode == store_opcode then store_at word
+    else if opcode == branch_opcode then branch_at word
+    else if opcode == jal_opcode then jump_at word
+    else if opcode == jalr_opcode then jump_register_at word
+    else if opcode == misc_mem_opcode then fence_at word
     else if opcode == system_opcode then system_at word
     else upper_at word
 

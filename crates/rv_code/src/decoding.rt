@@ -2,17 +2,21 @@
 
 ghost use Rattle.std.specs.Prelude.{◌≡◌, ◌<◌, ◌^◌, Some, IfSome};
 ghost use Rattle.rv_code.specs.Words.{word_of, IsInstr};
-ghost use Rattle.rv_code.specs.Reading.{rd_at, funct3_at, rs1_at, rs2_at, funct7_at, i_immediate_at, s_immediate_at, u_immediate_at, upper_with, immediate_with, register_with, load_with, store_with, upper_at, immediate_at, register_at, load_at, store_at, system_at, group_at};
+ghost use Rattle.rv_code.specs.Reading.{upper_at, branch_at, load_at, store_at, immediate_at, shift_at, register_at, multiply_at, divide_at, jump_at, jump_register_at, op_imm_at, muldiv_at, op_at, fence_at, system_at, group_at};
 ghost use Rattle.rv_code.specs.declared.instructions.Instr.{Instr};
 
-use crate::immediates::Immediate12;
+use crate::fields::{
+    b_offset, fence_after, fence_before, fence_mode, funct3, funct7, i_immediate, j_offset, rd,
+    rs1, rs2, s_immediate, shift_amount, u_immediate,
+};
 use crate::instructions::Instr;
 use crate::operations::{
-    EBREAK, ECALL, ImmediateOperation, LOAD, LoadOperation, OP, OP_IMM, RegisterOperation, STORE,
-    SYSTEM, StoreOperation, UpperOperation,
+    BRANCH, EBREAK, ECALL, JAL, JALR, LOAD, MISC_MEM, MULDIV, OP, OP_IMM, STORE, SYSTEM,
 };
-use crate::registers::Reg;
-use crate::upper_immediates::UpperImmediate;
+use crate::rows::{
+    branch_test, divide_operation, immediate_operation, load_operation, multiply_operation,
+    register_operation, shift_operation, store_operation, upper_operation,
+};
 
 /// The instruction whose word this is, or `None` where there is none.
 pub fn decode(word: u32) -> Option<Instr>
@@ -26,10 +30,14 @@ fn in_group(opcode: u32, word: u32) -> Option<Instr>
     ensures { result ≡ group_at opcode word }
 {
     match opcode {
-        OP_IMM => immediate(word),
-        OP => register(word),
+        OP_IMM => op_imm(word),
+        OP => op(word),
         LOAD => load(word),
         STORE => store(word),
+        BRANCH => branch(word),
+        JAL => Some(Instr::Jump(rd(word), j_offset(word))),
+        JALR => jump_register(word),
+        MISC_MEM => fence(word),
         SYSTEM => system(word),
         _ => upper(word),
     }
@@ -40,23 +48,26 @@ fn upper(word: u32) -> Option<Instr>
     ensures { result ≡ upper_at word }
 {
     let operation = upper_operation(word % 128)?;
-    Some(Instr::Upper(operation, rd(word), UpperImmediate::from_bits(word >> 12)))
+    Some(Instr::Upper(operation, rd(word), u_immediate(word)))
 }
 
-#[tactic(auto, unfolding(crate::specs::Reading::immediate_at))]
-fn immediate(word: u32) -> Option<Instr>
-    ensures { result ≡ immediate_at word }
+#[tactic(auto, unfolding(crate::specs::Reading::jump_register_at))]
+fn jump_register(word: u32) -> Option<Instr>
+    ensures { result ≡ jump_register_at word }
 {
-    let operation = immediate_operation(funct3(word))?;
-    Some(Instr::Immediate(operation, rd(word), rs1(word), i_immediate(word)))
+    if funct3(word) == 0 {
+        Some(Instr::JumpRegister(rd(word), rs1(word), i_immediate(word)))
+    } else {
+        None
+    }
 }
 
-#[tactic(auto, unfolding(crate::specs::Reading::register_at))]
-fn register(word: u32) -> Option<Instr>
-    ensures { result ≡ register_at word }
+#[tactic(auto, unfolding(crate::specs::Reading::branch_at))]
+fn branch(word: u32) -> Option<Instr>
+    ensures { result ≡ branch_at word }
 {
-    let operation = register_operation(funct3(word), funct7(word))?;
-    Some(Instr::Register(operation, rd(word), rs1(word), rs2(word)))
+    let test = branch_test(funct3(word))?;
+    Some(Instr::Branch(test, rs1(word), rs2(word), b_offset(word)))
 }
 
 #[tactic(auto, unfolding(crate::specs::Reading::load_at))]
@@ -75,6 +86,96 @@ fn store(word: u32) -> Option<Instr>
     Some(Instr::Store(operation, rs2(word), rs1(word), s_immediate(word)))
 }
 
+#[tactic(auto, unfolding(crate::specs::Reading::op_imm_at))]
+fn op_imm(word: u32) -> Option<Instr>
+    ensures { result ≡ op_imm_at word }
+{
+    if funct3(word) % 4 == 1 {
+        shift(word)
+    } else {
+        immediate(word)
+    }
+}
+
+#[tactic(auto, unfolding(crate::specs::Reading::immediate_at))]
+fn immediate(word: u32) -> Option<Instr>
+    ensures { result ≡ immediate_at word }
+{
+    let operation = immediate_operation(funct3(word))?;
+    Some(Instr::Immediate(operation, rd(word), rs1(word), i_immediate(word)))
+}
+
+#[tactic(auto, unfolding(crate::specs::Reading::shift_at))]
+fn shift(word: u32) -> Option<Instr>
+    ensures { result ≡ shift_at word }
+{
+    let operation = shift_operation(funct3(word), funct7(word))?;
+    Some(Instr::Shift(operation, rd(word), rs1(word), shift_amount(word)))
+}
+
+#[tactic(auto, unfolding(crate::specs::Reading::op_at))]
+fn op(word: u32) -> Option<Instr>
+    ensures { result ≡ op_at word }
+{
+    if funct7(word) == MULDIV {
+        muldiv(word)
+    } else {
+        register(word)
+    }
+}
+
+#[tactic(auto, unfolding(crate::specs::Reading::register_at))]
+fn register(word: u32) -> Option<Instr>
+    ensures { result ≡ register_at word }
+{
+    let operation = register_operation(funct3(word), funct7(word))?;
+    Some(Instr::Register(operation, rd(word), rs1(word), rs2(word)))
+}
+
+#[tactic(auto, unfolding(crate::specs::Reading::muldiv_at))]
+fn muldiv(word: u32) -> Option<Instr>
+    ensures { result ≡ muldiv_at word }
+{
+    if funct3(word) / 4 == 0 {
+        multiply(word)
+    } else {
+        divide(word)
+    }
+}
+
+#[tactic(auto, unfolding(crate::specs::Reading::multiply_at))]
+fn multiply(word: u32) -> Option<Instr>
+    ensures { result ≡ multiply_at word }
+{
+    let operation = multiply_operation(funct3(word))?;
+    Some(Instr::Multiply(operation, rd(word), rs1(word), rs2(word)))
+}
+
+#[tactic(auto, unfolding(crate::specs::Reading::divide_at))]
+fn divide(word: u32) -> Option<Instr>
+    ensures { result ≡ divide_at word }
+{
+    let operation = divide_operation(funct3(word))?;
+    Some(Instr::Divide(operation, rd(word), rs1(word), rs2(word)))
+}
+
+#[tactic(auto, unfolding(crate::specs::Reading::fence_at))]
+fn fence(word: u32) -> Option<Instr>
+    ensures { result ≡ fence_at word }
+{
+    if funct3(word) == 0 {
+        Some(Instr::Fence(
+            fence_mode(word),
+            fence_before(word),
+            fence_after(word),
+            rs1(word),
+            rd(word),
+        ))
+    } else {
+        None
+    }
+}
+
 #[tactic(auto, unfolding(crate::specs::Reading::system_at))]
 fn system(word: u32) -> Option<Instr>
     ensures { result ≡ system_at word }
@@ -84,95 +185,4 @@ fn system(word: u32) -> Option<Instr>
         EBREAK => Some(Instr::Ebreak),
         _ => None,
     }
-}
-
-// The operation of a group that the fixed fields tell.
-
-fn upper_operation(opcode: u32) -> Option<UpperOperation>
-    ensures { result ≡ upper_with opcode }
-{
-    UpperOperation::ALL
-        .iter()
-        .copied()
-        .find(|operation| operation.row().opcode == opcode)
-}
-
-fn immediate_operation(funct3: u32) -> Option<ImmediateOperation>
-    ensures { result ≡ immediate_with funct3 }
-{
-    ImmediateOperation::ALL
-        .iter()
-        .copied()
-        .find(|operation| operation.row().funct3 == funct3)
-}
-
-fn register_operation(funct3: u32, funct7: u32) -> Option<RegisterOperation>
-    ensures { result ≡ register_with funct3 funct7 }
-{
-    RegisterOperation::ALL.iter().copied().find(|operation| {
-        let row = operation.row();
-        row.funct3 == funct3 && row.funct7 == funct7
-    })
-}
-
-fn load_operation(funct3: u32) -> Option<LoadOperation>
-    ensures { result ≡ load_with funct3 }
-{
-    LoadOperation::ALL
-        .iter()
-        .copied()
-        .find(|operation| operation.row().funct3 == funct3)
-}
-
-fn store_operation(funct3: u32) -> Option<StoreOperation>
-    ensures { result ≡ store_with funct3 }
-{
-    StoreOperation::ALL
-        .iter()
-        .copied()
-        .find(|operation| operation.row().funct3 == funct3)
-}
-
-// The fields of a word.
-
-fn rd(word: u32) -> Reg
-    ensures { result ≡ rd_at word }
-{
-    Reg::from_bits(word >> 7)
-}
-
-fn funct3(word: u32) -> u32
-    ensures { result ≡ funct3_at word }
-{
-    (word >> 12) % 8
-}
-
-fn rs1(word: u32) -> Reg
-    ensures { result ≡ rs1_at word }
-{
-    Reg::from_bits(word >> 15)
-}
-
-fn rs2(word: u32) -> Reg
-    ensures { result ≡ rs2_at word }
-{
-    Reg::from_bits(word >> 20)
-}
-
-fn funct7(word: u32) -> u32
-    ensures { result ≡ funct7_at word }
-{
-    (word >> 25) % 128
-}
-
-fn i_immediate(word: u32) -> Immediate12
-    ensures { result ≡ i_immediate_at word }
-{
-    Immediate12::from_bits(word >> 20)
-}
-
-fn s_immediate(word: u32) -> Immediate12
-    ensures { result ≡ s_immediate_at word }
-{
-    Immediate12::from_bits((word >> 7) % 32 + funct7(word) * 32)
 }

@@ -1,4 +1,4 @@
-// Instructions of RV32I, those that the compiler needs, and their words.
+// Instructions of RV32IM, all of them, and their words.
 //
 // It promises that `encode` gives an instruction the word that the RISC-V Unprivileged ISA gives
 // it (`specs/Words.antt`), that `decode` gives back an instruction exactly for its word, and that
@@ -7,11 +7,16 @@
 
 pub mod decoding;
 pub mod encoding;
+mod fields;
 pub mod immediates;
 pub mod instructions;
 pub mod laws;
+mod mnemonics;
+pub mod offsets;
 pub mod operations;
 pub mod registers;
+mod rows;
+pub mod small_fields;
 mod text;
 pub mod upper_immediates;
 
@@ -19,10 +24,13 @@ pub use decoding::decode;
 pub use encoding::encode;
 pub use immediates::Immediate12;
 pub use instructions::Instr;
+pub use offsets::{BranchOffset, JumpOffset};
 pub use operations::{
-    ImmediateOperation, LoadOperation, RegisterOperation, StoreOperation, UpperOperation,
+    BranchTest, DivideOperation, ImmediateOperation, LoadOperation, MultiplyOperation,
+    RegisterOperation, ShiftOperation, StoreOperation, UpperOperation,
 };
 pub use registers::Reg;
+pub use small_fields::{FenceBits, ShiftAmount};
 pub use upper_immediates::UpperImmediate;
 
 #[cfg(test)]

@@ -5,8 +5,8 @@
 // and `specs/WordLaws.antt` has a line for each of its fixed fields.
 
 ghost use Rattle.std.specs.Prelude.{◌≡◌};
-ghost use Rattle.rv_code.specs.Text.{upper_mnemonic, immediate_mnemonic, register_mnemonic, load_mnemonic, store_mnemonic};
-ghost use Rattle.rv_code.specs.Words.{upper_opcode, immediate_funct3, register_funct3, register_funct7, load_funct3, store_funct3};
+ghost use Rattle.rv_code.specs.Text.{upper_mnemonic, branch_mnemonic, load_mnemonic, store_mnemonic, immediate_mnemonic, shift_mnemonic, register_mnemonic, multiply_mnemonic, divide_mnemonic};
+ghost use Rattle.rv_code.specs.Words.{upper_opcode, branch_funct3, load_funct3, store_funct3, immediate_funct3, shift_funct3, shift_funct7, register_funct3, register_funct7, multiply_funct3, divide_funct3};
 
 pub(crate) const OP_IMM: u32 = 0b0010011;
 
@@ -16,7 +16,18 @@ pub(crate) const LOAD: u32 = 0b0000011;
 
 pub(crate) const STORE: u32 = 0b0100011;
 
+pub(crate) const BRANCH: u32 = 0b1100011;
+
+pub(crate) const JAL: u32 = 0b1101111;
+
+pub(crate) const JALR: u32 = 0b1100111;
+
+pub(crate) const MISC_MEM: u32 = 0b0001111;
+
 pub(crate) const SYSTEM: u32 = 0b1110011;
+
+/// The funct7 of multiplications and divisions.
+pub(crate) const MULDIV: u32 = 0b0000001;
 
 pub(crate) const ECALL: u32 = 0x00000073;
 
@@ -26,12 +37,55 @@ pub(crate) const EBREAK: u32 = 0x00100073;
 #[derive(Clone, Copy, Debug, PartialEq, Eq)]
 pub enum UpperOperation {
     Lui,
+    Auipc,
+}
+
+/// What two registers have to be for a branch to be taken.
+#[derive(Clone, Copy, Debug, PartialEq, Eq)]
+pub enum BranchTest {
+    Beq,
+    Bne,
+    Blt,
+    Bge,
+    Bltu,
+    Bgeu,
+}
+
+/// Which bytes a load reads, and how they fill the register.
+#[derive(Clone, Copy, Debug, PartialEq, Eq)]
+pub enum LoadOperation {
+    Lb,
+    Lh,
+    Lw,
+    Lbu,
+    Lhu,
+}
+
+/// Which bytes of the register a store writes.
+#[derive(Clone, Copy, Debug, PartialEq, Eq)]
+pub enum StoreOperation {
+    Sb,
+    Sh,
+    Sw,
 }
 
 /// What a register and an immediate compute.
 #[derive(Clone, Copy, Debug, PartialEq, Eq)]
 pub enum ImmediateOperation {
     Addi,
+    Slti,
+    Sltiu,
+    Xori,
+    Ori,
+    Andi,
+}
+
+/// How a register is shifted by an amount.
+#[derive(Clone, Copy, Debug, PartialEq, Eq)]
+pub enum ShiftOperation {
+    Slli,
+    Srli,
+    Srai,
 }
 
 /// What two registers compute.
@@ -39,20 +93,32 @@ pub enum ImmediateOperation {
 pub enum RegisterOperation {
     Add,
     Sub,
+    Sll,
+    Slt,
+    Sltu,
     Xor,
+    Srl,
+    Sra,
+    Or,
     And,
 }
 
-/// Which bytes a load reads, and how they fill the register.
+/// Which half of two registers' product, with which signs.
 #[derive(Clone, Copy, Debug, PartialEq, Eq)]
-pub enum LoadOperation {
-    Lw,
+pub enum MultiplyOperation {
+    Mul,
+    Mulh,
+    Mulhsu,
+    Mulhu,
 }
 
-/// Which bytes of the register a store writes.
+/// The quotient or the remainder of two registers, with or without signs.
 #[derive(Clone, Copy, Debug, PartialEq, Eq)]
-pub enum StoreOperation {
-    Sw,
+pub enum DivideOperation {
+    Div,
+    Divu,
+    Rem,
+    Remu,
 }
 
 /// The row of an operation that its opcode tells.
@@ -78,7 +144,7 @@ pub(crate) struct Funct7Row {
 }
 
 impl UpperOperation {
-    pub(crate) const ALL: [Self; 1] = [Self::Lui];
+    pub(crate) const ALL: [Self; 2] = [Self::Lui, Self::Auipc];
 
     pub(crate) fn row(self) -> OpcodeRow
         ensures mnemonic { result.mnemonic.now ≡ upper_mnemonic self }
@@ -86,13 +152,81 @@ impl UpperOperation {
     {
         let (mnemonic, opcode) = match self {
             Self::Lui => ("lui", 0b0110111),
+            Self::Auipc => ("auipc", 0b0010111),
         };
         OpcodeRow { mnemonic, opcode }
     }
 }
 
+impl BranchTest {
+    pub(crate) const ALL: [Self; 6] = [
+        Self::Beq,
+        Self::Bne,
+        Self::Blt,
+        Self::Bge,
+        Self::Bltu,
+        Self::Bgeu,
+    ];
+
+    pub(crate) fn row(self) -> Funct3Row
+        ensures mnemonic { result.mnemonic.now ≡ branch_mnemonic self }
+        ensures funct3 { result.funct3 ≡ branch_funct3 self }
+    {
+        let (mnemonic, funct3) = match self {
+            Self::Beq => ("beq", 0b000),
+            Self::Bne => ("bne", 0b001),
+            Self::Blt => ("blt", 0b100),
+            Self::Bge => ("bge", 0b101),
+            Self::Bltu => ("bltu", 0b110),
+            Self::Bgeu => ("bgeu", 0b111),
+        };
+        Funct3Row { mnemonic, funct3 }
+    }
+}
+
+impl LoadOperation {
+    pub(crate) const ALL: [Self; 5] = [Self::Lb, Self::Lh, Self::Lw, Self::Lbu, Self::Lhu];
+
+    pub(crate) fn row(self) -> Funct3Row
+        ensures mnemonic { result.mnemonic.now ≡ load_mnemonic self }
+        ensures funct3 { result.funct3 ≡ load_funct3 self }
+    {
+        let (mnemonic, funct3) = match self {
+            Self::Lb => ("lb", 0b000),
+            Self::Lh => ("lh", 0b001),
+            Self::Lw => ("lw", 0b010),
+            Self::Lbu => ("lbu", 0b100),
+            Self::Lhu => ("lhu", 0b101),
+        };
+        Funct3Row { mnemonic, funct3 }
+    }
+}
+
+impl StoreOperation {
+    pub(crate) const ALL: [Self; 3] = [Self::Sb, Self::Sh, Self::Sw];
+
+    pub(crate) fn row(self) -> Funct3Row
+        ensures mnemonic { result.mnemonic.now ≡ store_mnemonic self }
+        ensures funct3 { result.funct3 ≡ store_funct3 self }
+    {
+        let (mnemonic, funct3) = match self {
+            Self::Sb => ("sb", 0b000),
+            Self::Sh => ("sh", 0b001),
+            Self::Sw => ("sw", 0b010),
+        };
+        Funct3Row { mnemonic, funct3 }
+    }
+}
+
 impl ImmediateOperation {
-    pub(crate) const ALL: [Self; 1] = [Self::Addi];
+    pub(crate) const ALL: [Self; 6] = [
+        Self::Addi,
+        Self::Slti,
+        Self::Sltiu,
+        Self::Xori,
+        Self::Ori,
+        Self::Andi,
+    ];
 
     pub(crate) fn row(self) -> Funct3Row
         ensures mnemonic { result.mnemonic.now ≡ immediate_mnemonic self }
@@ -100,13 +234,50 @@ impl ImmediateOperation {
     {
         let (mnemonic, funct3) = match self {
             Self::Addi => ("addi", 0b000),
+            Self::Slti => ("slti", 0b010),
+            Self::Sltiu => ("sltiu", 0b011),
+            Self::Xori => ("xori", 0b100),
+            Self::Ori => ("ori", 0b110),
+            Self::Andi => ("andi", 0b111),
         };
         Funct3Row { mnemonic, funct3 }
     }
 }
 
+impl ShiftOperation {
+    pub(crate) const ALL: [Self; 3] = [Self::Slli, Self::Srli, Self::Srai];
+
+    pub(crate) fn row(self) -> Funct7Row
+        ensures mnemonic { result.mnemonic.now ≡ shift_mnemonic self }
+        ensures funct3 { result.funct3 ≡ shift_funct3 self }
+        ensures funct7 { result.funct7 ≡ shift_funct7 self }
+    {
+        let (mnemonic, funct3, funct7) = match self {
+            Self::Slli => ("slli", 0b001, 0b0000000),
+            Self::Srli => ("srli", 0b101, 0b0000000),
+            Self::Srai => ("srai", 0b101, 0b0100000),
+        };
+        Funct7Row {
+            mnemonic,
+            funct3,
+            funct7,
+        }
+    }
+}
+
 impl RegisterOperation {
-    pub(crate) const ALL: [Self; 4] = [Self::Add, Self::Sub, Self::Xor, Self::And];
+    pub(crate) const ALL: [Self; 10] = [
+        Self::Add,
+        Self::Sub,
+        Self::Sll,
+        Self::Slt,
+        Self::Sltu,
+        Self::Xor,
+        Self::Srl,
+        Self::Sra,
+        Self::Or,
+        Self::And,
+    ];
 
     pub(crate) fn row(self) -> Funct7Row
         ensures mnemonic { result.mnemonic.now ≡ register_mnemonic self }
@@ -116,7 +287,13 @@ impl RegisterOperation {
         let (mnemonic, funct3, funct7) = match self {
             Self::Add => ("add", 0b000, 0b0000000),
             Self::Sub => ("sub", 0b000, 0b0100000),
+            Self::Sll => ("sll", 0b001, 0b0000000),
+            Self::Slt => ("slt", 0b010, 0b0000000),
+            Self::Sltu => ("sltu", 0b011, 0b0000000),
             Self::Xor => ("xor", 0b100, 0b0000000),
+            Self::Srl => ("srl", 0b101, 0b0000000),
+            Self::Sra => ("sra", 0b101, 0b0100000),
+            Self::Or => ("or", 0b110, 0b0000000),
             Self::And => ("and", 0b111, 0b0000000),
         };
         Funct7Row {
@@ -127,29 +304,35 @@ impl RegisterOperation {
     }
 }
 
-impl LoadOperation {
-    pub(crate) const ALL: [Self; 1] = [Self::Lw];
+impl MultiplyOperation {
+    pub(crate) const ALL: [Self; 4] = [Self::Mul, Self::Mulh, Self::Mulhsu, Self::Mulhu];
 
     pub(crate) fn row(self) -> Funct3Row
-        ensures mnemonic { result.mnemonic.now ≡ load_mnemonic self }
-        ensures funct3 { result.funct3 ≡ load_funct3 self }
+        ensures mnemonic { result.mnemonic.now ≡ multiply_mnemonic self }
+        ensures funct3 { result.funct3 ≡ multiply_funct3 self }
     {
         let (mnemonic, funct3) = match self {
-            Self::Lw => ("lw", 0b010),
+            Self::Mul => ("mul", 0b000),
+            Self::Mulh => ("mulh", 0b001),
+            Self::Mulhsu => ("mulhsu", 0b010),
+            Self::Mulhu => ("mulhu", 0b011),
         };
         Funct3Row { mnemonic, funct3 }
     }
 }
 
-impl StoreOperation {
-    pub(crate) const ALL: [Self; 1] = [Self::Sw];
+impl DivideOperation {
+    pub(crate) const ALL: [Self; 4] = [Self::Div, Self::Divu, Self::Rem, Self::Remu];
 
     pub(crate) fn row(self) -> Funct3Row
-        ensures mnemonic { result.mnemonic.now ≡ store_mnemonic self }
-        ensures funct3 { result.funct3 ≡ store_funct3 self }
+        ensures mnemonic { result.mnemonic.now ≡ divide_mnemonic self }
+        ensures funct3 { result.funct3 ≡ divide_funct3 self }
     {
         let (mnemonic, funct3) = match self {
-            Self::Sw => ("sw", 0b010),
+            Self::Div => ("div", 0b100),
+            Self::Divu => ("divu", 0b101),
+            Self::Rem => ("rem", 0b110),
+            Self::Remu => ("remu", 0b111),
         };
         Funct3Row { mnemonic, funct3 }
     }

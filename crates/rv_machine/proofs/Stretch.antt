@@ -1,13 +1,13 @@
 -- Numbers in one stretch of bytes.
-use Rattle.std.specs.Prelude.{◌⊎◌, is_some, slice_get}
-use Rattle.std.proofs.Common.{◌≡◌, ◌≢◌, ℕ, zero, suc, ◌+◌, ◌-◌, ◌*◌, ◌/◌, ◌%◌, ◌^◌, ◌<◌, ◌≤◌, List, length, get_or, Option, Some, None, Bool, true, false, cond, refl, sym, ap, ◌∙◌, inl, inr, ⊎_elim, arith}
+use Rattle.std.specs.Prelude.{is_some}
+use Rattle.std.proofs.Common.{◌≡◌, ◌≢◌, ℕ, zero, suc, ◌+◌, ◌-◌, ◌<◌, ◌≤◌, List, length, get_or, Option, Some, None, true, refl, sym, ap, ◌∙◌, ⊎_elim, arith}
 use Rattle.std.proofs.Math.ListN.{set, length-set}
 use Rattle.std.proofs.Math.Path.{fun_ext}
 use Rattle.std.proofs.lemmas.Bool.{cases_eq, cases_lt, le-leb, lt-leb}
 use Rattle.std.proofs.lemmas.List.{get_or-set_same, get_or-set_other}
 use Rattle.std.proofs.lemmas.Option.{slice_get-get_or, slice_get_past}
-use Rattle.rv_machine.specs.Bytes.{ByteMap, joined, number_at, with_byte, with_number}
-use Rattle.rv_machine.specs.ByteLaws.{number_at-suc, number_at-zero, number_at_more, with_byte_same, with_byte_other, with_number-suc}
+use Rattle.rv_machine.specs.Bytes.{joined, number_at, with_byte}
+use Rattle.rv_machine.specs.ByteLaws.{number_at-suc, number_at-zero, with_byte_same, with_byte_other}
 use Rattle.rv_machine.specs.Flat.{bytes_from}
 use Rattle.rv_machine.specs.Sizes.{byte_count}
 use Rattle.rv_machine.specs.declared.memory.Size.{Size}

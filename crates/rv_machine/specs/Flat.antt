@@ -1,5 +1,5 @@
 -- The bytes of one stretch of addresses.
-use Rattle.std.specs.Prelude.{ℕ, ◌-◌, List, Option, None, nat_le, slice_get, if◌then◌else◌}
+use Rattle.std.specs.Prelude.{ℕ, ◌-◌, List, None, nat_le, slice_get, if◌then◌else◌}
 use Rattle.rv_machine.specs.Bytes.{ByteMap}
 use Rattle.rv_machine.specs.declared.flat.FlatMemory.{FlatMemory}
 

@@ -11,6 +11,7 @@ pub mod Recording
 pub mod Regions
 pub mod Registers
 pub mod RunLaws
+pub mod SignedWords
 pub mod Sizes
 pub mod Stops
 pub mod TurnLaws

@@ -1,14 +1,18 @@
-// What instructions do with the registers: a row for each instruction.
+// What instructions do with the registers and the program counter.
 
 ghost use Rattle.std.specs.Prelude.{◌≡◌};
-ghost use Rattle.rv_machine.specs.Effects.{sign_extended, upper_value, immediate_value, register_value, load_size, store_size, address_of, effect_of};
+ghost use Rattle.rv_machine.specs.Effects.{effect_of, address_of, jump_target, branch_target, register_target};
 ghost use Rattle.rv_machine.specs.Harts.{pc_of, regs_of};
+ghost use Rattle.rv_machine.specs.SignedWords.{sign_extended};
 
 use crate::hart::Hart;
-use crate::memory::Size;
+use crate::signed;
+use crate::values::{
+    divide_value, holds, immediate_value, multiply_value, register_value, shift_value, upper_value,
+};
 use rv_code::{
-    Immediate12, ImmediateOperation, Instr, LoadOperation, Reg, RegisterOperation, StoreOperation,
-    UpperImmediate, UpperOperation,
+    BranchOffset, BranchTest, DivideOperation, Immediate12, Instr, JumpOffset, LoadOperation, Reg,
+    StoreOperation,
 };
 use word::Width;
 
@@ -17,6 +21,14 @@ use word::Width;
 pub enum Effect {
     /// The register gets this value.
     Computes(Reg, u32),
+    /// The register gets the last number, which is made of the first by the second.
+    Divides(Reg, u32, u32, u32),
+    /// The register gets the next address, and the program counter this target.
+    Jumps(Reg, u32),
+    /// The program counter gets this target.
+    Branches(u32),
+    /// Nothing.
+    Passes,
     /// The register gets what stands at this address.
     Loads(LoadOperation, Reg, u32),
     /// Bytes of the second number go to this address, the first one.
@@ -33,85 +45,90 @@ pub fn effect_of(hart: &Hart, instr: Instr) -> Effect
 {
     match instr {
         Instr::Upper(operation, rd, immediate) => {
-            Effect::Computes(rd, upper_value(operation, immediate))
+            Effect::Computes(rd, upper_value(operation, hart.pc(), immediate))
         }
-        Instr::Immediate(operation, rd, rs1, immediate) => Effect::Computes(
-            rd,
-            immediate_value(operation, hart.reg(rs1), sign_extended(immediate)),
-        ),
-        Instr::Register(operation, rd, rs1, rs2) => Effect::Computes(
-            rd,
-            register_value(operation, hart.reg(rs1), hart.reg(rs2)),
-        ),
+        Instr::Jump(rd, offset) => Effect::Jumps(rd, jump_target(hart, offset)),
+        Instr::JumpRegister(rd, rs1, offset) => {
+            Effect::Jumps(rd, register_target(hart, rs1, offset))
+        }
+        Instr::Branch(test, rs1, rs2, offset) => branch(hart, test, rs1, rs2, offset),
         Instr::Load(operation, rd, rs1, offset) => {
             Effect::Loads(operation, rd, address(hart, rs1, offset))
         }
         Instr::Store(operation, rs2, rs1, offset) => {
             Effect::Stores(operation, address(hart, rs1, offset), hart.reg(rs2))
         }
+        Instr::Immediate(operation, rd, rs1, immediate) => {
+            let value = immediate_value(operation, hart.reg(rs1), sign_extended(immediate));
+            Effect::Computes(rd, value)
+        }
+        Instr::Shift(operation, rd, rs1, amount) => {
+            let value = shift_value(operation, hart.reg(rs1), u32::from(amount.amount()));
+            Effect::Computes(rd, value)
+        }
+        Instr::Register(operation, rd, rs1, rs2) => {
+            let value = register_value(operation, hart.reg(rs1), hart.reg(rs2));
+            Effect::Computes(rd, value)
+        }
+        Instr::Multiply(operation, rd, rs1, rs2) => {
+            let value = multiply_value(operation, hart.reg(rs1), hart.reg(rs2));
+            Effect::Computes(rd, value)
+        }
+        Instr::Divide(operation, rd, rs1, rs2) => division(hart, operation, rd, rs1, rs2),
+        Instr::Fence(_, _, _, _, _) => Effect::Passes,
         Instr::Ecall => Effect::Calls,
         Instr::Ebreak => Effect::Breaks,
     }
 }
 
-/// How many bytes a load takes.
-pub fn load_size(operation: LoadOperation) -> Size
-    ensures { result ≡ load_size operation }
+fn branch(hart: &Hart, test: BranchTest, rs1: Reg, rs2: Reg, offset: BranchOffset) -> Effect
+    ensures { result ≡ effect_of (Instr.Branch test rs1 rs2 offset) (pc_of hart.now) (regs_of hart.now) }
 {
-    match operation {
-        LoadOperation::Lw => Size::Word,
+    if holds(test, hart.reg(rs1), hart.reg(rs2)) {
+        Effect::Branches(branch_target(hart, offset))
+    } else {
+        Effect::Passes
     }
 }
 
-/// How many bytes a store takes.
-pub fn store_size(operation: StoreOperation) -> Size
-    ensures { result ≡ store_size operation }
+fn division(hart: &Hart, operation: DivideOperation, rd: Reg, rs1: Reg, rs2: Reg) -> Effect
+    ensures { result ≡ effect_of (Instr.Divide operation rd rs1 rs2) (pc_of hart.now) (regs_of hart.now) }
 {
-    match operation {
-        StoreOperation::Sw => Size::Word,
-    }
-}
-
-fn upper_value(operation: UpperOperation, immediate: UpperImmediate) -> u32
-    ensures { result ≡ upper_value operation immediate }
-{
-    match operation {
-        UpperOperation::Lui => immediate.field() * 4096,
-    }
-}
-
-fn immediate_value(operation: ImmediateOperation, a: u32, b: u32) -> u32
-    ensures { result ≡ immediate_value operation a b }
-{
-    match operation {
-        ImmediateOperation::Addi => word::add(Width::W32, a, b),
-    }
-}
-
-fn register_value(operation: RegisterOperation, a: u32, b: u32) -> u32
-    ensures { result ≡ register_value operation a b }
-{
-    match operation {
-        RegisterOperation::Add => word::add(Width::W32, a, b),
-        RegisterOperation::Sub => word::subtract(Width::W32, a, b),
-        RegisterOperation::Xor => word::bit_xor(a, b),
-        RegisterOperation::And => word::bit_and(a, b),
-    }
+    let a = hart.reg(rs1);
+    let b = hart.reg(rs2);
+    Effect::Divides(rd, a, b, divide_value(operation, a, b))
 }
 
 fn sign_extended(immediate: Immediate12) -> u32
     ensures { result ≡ sign_extended 12 immediate }
 {
-    let field = u32::from(immediate.field());
-    if field < 0x800 {
-        field
-    } else {
-        field + 0xffff_f000
-    }
+    signed::extend(u32::from(immediate.field()), 0x800)
 }
 
+/// The address of a load or a store.
 fn address(hart: &Hart, rs1: Reg, offset: Immediate12) -> u32
     ensures { result ≡ address_of (regs_of hart.now) rs1 offset }
 {
     word::add(Width::W32, hart.reg(rs1), sign_extended(offset))
+}
+
+fn jump_target(hart: &Hart, offset: JumpOffset) -> u32
+    ensures { result ≡ jump_target (pc_of hart.now) offset }
+{
+    let distance = signed::extend(offset.halves() * 2, 0x10_0000);
+    word::add(Width::W32, hart.pc(), distance)
+}
+
+fn branch_target(hart: &Hart, offset: BranchOffset) -> u32
+    ensures { result ≡ branch_target (pc_of hart.now) offset }
+{
+    let distance = signed::extend(u32::from(offset.halves()) * 2, 0x1000);
+    word::add(Width::W32, hart.pc(), distance)
+}
+
+// The lowest bit is cleared.
+fn register_target(hart: &Hart, rs1: Reg, offset: Immediate12) -> u32
+    ensures { result ≡ register_target (regs_of hart.now) rs1 offset }
+{
+    address(hart, rs1, offset) / 2 * 2
 }

@@ -56,6 +56,21 @@ impl Hart {
         ensures pc { pc_of self.new ≡ (pc_of self.old + 4) % 2 ^ 32 }
         ensures registers { regs_of self.new ≡ regs_of self.old }
     {
-        self.pc = word::add(Width::W32, self.pc, 4);
+        self.pc = self.next();
+    }
+
+    // Goes on to this address.
+    pub(crate) fn go_to(&mut self, target: u32)
+        ensures pc { pc_of self.new ≡ target }
+        ensures registers { regs_of self.new ≡ regs_of self.old }
+    {
+        self.pc = target;
+    }
+
+    // The next instruction's address.
+    pub(crate) fn next(&self) -> u32
+        ensures { result ≡ (pc_of self.now + 4) % 2 ^ 32 }
+    {
+        word::add(Width::W32, self.pc, 4)
     }
 }

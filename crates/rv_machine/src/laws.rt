@@ -1,18 +1,22 @@
 // Laws of the machine, which hold of the definitions alone.
 
-ghost use Rattle.std.specs.Prelude.{◌≡◌, ◌≢◌, ℕ, ◌+◌, ◌%◌, ◌^◌, ◌≤◌, ◌⊎◌, Bool, true, List, ◌∷◌, [], ◌++◌, Some, is_some};
+ghost use Rattle.std.specs.Prelude.{◌≡◌, ◌≢◌, ℕ, ◌+◌, ◌%◌, ◌^◌, ◌≤◌, ◌⊎◌, Bool, true, false, List, ◌∷◌, [], ◌++◌, Some, is_some};
 ghost use Rattle.rv_code.specs.declared.instructions.Instr.{Instr};
 ghost use Rattle.rv_code.specs.declared.operations.UpperOperation.{UpperOperation};
+ghost use Rattle.rv_code.specs.declared.operations.BranchTest.{BranchTest};
 ghost use Rattle.rv_code.specs.declared.operations.ImmediateOperation.{ImmediateOperation};
+ghost use Rattle.rv_code.specs.declared.operations.ShiftOperation.{ShiftOperation};
 ghost use Rattle.rv_code.specs.declared.operations.RegisterOperation.{RegisterOperation};
+ghost use Rattle.rv_code.specs.declared.operations.MultiplyOperation.{MultiplyOperation};
+ghost use Rattle.rv_code.specs.declared.operations.DivideOperation.{DivideOperation};
 ghost use Rattle.rv_code.specs.declared.operations.LoadOperation.{LoadOperation};
 ghost use Rattle.rv_code.specs.declared.operations.StoreOperation.{StoreOperation};
 ghost use Rattle.rv_machine.specs.declared.observation.Observation.{Observation};
 ghost use Rattle.rv_machine.specs.declared.stops.Stop.{Stop};
 ghost use Rattle.rv_machine.specs.Bytes.{ByteMap, number_at, with_number};
-ghost use Rattle.rv_machine.specs.Effects.{sign_extended, upper_value, immediate_value, register_value, load_size, store_size, address_of};
+ghost use Rattle.rv_machine.specs.Effects.{sign_extended, upper_value, immediate_value, shift_value, register_value, multiply_value, divide_value, holds, load_size, loaded_value, store_size, address_of, jump_target, branch_target, register_target};
 ghost use Rattle.rv_machine.specs.Leakage.{Leads, Halts, Ran};
-ghost use Rattle.rv_machine.specs.Machine.{State, Code, Ending, Turn, here, observed, with_value, with_stored};
+ghost use Rattle.rv_machine.specs.Machine.{State, Code, Ending, Turn, here, next, observed, with_value, with_stored, with_link, moved_to};
 ghost use Rattle.rv_machine.specs.Recording.{kept};
 ghost use Rattle.rv_machine.specs.Registers.{register};
 ghost use Rattle.rv_machine.specs.Sizes.{byte_count};
@@ -50,7 +54,7 @@ pub fn one_run()
 pub fn instructions_turn()
     ensures upper { (code : Code) (s : State) (operation : UpperOperation) (rd immediate : ℕ)
         → IsAt code s.pc (Instr.Upper operation rd immediate)
-        → Leads code 1 s (here s) (with_value s rd (upper_value operation immediate)) }
+        → Leads code 1 s (here s) (with_value s rd (upper_value operation s.pc immediate)) }
     ensures immediate { (code : Code) (s : State) (operation : ImmediateOperation) (rd rs1 immediate : ℕ)
         → IsAt code s.pc (Instr.Immediate operation rd rs1 immediate)
         → Leads code 1 s (here s) (with_value s rd (immediate_value operation (register s.regs rs1) (sign_extended 12 immediate))) }
@@ -61,12 +65,41 @@ pub fn instructions_turn()
         → let a = address_of s.regs rs1 offset in let n = load_size operation in
         IsAt code s.pc (Instr.Load operation rd rs1 offset)
         → a % byte_count n ≡ 0 → number_at s.bytes (byte_count n) a ≡ Some value
-        → Leads code 1 s (observed s (Some (Event.Load a n)) ∷ []) (with_value s rd value) }
+        → Leads code 1 s (observed s (Some (Event.Load a n)) ∷ []) (with_value s rd (loaded_value operation value)) }
     ensures store { (code : Code) (s : State) (operation : StoreOperation) (rs2 rs1 offset : ℕ)
         → let a = address_of s.regs rs1 offset in let n = store_size operation in
         IsAt code s.pc (Instr.Store operation rs2 rs1 offset)
         → a % byte_count n ≡ 0 → is_some (number_at s.bytes (byte_count n) a) ≡ true
         → Leads code 1 s (observed s (Some (Event.Store a n)) ∷ []) (with_stored s n a (register s.regs rs2)) }
+    ensures shift { (code : Code) (s : State) (operation : ShiftOperation) (rd rs1 amount : ℕ)
+        → IsAt code s.pc (Instr.Shift operation rd rs1 amount)
+        → Leads code 1 s (here s) (with_value s rd (shift_value operation (register s.regs rs1) amount)) }
+    ensures multiply { (code : Code) (s : State) (operation : MultiplyOperation) (rd rs1 rs2 : ℕ)
+        → IsAt code s.pc (Instr.Multiply operation rd rs1 rs2)
+        → Leads code 1 s (here s) (with_value s rd (multiply_value operation (register s.regs rs1) (register s.regs rs2))) }
+    ensures divide { (code : Code) (s : State) (operation : DivideOperation) (rd rs1 rs2 : ℕ)
+        → let a = register s.regs rs1 in let b = register s.regs rs2 in
+        IsAt code s.pc (Instr.Divide operation rd rs1 rs2)
+        → Leads code 1 s (observed s (Some (Event.Div a b)) ∷ []) (with_value s rd (divide_value operation a b)) }
+    ensures fence { (code : Code) (s : State) (mode before after rs1 rd : ℕ)
+        → IsAt code s.pc (Instr.Fence mode before after rs1 rd)
+        → Leads code 1 s (here s) (moved_to s (next s)) }
+    ensures jump { (code : Code) (s : State) (rd offset : ℕ)
+        → IsAt code s.pc (Instr.Jump rd offset)
+        → jump_target s.pc offset % 4 ≡ 0
+        → Leads code 1 s (here s) (with_link s rd (jump_target s.pc offset)) }
+    ensures jump_register { (code : Code) (s : State) (rd rs1 offset : ℕ)
+        → IsAt code s.pc (Instr.JumpRegister rd rs1 offset)
+        → register_target s.regs rs1 offset % 4 ≡ 0
+        → Leads code 1 s (here s) (with_link s rd (register_target s.regs rs1 offset)) }
+    ensures branch_taken { (code : Code) (s : State) (test : BranchTest) (rs1 rs2 offset : ℕ)
+        → IsAt code s.pc (Instr.Branch test rs1 rs2 offset)
+        → holds test (register s.regs rs1) (register s.regs rs2) ≡ true → branch_target s.pc offset % 4 ≡ 0
+        → Leads code 1 s (here s) (moved_to s (branch_target s.pc offset)) }
+    ensures branch_not_taken { (code : Code) (s : State) (test : BranchTest) (rs1 rs2 offset : ℕ)
+        → IsAt code s.pc (Instr.Branch test rs1 rs2 offset)
+        → holds test (register s.regs rs1) (register s.regs rs2) ≡ false
+        → Leads code 1 s (here s) (moved_to s (next s)) }
     ensures ecall { (code : Code) (s : State) → IsAt code s.pc Instr.Ecall → Halts code 1 s (here s) Stop.Ecall s }
     ensures ebreak { (code : Code) (s : State) → IsAt code s.pc Instr.Ebreak → Halts code 1 s (here s) Stop.Break s }
 {}

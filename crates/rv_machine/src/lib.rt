@@ -1,4 +1,4 @@
-// The machine that runs the compiler's code: ten instructions of RV32I over a memory, and what an observer sees.
+// The machine that runs the compiler's code: all of RV32IM over a memory, and what an observer sees.
 //
 // It promises that `step` makes one turn of the machine (`specs/Machine.antt`) and records what that
 // turn shows (`specs/Leakage.antt`), that `run` makes turns up to the first one that stops or to its
@@ -16,7 +16,9 @@ pub mod memory;
 pub mod observation;
 pub mod recorders;
 pub mod recording;
+mod signed;
 pub mod stops;
+mod values;
 
 pub use code::CodeRegion;
 pub use effects::Effect;
@@ -27,5 +29,7 @@ pub use observation::{Event, Observation};
 pub use recorders::{ListRecorder, NullRecorder};
 pub use stops::Stop;
 
+#[cfg(test)]
+mod instruction_tests;
 #[cfg(test)]
 mod tests;

@@ -163,6 +163,84 @@ fn computes_modulo_two_to_32(rt: HostRuntime) -> Result<(), Fail> {
     Ok(())
 }
 
+// addi x6, x0, 0x89; sb x6, 1(x2); sh x6, 2(x2); lb x5, 1(x2); lbu x7, 1(x2); lh x28, 0(x2);
+// lhu x29, 0(x2); lw x30, 0(x2); ecall
+#[test]
+fn extends_what_it_loads(rt: HostRuntime) -> Result<(), Fail> {
+    let words = [
+        0x0890_0313,
+        0x0061_00a3,
+        0x0061_1123,
+        0x0011_0283,
+        0x0011_4383,
+        0x0001_1e03,
+        0x0001_5e83,
+        0x0001_2f03,
+        0x0000_0073,
+    ];
+    let run = run_of(rt.alloc(), &words, 4, 10)?;
+    assert_eq!(rt; run.stop, Stop::Ecall);
+    assert_eq!(rt; register(&run.hart, 5), Some(0xffff_ff89));
+    assert_eq!(rt; register(&run.hart, 7), Some(0x89));
+    assert_eq!(rt; register(&run.hart, 28), Some(0xffff_8900));
+    assert_eq!(rt; register(&run.hart, 29), Some(0x8900));
+    assert_eq!(rt; register(&run.hart, 30), Some(0x0089_8900));
+    let list = run.recorder.list();
+    assert_eq!(rt;
+        list.get(1).copied(),
+        Some(shown(CODE + 4, Event::Store(DATA + 1, Size::Byte)))
+    );
+    assert_eq!(rt;
+        list.get(5).copied(),
+        Some(shown(CODE + 20, Event::Load(DATA, Size::Half)))
+    );
+    Ok(())
+}
+
+// lw x5, 0(x2); beq x5, x0, 8; addi x1, x0, 1; ecall
+#[test]
+fn shows_which_way_it_branched(rt: HostRuntime) -> Result<(), Fail> {
+    let words = [0x0001_2283, 0x0002_8463, 0x0010_0093, 0x0000_0073];
+    let run = run_of(rt.alloc(), &words, 4, 4)?;
+    let expected = [
+        shown(CODE, Event::Load(DATA, Size::Word)),
+        at(CODE + 4),
+        at(CODE + 12),
+    ];
+    assert_eq!(rt; run.stop, Stop::Ecall);
+    assert_eq!(rt; run.recorder.list(), expected.as_slice());
+    Ok(())
+}
+
+// lui x6, 0x80000; addi x7, x0, -1; div x5, x6, x7; ecall
+#[test]
+fn divides_the_least_by_minus_one(rt: HostRuntime) -> Result<(), Fail> {
+    let words = [0x8000_0337, 0xfff0_0393, 0x0273_42b3, 0x0000_0073];
+    let run = run_of(rt.alloc(), &words, 0, 4)?;
+    let expected = [
+        at(CODE),
+        at(CODE + 4),
+        shown(CODE + 8, Event::Div(0x8000_0000, 0xffff_ffff)),
+        at(CODE + 12),
+    ];
+    assert_eq!(rt; run.stop, Stop::Ecall);
+    assert_eq!(rt; run.recorder.list(), expected.as_slice());
+    assert_eq!(rt; register(&run.hart, 5), Some(0x8000_0000));
+    Ok(())
+}
+
+// jal x0, 0
+#[test]
+fn goes_round_until_the_budget_is_spent(rt: HostRuntime) -> Result<(), Fail> {
+    let run = run_of(rt.alloc(), &[0x0000_006f], 0, 3)?;
+    assert_eq!(rt; run.stop, Stop::Budget);
+    assert_eq!(rt;
+        run.recorder.list(),
+        [at(CODE), at(CODE), at(CODE)].as_slice()
+    );
+    Ok(())
+}
+
 // lui x5, 0x12345; addi x5, x5, 0x678; sw x5, 4(x2); lw x6, 4(x2); ecall
 #[test]
 fn loads_what_it_stored(rt: HostRuntime) -> Result<(), Fail> {

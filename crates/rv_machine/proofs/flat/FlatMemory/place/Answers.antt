@@ -1,5 +1,5 @@
 -- Bytes are data exactly where all of them lie in the stretch.
-use Rattle.std.proofs.Common.{◌≤◌, length, arith, sym, ap, ◌∙◌, is_some}
+use Rattle.std.proofs.Common.{arith, sym, ap, ◌∙◌, is_some}
 use Rattle.rv_machine.specs.Sizes.{byte_count}
 use Rattle.rv_machine.proofs.Stretch.{some_bytes, number_outside, number_within}
 use Rattle.rv_machine.proofs.flat.FlatMemory.place.Goals as goal

@@ -1,0 +1,77 @@
+// Words as numbers with a sign, in two's complement.
+
+ghost use Rattle.std.specs.Prelude.{◌≡◌, ◌≢◌, ◌+◌, ◌-◌, ◌*◌, ◌/◌, ◌%◌, ◌^◌, ◌<◌, ◌≤◌, nat_lt, int_le, int_div, int_rem, if◌then◌else◌};
+ghost use Rattle.rv_machine.specs.Effects.{signed_less, shifted_signed};
+ghost use Rattle.rv_machine.specs.SignedWords.{signed, word_for, doubled};
+
+/// Whether `a` is less than `b`.
+pub(crate) fn less(a: u32, b: u32) -> bool
+    ensures { result ≡ signed_less a b }
+{
+    a.cast_signed() < b.cast_signed()
+}
+
+/// Whether `a` is at least `b`.
+pub(crate) fn at_least(a: u32, b: u32) -> bool
+    ensures { result ≡ int_le (signed b) (signed a) }
+{
+    a.cast_signed() >= b.cast_signed()
+}
+
+/// `a` moved to the right by the amount modulo 32, with copies of its sign moved in.
+pub(crate) fn shift_right(a: u32, amount: u32) -> u32
+    ensures { result ≡ shifted_signed a amount }
+{
+    (a.cast_signed() >> (amount % 32)).cast_unsigned()
+}
+
+/// The quotient rounded toward zero. That of -2^31 by -1 wraps.
+pub(crate) fn divide(a: u32, b: u32) -> u32
+    requires { b ≢ 0 }
+    ensures { result ≡ word_for (int_div (signed a) (signed b)) }
+{
+    a.cast_signed()
+        .wrapping_div(b.cast_signed())
+        .cast_unsigned()
+}
+
+/// The remainder of that quotient, which has the sign of `a` or is 0.
+pub(crate) fn remainder(a: u32, b: u32) -> u32
+    requires { b ≢ 0 }
+    ensures { result ≡ word_for (int_rem (signed a) (signed b)) }
+{
+    a.cast_signed()
+        .wrapping_rem(b.cast_signed())
+        .cast_unsigned()
+}
+
+/// The word with the sign that a field has whose highest bit weighs so much.
+pub(crate) fn extend(field: u32, sign: u32) -> u32
+    requires field_fits { field < sign * 2 }
+    requires sign_fits { sign ≤ 2 ^ 30 }
+    ensures { result ≡ (if nat_lt field sign then field else field + (2 ^ 32 - sign * 2)) }
+{
+    if field < sign {
+        field
+    } else {
+        field + (u32::MAX - sign * 2 + 1)
+    }
+}
+
+/// The number of 64 bits with the sign of a word.
+pub(crate) fn double(a: u32) -> u64
+    ensures value { result ≡ doubled a }
+{
+    if a < 0x8000_0000 {
+        u64::from(a)
+    } else {
+        u64::from(a) + 0xffff_ffff_0000_0000
+    }
+}
+
+/// The high word of a product of 64 bits.
+pub(crate) fn high_word(a: u64, b: u64) -> u32
+    ensures { result ≡ (a * b) % 2 ^ 64 / 2 ^ 32 }
+{
+    (a.wrapping_mul(b) >> 32) as u32
+}
