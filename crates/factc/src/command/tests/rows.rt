@@ -75,6 +75,35 @@ fn selects_and_shows_the_same(rt: HostRuntime) {
 }
 
 #[test]
+fn runs_one_arm_and_shows_the_same(rt: HostRuntime) {
+    let text = "export secret uint32 f(secret bool t) {\n\
+                secret mut bool s = t;\n\
+                secret mut uint32 y = 0;\n\
+                if (s) { s = false; y = 1; } else { y = 2; }\n\
+                return y;\n}";
+    let image = image_of(&rt, text);
+    let image = image.as_slice();
+    expect(
+        &rt,
+        image,
+        &["factc", "run", "in", "1"],
+        (0, "return 1\n", ""),
+    );
+    expect(
+        &rt,
+        image,
+        &["factc", "run", "in", "0"],
+        (0, "return 2\n", ""),
+    );
+    expect(
+        &rt,
+        image,
+        &["factc", "pair", "in", "1", "0"],
+        (0, "same\n", ""),
+    );
+}
+
+#[test]
 fn names_the_faulty_argument(rt: HostRuntime) {
     let text = "export secret uint32 f(secret bool s, secret uint32 a) { return a; }";
     let image = image_of(&rt, text);
@@ -124,6 +153,23 @@ fn refuses_by_the_first_rule(rt: HostRuntime) {
         (
             "export secret uint32 f(secret uint32 x) { return y + 1; }",
             "refused: N1 at 1:50: undeclared name\n",
+        ),
+        (
+            "export public uint32 f(secret bool s) {\npublic mut uint32 p = 0;\n\
+             if (s) { p = p + 1; }\nreturn p;\n}",
+            "refused: L2 at 3:12: public assigned under secret control\n",
+        ),
+        (
+            "export secret uint32 f(secret uint32 x) { x = 1; return x; }",
+            "refused: T6 at 1:45: not mutable\n",
+        ),
+        (
+            "export secret uint32 f(secret uint32 x) { if (x) { } return x; }",
+            "refused: T2 at 1:43: wrong kind\n",
+        ),
+        (
+            "export secret uint32 f(secret bool s) { if (s) { if (s) { } } return 1; }",
+            "refused: X3 at 1:50: unexpected token\n",
         ),
         (
             "export secret uint32 f(secret uint32 x) { return x $ 1; }",
