@@ -1,4 +1,3 @@
-pub mod Signed
 pub mod Words
 pub mod Reading
 pub mod RowLaws

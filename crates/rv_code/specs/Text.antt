@@ -1,7 +1,7 @@
 -- The assembly text of instructions.
-use Rattle.std.specs.Prelude.{ℕ, ◌-◌, ◌*◌, ◌^◌, List, [], ◌++◌, codes, false}
-use Rattle.std.specs.Fmt.{decimal, signed_decimal, digits, padded_integral, format_spec}
-use Rattle.rv_code.specs.Signed.{signed_value}
+use Rattle.std.specs.Prelude.{ℕ, List, ◌++◌, codes}
+use Rattle.std.specs.Fmt.{decimal}
+use Rattle.rv_fields.specs.Text.{reg_text, immediate_text, upper_text, branch_offset_text, jump_offset_text}
 use Rattle.rv_code.specs.declared.instructions.Instr.{Instr}
 use Rattle.rv_code.specs.declared.instructions.Instr.TheVariants.{Upper, Jump, JumpRegister, Branch, Load, Store, Immediate, Shift, Register, Multiply, Divide, Fence, Ecall, Ebreak}
 use Rattle.rv_code.specs.declared.operations.UpperOperation.{UpperOperation}
@@ -87,24 +87,6 @@ divide_mnemonic Rem = codes "rem"
 divide_mnemonic Remu = codes "remu"
 
 -- The operands.
-
-abbrev pub reg_text : ℕ → List ℕ
-reg_text number = codes "x" ++ decimal number
-
-abbrev pub immediate_text : ℕ → List ℕ
-immediate_text field = signed_decimal (signed_value 12 field)
-
--- offsets are held in halves
-
-abbrev pub branch_offset_text : ℕ → List ℕ
-branch_offset_text halves = signed_decimal (signed_value 13 (halves * 2))
-
-abbrev pub jump_offset_text : ℕ → List ℕ
-jump_offset_text halves = signed_decimal (signed_value 21 (halves * 2))
-
--- `0x` and five hexadecimal digits, in lower case: the number in base 16, filled up with zeros to 5 places
-abbrev pub upper_text : ℕ → List ℕ
-upper_text field = codes "0x" ++ padded_integral (format_spec 32 0 4 5 (2 ^ 64 - 1)) false [] (digits 16 false field)
 
 -- an address: an offset and, in parentheses, the register that it is added to
 abbrev pub address_text : ℕ → ℕ → List ℕ

@@ -3,15 +3,13 @@
 ghost use Rattle.std.specs.Prelude.{◌≡◌, ◌<◌};
 ghost use Rattle.rv_code.specs.Words.{word_of, IsInstr, r_type, i_type, s_type, b_type, u_type, j_type, shift_type, fence_word, op_opcode, muldiv_funct7};
 
-use crate::immediates::Immediate12;
 use crate::instructions::Instr;
-use crate::offsets::{BranchOffset, JumpOffset};
 use crate::operations::{
     BRANCH, EBREAK, ECALL, JAL, JALR, LOAD, MISC_MEM, MULDIV, OP, OP_IMM, STORE,
 };
-use crate::registers::Reg;
-use crate::small_fields::{FenceBits, ShiftAmount};
-use crate::upper_immediates::UpperImmediate;
+use rv_fields::{
+    BranchOffset, FenceBits, Immediate12, JumpOffset, Reg, ShiftAmount, UpperImmediate,
+};
 
 /// The word of an instruction.
 #[tactic(auto, unfolding(crate::specs::Words::word_of))]

@@ -2,15 +2,13 @@
 //
 // The parts of a variant stand in the order of the assembly text.
 
-use crate::immediates::Immediate12;
-use crate::offsets::{BranchOffset, JumpOffset};
 use crate::operations::{
     BranchTest, DivideOperation, ImmediateOperation, LoadOperation, MultiplyOperation,
     RegisterOperation, ShiftOperation, StoreOperation, UpperOperation,
 };
-use crate::registers::Reg;
-use crate::small_fields::{FenceBits, ShiftAmount};
-use crate::upper_immediates::UpperImmediate;
+use rv_fields::{
+    BranchOffset, FenceBits, Immediate12, JumpOffset, Reg, ShiftAmount, UpperImmediate,
+};
 
 /// An instruction.
 #[derive(Clone, Copy, Debug, PartialEq, Eq)]

@@ -1,6 +1,7 @@
 // Laws of the machine, which hold of the definitions alone.
 
-ghost use Rattle.std.specs.Prelude.{◌≡◌, ◌≢◌, ℕ, ◌+◌, ◌%◌, ◌^◌, ◌≤◌, ◌⊎◌, Bool, true, false, List, ◌∷◌, [], ◌++◌, Some, is_some};
+ghost use Rattle.std.specs.Int.{w64, cast_signed, int_wrap};
+ghost use Rattle.std.specs.Prelude.{◌≡◌, ◌≢◌, ℕ, ◌+◌, ◌*◌, ◌%◌, ◌^◌, ◌<◌, ◌≤◌, pos, ◌*ℤ◌, ◌⊎◌, Bool, true, false, List, ◌∷◌, [], ◌++◌, Some, is_some};
 ghost use Rattle.rv_code.specs.declared.instructions.Instr.{Instr};
 ghost use Rattle.rv_code.specs.declared.operations.UpperOperation.{UpperOperation};
 ghost use Rattle.rv_code.specs.declared.operations.BranchTest.{BranchTest};
@@ -19,6 +20,7 @@ ghost use Rattle.rv_machine.specs.Leakage.{Leads, Halts, Ran};
 ghost use Rattle.rv_machine.specs.Machine.{State, Code, Ending, Turn, here, next, observed, with_value, with_stored, with_link, moved_to};
 ghost use Rattle.rv_machine.specs.Recording.{kept};
 ghost use Rattle.rv_machine.specs.Registers.{register};
+ghost use Rattle.rv_machine.specs.SignedWords.{signed, doubled};
 ghost use Rattle.rv_machine.specs.Sizes.{byte_count};
 ghost use Rattle.rv_machine.specs.TurnLaws.{IsAt};
 
@@ -48,6 +50,14 @@ pub fn one_run()
     ensures ran { (code : Code) (keeps : Bool) (n budget : ℕ) (s t u : State) (a list list' : List Observation) (stop other : Stop)
         → Halts code n s a stop t → n ≤ budget → Ran code keeps budget s list other u list' → other ≢ Stop.RecorderRefused
         → (other ≡ stop) × (u ≡ t) × (list' ≡ kept keeps list a) }
+{}
+
+/// The products of 64 bits of words that stand with their signs are those of the numbers, modulo 2^64.
+pub fn products_keep_signs()
+    ensures of_both { (a b : ℕ) → a < 2 ^ 32 → b < 2 ^ 32
+        → cast_signed w64 ((doubled a * doubled b) % 2 ^ 64) ≡ int_wrap w64 (signed a *ℤ signed b) }
+    ensures of_one { (a b : ℕ) → a < 2 ^ 32 → b < 2 ^ 32
+        → cast_signed w64 ((doubled a * b) % 2 ^ 64) ≡ int_wrap w64 (signed a *ℤ pos b) }
 {}
 
 /// The turn of each kind of instruction, where it stands at the program counter.
