@@ -13,6 +13,3 @@ pub use bounds::first_fault;
 pub use fault::{ArgumentFault, ArgumentRule};
 pub use laws::faultless_arguments;
 pub use texts::{ReadError, read};
-
-#[cfg(test)]
-mod tests;

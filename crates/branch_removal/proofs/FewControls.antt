@@ -3,26 +3,34 @@ use Rattle.std.proofs.Common.{ℕ, ◌+◌, ◌<◌, ◌≤◌, length, max, ari
 use Rattle.std.proofs.Math.Nat.{max-le}
 use Rattle.inline.specs.Numbering.{Numbers, statement, block, names_after, flattened, parameter_names}
 use Rattle.syntax.specs.Size.{nodes_in, statement_nodes, block_nodes, statement_words, block_words, nodes_of}
-use Rattle.syntax.specs.Tree.{ExprTree, number, truth, name, binary, select, StatementTree, declaration, assignment, conditional, BlockTree, nothing, first, ProcedureTree}
+use Rattle.syntax.specs.Tree.{ExprTree, number, truth, name, prefix, binary, rotate, convert, select, element, StatementTree, declaration, array, assignment, element_assignment, call, conditional, loop, BlockTree, nothing, first, ProcedureTree}
 use Rattle.branch_removal.specs.Removal.{controls_in, controls_in_all}
 
 some_node : (e : ExprTree) → 0 < nodes_in e
-some_node (number place value) = omega arith
+some_node (number place value kind) = omega arith
 some_node (truth place value) = omega arith
 some_node (name place text) = omega arith
+some_node (prefix place operator operand) = omega arith
 some_node (binary place operator left right) = omega arith
+some_node (rotate place operand amount) = omega arith
+some_node (convert place kind operand) = omega arith
 some_node (select place condition accepted otherwise) = omega arith
+some_node (element place target text index) = omega arith
 
 mutual
   few : (names : Numbers) (n : ℕ) (s : StatementTree) → controls_in (statement names n s) ≤ statement_nodes s
   few names n (declaration place label mutable kind text value) = omega arith
+  few names n (array place label mutable kind size text values) = omega arith
   few names n (assignment place target text value) = omega arith
+  few names n (element_assignment place bracket target text index value) = omega arith
+  few names n (call c) = omega arith
   few names n (conditional place condition accepted otherwise) =
       let one = few_all names n accepted in
       let other = few_all names (n + block_words accepted) otherwise in
       let larger : max (controls_in_all (block names n accepted)) (controls_in_all (block names (n + block_words accepted) otherwise)) ≤ block_nodes accepted + block_nodes otherwise =
       max-le (omega (arith, one)) (omega (arith, other)) in
       omega (arith, larger, some_node condition)
+  few names n (loop place counter text low high body) = omega arith
 
   few_all : (names : Numbers) (n : ℕ) (b : BlockTree) → controls_in_all (block names n b) ≤ block_nodes b
   few_all names n nothing = omega arith

@@ -8,13 +8,12 @@ use Rattle.inline.specs.FlatTyping.{Types, IsTyped, AreTyped, types_after, types
 use Rattle.syntax.specs.declared.signature.Label.{Label}
 use Rattle.syntax.specs.declared.signature.Label.TheVariants.{Public}
 use Rattle.syntax.specs.declared.values.Arg.{Arg}
-use Rattle.syntax.specs.Typing.{joined}
+use Rattle.syntax.specs.Types.{joined}
 use Rattle.branch_removal.specs.Fitness.{AreFit, IsFitOn}
 use Rattle.branch_removal.specs.Removal.{removed, removed_all, straightened}
 use Rattle.branch_removal.specs.Straight.{StraightTree, take}
 use Rattle.branch_removal.specs.StraightMeaning.{StraightState, with_variable, after, after_all, start}
-use Rattle.branch_removal.proofs.Held.{Held, value_below, is_fit, suits_fit, held_set, held_declared}
-use Rattle.branch_removal.proofs.KindLimits.{within_limit}
+use Rattle.branch_removal.proofs.Fitting.{ValuesFit, SuitedFit, is_fit, is_bit, result_fit, fits_set, fits_declared}
 use Rattle.branch_removal.proofs.Runs.{after-append}
 use Rattle.branch_removal.proofs.Scopes.{stays_all}
 
@@ -25,12 +24,12 @@ fit-append s (statement ∷ these) those one two = (one.0, fit-append (after s s
 -- statements are fit, and after them the variables in scope are within their kinds
 pub record Sound (types : Types) (s : StraightState) (code : List StraightTree) : Type 0 where
   pub fit : AreFit s code
-  pub held : Held types (after_all s code).variables
+  pub fits : Fits types (after_all s code).variables
 
 sound-append : (types : Types) (s : StraightState) (these those : List StraightTree) → AreFit s these → Sound types (after_all s these) those → Sound types s (these ++ those)
 sound-append types s these those fit sound = record {
   fit = fit-append s these those fit sound.fit;
-  held = subst (λ (t : StraightState). Held types t.variables) (sym (after-append s these those)) sound.held;
+  fits = subst (λ (t : StraightState). Fits types t.variables) (sym (after-append s these those)) sound.fits;
 }
 
 -- what is within its kind after an arm
@@ -38,52 +37,61 @@ narrowed : (types : Types) (label : Label) (body : FlatBlock) (s : StraightState
     → Sound (types_after_all types body) s code → Sound types s code
 narrowed types label body s code typed sound = record {
   fit = sound.fit;
-  held = record { below = λ y word known. sound.held.below y word (stays_all types label body typed y word known) };
+  fits = λ y word known. sound.fits y word (stays_all types label body typed y word known);
 }
 
-mutual
-  pub sound : (types : Types) (label : Label) (statement : FlatTree) → IsTyped types label statement
-      → (within : Option ℕ) (control : ℕ) (s : StraightState) → Held types s.variables
-      → Sound (types_after types statement) s (removed within control statement)
-  sound types label (declare x word value) typed within control s held = record {
-    fit = (suits_fit types s.variables held word value typed.1, tt);
-    held = held_declared types s.variables held x word value typed.1;
-  }
-  sound types label (assign x value) typed None control s held = record {
-    fit = (suits_fit types s.variables held typed.word value typed.suits, tt);
-    held = held_set types s.variables held x typed.word value typed.known typed.suits;
-  }
-  sound types label (assign x value) typed (Some c) control s held = record {
-    fit = (suits_fit types s.variables held typed.word value typed.suits, tt);
-    held = cond_both (s.controls c) (with_variable s x (value_in s.variables value)) s (λ (t : StraightState). Held types t.variables)
-        (λ on. held_set types s.variables held x typed.word value typed.known typed.suits) (λ off. held);
-  }
-  sound types label (branch condition accepted otherwise) typed within control s held =
-      let taken : StraightState = after s (take control within condition) in
-      let code : List StraightTree = removed_all (Some control) (control + 2) accepted in
-      let other : List StraightTree = removed_all (Some (control + 1)) (control + 2) otherwise in
-      let inner : Label = joined typed.0.label label in
-      let one = narrowed types inner accepted taken code typed.3 (sound_all types inner accepted typed.3 (Some control) (control + 2) taken held) in
-      let two = narrowed types inner otherwise (after_all taken code) other typed.4 (sound_all types inner otherwise typed.4 (Some (control + 1)) (control + 2) (after_all taken code) one.held) in
-      let both = sound-append types taken code other one.fit two in
-      let below = value_below types s.variables held condition typed.0 typed.1.typed typed.1.small in
+module _ (values_fit : ValuesFit) (suited_fit : SuitedFit) where
+  mutual
+    pub sound : (types : Types) (label : Label) (statement : FlatTree) → IsTyped types label statement
+        → (within : Option ℕ) (control : ℕ) (s : StraightState) → Fits types s.variables
+        → Sound (types_after types statement) s (removed within control statement)
+    sound types label (declare x word value) typed within control s fits = record {
+      fit = (is_fit values_fit types s.variables fits value typed.1.word typed.1.has_type, tt);
+      fits = fits_declared types s.variables x (value_in s.variables value) word (suited_fit types s.variables value word fits typed.1) fits;
+    }
+    sound types label (assign x value) typed None control s fits = record {
+      fit = (is_fit values_fit types s.variables fits value typed.suits.word typed.suits.has_type, tt);
+      fits = fits_set types s.variables x (value_in s.variables value) typed.word typed.known (suited_fit types s.variables value typed.word fits typed.suits) fits;
+    }
+    sound types label (assign x value) typed (Some c) control s fits = record {
+      fit = (is_fit values_fit types s.variables fits value typed.suits.word typed.suits.has_type, tt);
+      fits = cond_both (s.controls c) (with_variable s x (value_in s.variables value)) s (λ (t : StraightState). Fits types t.variables)
+          (λ on. fits_set types s.variables x (value_in s.variables value) typed.word typed.known (suited_fit types s.variables value typed.word fits typed.suits) fits)
+          (λ off. fits);
+    }
+    sound types label (branch condition accepted otherwise) typed within control s fits =
+        let taken : StraightState = after s (take control within condition) in
+        let code : List StraightTree = removed_all (Some control) (control + 2) accepted in
+        let other : List StraightTree = removed_all (Some (control + 1)) (control + 2) otherwise in
+        let inner : Label = joined typed.0.label label in
+        let one = narrowed types inner accepted taken code typed.3 (sound_all types inner accepted typed.3 (Some control) (control + 2) taken fits) in
+        let two = narrowed types inner otherwise (after_all taken code) other typed.4 (sound_all types inner otherwise typed.4 (Some (control + 1)) (control + 2) (after_all taken code) one.fits) in
+        let both = sound-append types taken code other one.fit two in
+        record {
+          fit = (
+            (
+              is_bit typed.0.kind (value_in s.variables condition) typed.2 (values_fit types s.variables condition typed.0 fits typed.1),
+              is_fit values_fit types s.variables fits condition typed.0 typed.1,
+            ),
+            both.fit,
+          );
+          fits = both.fits;
+        }
+
+    pub sound_all : (types : Types) (label : Label) (body : FlatBlock) → AreTyped types label body
+        → (within : Option ℕ) (control : ℕ) (s : StraightState) → Fits types s.variables
+        → Sound (types_after_all types body) s (removed_all within control body)
+    sound_all types label nothing typed within control s fits = record { fit = tt; fits = fits }
+    sound_all types label (first statement rest) typed within control s fits =
+        let one = sound types label statement typed.0 within control s fits in
+        sound-append (types_after_all (types_after types statement) rest) s (removed within control statement) (removed_all within control rest) one.fit
+        (sound_all (types_after types statement) label rest typed.1 within control (after_all s (removed within control statement)) one.fits)
+
+  -- the whole program, on arguments within the parameters' kinds
+  pub program_fit : (p : FlatProgram) (args : List Arg) → IsTypedProgram p → Fits (parameter_types p.parameters) (given args) → IsFitOn (straightened p) args
+  program_fit p args typed fits =
+      let body = sound_all (parameter_types p.parameters) Public p.body typed.body None 0 (start args) fits in
       record {
-        fit = ((rw (typed.2) at below, is_fit types s.variables held condition typed.0 typed.1.typed typed.1.small), both.fit);
-        held = both.held;
+        statements = body.fit;
+        value = result_fit values_fit (types_after_all (parameter_types p.parameters) p.body) _ body.fits p.returned p.value typed.result;
       }
-
-  pub sound_all : (types : Types) (label : Label) (body : FlatBlock) → AreTyped types label body
-      → (within : Option ℕ) (control : ℕ) (s : StraightState) → Held types s.variables
-      → Sound (types_after_all types body) s (removed_all within control body)
-  sound_all types label nothing typed within control s held = record { fit = tt; held = held }
-  sound_all types label (first statement rest) typed within control s held =
-      let one = sound types label statement typed.0 within control s held in
-      sound-append (types_after_all (types_after types statement) rest) s (removed within control statement) (removed_all within control rest) one.fit
-      (sound_all (types_after types statement) label rest typed.1 within control (after_all s (removed within control statement)) one.held)
-
--- the whole program, on arguments within the parameters' kinds
-pub program_fit : (p : FlatProgram) (args : List Arg) → IsTypedProgram p → Fits (parameter_types p.parameters) (given args) → IsFitOn (straightened p) args
-program_fit p args typed fits =
-    let body = sound_all (parameter_types p.parameters) Public p.body typed.body None 0 (start args)
-    (record { below = λ y word known. within_limit word.kind (given args y) (fits y word known) }) in
-    record { statements = body.fit; value = suits_fit (types_after_all (parameter_types p.parameters) p.body) _ body.held p.returned p.value typed.value }

@@ -3,8 +3,7 @@ pub mod Agreement
 pub mod Runs
 pub mod Kept
 pub mod Same
-pub mod KindLimits
-pub mod Held
+pub mod Fitting
 pub mod Fit
 pub mod BranchTrees
 pub mod FewControls

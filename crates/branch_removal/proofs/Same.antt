@@ -8,12 +8,12 @@ use Rattle.inline.specs.FlatTyping.{Types, IsTyped, AreTyped, types_after, types
 use Rattle.syntax.specs.declared.signature.Label.{Label}
 use Rattle.syntax.specs.declared.signature.Label.TheVariants.{Public}
 use Rattle.syntax.specs.declared.values.Arg.{Arg}
-use Rattle.syntax.specs.Typing.{joined}
+use Rattle.syntax.specs.Types.{joined}
 use Rattle.branch_removal.specs.Removal.{removed, removed_all, straightened}
 use Rattle.branch_removal.specs.Straight.{StraightTree, take}
 use Rattle.branch_removal.specs.StraightMeaning.{StraightState, holds, with_variable, with_controls, after, after_all, start}
 use Rattle.branch_removal.specs.StraightMeaning as straight
-use Rattle.branch_removal.proofs.Agreement.{Agree, one_value, both_set, both_declared}
+use Rattle.branch_removal.proofs.Agreement.{Agree, one_value, one_result, both_set, both_declared}
 use Rattle.branch_removal.proofs.Kept.{kept_all}
 use Rattle.branch_removal.proofs.Runs.{after-append, first_control, second_control, controls_stay, controls_stay_all}
 use Rattle.branch_removal.proofs.Scopes.{stays_all}
@@ -47,22 +47,22 @@ mutual
       → Agree (types_after types statement) (after_all s (removed within control statement)).variables (flat.after m statement)
   same types label (declare x word value) typed within control below s m on agree =
       both_declared types s.variables m x (value_in s.variables value) (value_in m value) word
-      (one_value types s.variables m agree value typed.1.word typed.1.has_type.typed) agree
+      (one_value types s.variables m agree value typed.1.word typed.1.has_type) agree
   same types label (assign x value) typed None control below s m on agree =
       both_set types s.variables m x (value_in s.variables value) (value_in m value)
-      (one_value types s.variables m agree value typed.suits.word typed.suits.has_type.typed) agree
+      (one_value types s.variables m agree value typed.suits.word typed.suits.has_type) agree
   same types label (assign x value) typed (Some c) control below s m on agree =
       subst (λ (t : StraightState). Agree types t.variables (flat.after m (assign x value)))
       (sym (cond-true (s.controls c) (with_variable s x (value_in s.variables value)) s on))
       (both_set types s.variables m x (value_in s.variables value) (value_in m value)
-      (one_value types s.variables m agree value typed.suits.word typed.suits.has_type.typed) agree)
+      (one_value types s.variables m agree value typed.suits.word typed.suits.has_type) agree)
   same types label (branch condition accepted otherwise) typed within control below s m on agree =
       let taken : StraightState = after s (take control within condition) in
       let code : List StraightTree = removed_all (Some control) (control + 2) accepted in
       let other : List StraightTree = removed_all (Some (control + 1)) (control + 2) otherwise in
       let between : StraightState = after_all taken code in
       let inner : Label = joined typed.0.label label in
-      let value : value_in s.variables condition ≡ value_in m condition = one_value types s.variables m agree condition typed.0 typed.1.typed in
+      let value : value_in s.variables condition ≡ value_in m condition = one_value types s.variables m agree condition typed.0 typed.1 in
       let other_control : between.controls (control + 1) ≡ (holds s within && (value_in s.variables condition == 0)) =
       controls_stay_all (Some control) (control + 2) accepted taken (control + 1) (omega arith) ∙ second_control s control _ _ in
       subst (λ (t : StraightState). Agree types t.variables (flat.after m (branch condition accepted otherwise))) (sym (after-append taken code other))
@@ -103,5 +103,5 @@ pub one_outcome : (p : FlatProgram) (args : List Arg) → IsTypedProgram p → s
 one_outcome p args typed =
     let agree = same_all (parameter_types p.parameters) Public p.body typed.body None 0 tt (start args) (given args) refl
     (record { same = λ y word known. refl }) in
-    ap (λ v. record { returned = Some v; arrays = [] })
-    (one_value (types_after_all (parameter_types p.parameters) p.body) _ _ agree p.value typed.value.word typed.value.has_type.typed)
+    ap (λ v. record { returned = v; arrays = [] })
+    (one_result (types_after_all (parameter_types p.parameters) p.body) _ _ agree p.returned p.value typed.result)

@@ -17,14 +17,16 @@ pub data StraightTree : Type 0 where
 
 pub record StraightProgram : Type 0 where
   pub parameters : List Param
-  pub returned : WordType
+  -- the type of its result, where it has one
+  pub returned : Option WordType
   -- how many nodes the source has
   pub nodes : ℕ
   -- how many variables and control values there are
   pub variables : ℕ
   pub controls : ℕ
   pub statements : List StraightTree
-  pub value : TermTree
+  -- the result, where there is one
+  pub value : Option TermTree
 
 abbrev pub straight_tree : StraightStatement → StraightTree
 straight_tree (Set x value) = set x (term_tree value.now)

@@ -36,8 +36,8 @@ coded_statement =
 -- a program is stored as the tuple of its parts
 abbrev pub coded_straight : Coded StraightProgram
 coded_straight =
-    code_by (List Param × (WordType × (ℕ × (ℕ × (ℕ × (List StraightTree × TermTree))))))
-    (coded× (coded_list param.the_row.coded) (coded× word.the_row.coded (coded× coded_ℕ (coded× coded_ℕ (coded× coded_ℕ (coded× (coded_list coded_statement) coded_term))))))
+    code_by (List Param × (Option WordType × (ℕ × (ℕ × (ℕ × (List StraightTree × Option TermTree))))))
+    (coded× (coded_list param.the_row.coded) (coded× (coded_option word.the_row.coded) (coded× coded_ℕ (coded× coded_ℕ (coded× coded_ℕ (coded× (coded_list coded_statement) (coded_option coded_term)))))))
     (λ p. (p.parameters, (p.returned, (p.nodes, (p.variables, (p.controls, (p.statements, p.value)))))))
     (λ t. record { parameters = t.0; returned = t.1.0; nodes = t.1.1.0; variables = t.1.1.1.0; controls = t.1.1.1.1.0; statements = t.1.1.1.1.1.0; value = t.1.1.1.1.1.1 })
     (λ _. refl)

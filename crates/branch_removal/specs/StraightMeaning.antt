@@ -1,6 +1,7 @@
 -- What straight code means: a condition is taken once into control values, and an assignment under a
 -- control value sets its variable where that value is true and else keeps it.
 use Rattle.std.specs.Prelude.{ℕ, ◌+◌, ◌==◌, Bool, true, false, not, ◌&&◌, List, [], ◌∷◌, Option, None, Some, if◌then◌else◌}
+use Rattle.std.specs.Option.{option_map}
 use Rattle.inline.specs.FlatMeaning.{Values, with_value, value_in, given}
 use Rattle.branch_removal.specs.Straight.{StraightTree, set, take, set_under, StraightProgram}
 use Rattle.syntax.specs.Results.{Results}
@@ -42,4 +43,4 @@ start args = record { variables = given args; controls = λ c. false }
 
 -- the outcome on arguments
 abbrev pub outcome_of : StraightProgram → List Arg → Results
-outcome_of p args = record { returned = Some (value_in (after_all (start args) p.statements).variables p.value); arrays = [] }
+outcome_of p args = record { returned = option_map (value_in (after_all (start args) p.statements).variables) p.value; arrays = [] }

@@ -15,6 +15,8 @@ ghost use Rattle.branch_removal.specs.Path.{path_of};
 ghost use Rattle.branch_removal.specs.Removal.{controls_in_all, straightened};
 ghost use Rattle.branch_removal.specs.StraightMeaning.{outcome_of as outcome_of_straight};
 
+use inline::typed_values_fit;
+
 /// The outcome stays as it is.
 pub fn removal_keeps_outcome()
     ensures { (p : FlatProgram) (args : List Arg) → IsTypedProgram p → outcome_of_straight (straightened p) args ≡ outcome_of_flat p args }
@@ -23,7 +25,9 @@ pub fn removal_keeps_outcome()
 /// On arguments within the kinds of the parameters, each value is one that machine words can stand for.
 pub fn straight_is_fit()
     ensures { (p : FlatProgram) (args : List Arg) → IsTypedProgram p → Fits (parameter_types p.parameters) (given args) → IsFitOn (straightened p) args }
-{}
+{
+    typed_values_fit();
+}
 
 /// There are no more control values than nodes.
 pub fn controls_are_few()

@@ -1,4 +1,5 @@
 ghost use Rattle.std.specs.Prelude.{◌≡◌};
+ghost use Rattle.std.specs.Option.{option_map};
 ghost use Rattle.inline.specs.Flat.{term_tree};
 ghost use Rattle.branch_removal.specs.Straight.{StraightProgram, straight_trees};
 
@@ -22,15 +23,16 @@ pub enum StraightStatement<'f> {
 #[derive(Debug, Drop)]
 pub struct Straight<'f> {
     parameters: &'f [Param],
-    returned: WordType,
+    returned: Option<WordType>,
     nodes: u32,
     variables: u32,
     controls: u32,
     statements: Vec<StraightStatement<'f>>,
-    value: &'f Term,
+    value: Option<&'f Term>,
 }
 
 impl<'f> Model for Straight<'f> {
+    ghost use Rattle.std.specs.Option.{option_map};
     ghost use Rattle.inline.specs.Flat.{term_tree};
     ghost use Rattle.branch_removal.specs.Straight.{StraightProgram, straight_trees};
     ghost use Rattle.branch_removal.specs.StraightCodes.{coded_straight};
@@ -39,7 +41,7 @@ impl<'f> Model for Straight<'f> {
 
     ghost coded = { coded_straight };
 
-    ghost view = { λ s. record { parameters = s.parameters.now; returned = s.returned; nodes = s.nodes; variables = s.variables; controls = s.controls; statements = straight_trees s.statements.items; value = term_tree s.value.now } };
+    ghost view = { λ s. record { parameters = s.parameters.now; returned = s.returned; nodes = s.nodes; variables = s.variables; controls = s.controls; statements = straight_trees s.statements.items; value = option_map (λ term. term_tree term.now) s.value } };
 }
 
 impl<'f> Straight<'f> {
@@ -65,8 +67,8 @@ impl<'f> Straight<'f> {
         self.parameters
     }
 
-    /// The type of the result.
-    pub fn returned(&self) -> WordType
+    /// The type of the result, where there is one.
+    pub fn returned(&self) -> Option<WordType>
         ensures { result ≡ self.now.returned }
     {
         self.returned
@@ -100,9 +102,9 @@ impl<'f> Straight<'f> {
         self.statements.as_slice()
     }
 
-    /// The result.
-    pub fn value(&self) -> &'f Term
-        ensures { term_tree result.now ≡ self.now.value }
+    /// The result, where there is one.
+    pub fn value(&self) -> Option<&'f Term>
+        ensures { option_map (λ term. term_tree term.now) result ≡ self.now.value }
     {
         self.value
     }

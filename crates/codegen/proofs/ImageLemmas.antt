@@ -1,18 +1,19 @@
 -- The generated image's fields are allowed.
-use Rattle.std.proofs.Common.{◌≡◌, ℕ, suc, ◌+◌, ◌*◌, ◌%◌, ◌^◌, ◌<◌, ◌≤◌, List, [], ◌∷◌, length, map, All, Some, refl, sym, ap, subst, ◌∙◌, arith, length-append}
+use Rattle.std.proofs.Common.{◌≡◌, ℕ, suc, ◌+◌, ◌*◌, ◌%◌, ◌^◌, ◌<◌, ◌≤◌, List, [], ◌∷◌, length, map, All, Option, None, Some, IfSome, refl, sym, ap, subst, ◌∙◌, arith, length-append}
 use Rattle.std.proofs.lemmas.List.{length-map}
 use Rattle.std.proofs.lemmas.List.Elements.{recursion_from_All}
 use Rattle.std.specs.List.{AllByRecursion}
+use Rattle.std.specs.Option.{option_map}
 use Rattle.branch_removal.specs.Straight.{StraightProgram}
 use Rattle.rv_code.specs.Words.{word_of}
-use Rattle.image.specs.Fields.{IsImage, AreSlots, slot_end, slots_end, slot_bytes}
+use Rattle.image.specs.Fields.{IsImage, AreSlots, IsResultSlot, slot_end, result_end, slots_end, slot_bytes}
 use Rattle.image.specs.declared.slot.Slot.{Slot}
+use Rattle.image.specs.declared.slot.ResultSlot.{ResultSlot}
 use Rattle.syntax.specs.declared.signature.Form.{Form}
-use Rattle.syntax.specs.declared.signature.Kind.{Kind}
-use Rattle.syntax.specs.declared.signature.Label.{Label}
 use Rattle.syntax.specs.declared.signature.Param.{Param}
-use Rattle.codegen.specs.Generated.{program_code, program_height, image_of}
-use Rattle.codegen.specs.Layout.{slots_from, result_offset, temporaries_offset}
+use Rattle.syntax.specs.declared.typing.WordType.{WordType}
+use Rattle.codegen.specs.Generated.{program_code, program_height, result_slot, image_of}
+use Rattle.codegen.specs.Layout.{slots_from, temporaries_offset}
 use Rattle.codegen.specs.Room.{IsWord, HasFrame, HasRoom}
 
 pub length-slots_from : (low : ℕ) (ps : List Param) → length (slots_from low ps) ≡ length ps
@@ -43,6 +44,15 @@ slots_inside low frame (p ∷ ps) words room =
     let bytes = word_bytes p words.0 in
     (omega (arith, bytes, room), slots_inside (low + 4) frame ps words.1 (omega arith))
 
+-- a result after the variables
+returned_is : (variables low : ℕ) (word : Option WordType) → low ≤ 4 * variables → 4 * variables ≤ 32768 → IfSome (option_map (result_slot variables) word) (λ slot. IsResultSlot low slot)
+returned_is variables low None above few = tt
+returned_is variables low (Some word) above few = record { aligned = omega arith; above = omega (arith, above); fits = omega (arith, few) }
+
+returned_inside : (variables frame : ℕ) (word : Option WordType) → 4 * variables + 4 ≤ frame → IfSome (option_map (result_slot variables) word) (λ slot. result_end slot ≤ frame)
+returned_inside variables frame None room = tt
+returned_inside variables frame (Some word) room = omega (arith, room)
+
 code_there : (p : StraightProgram) → 1 ≤ length (map word_of (program_code p))
 code_there p = simp (length-map, length-append) (omega arith)
 
@@ -72,11 +82,11 @@ image_allowed p room fit =
     record {
       count = omega (arith, count, few, v);
       slots = slots_are 0 p.parameters room.words refl (omega (arith, few, v));
-      returned = record { aligned = omega arith; above = omega (arith, end, few); fits = omega (arith, v) };
+      returned = returned_is p.variables (slots_end 0 (slots_from 0 p.parameters)) p.returned (omega (arith, end, few)) v;
       frame_aligned = omega arith;
       frame_size = most;
       slots_inside = slots_inside 0 (temporaries_offset p.variables p.controls + 4 * program_height p) p.parameters room.words (omega (arith, few));
-      returned_inside = omega arith;
+      returned_inside = returned_inside p.variables (temporaries_offset p.variables p.controls + 4 * program_height p) p.returned (omega arith);
       some_step = omega arith;
       steps = omega (arith, n);
       some_word = code_there p;
@@ -85,7 +95,7 @@ image_allowed p room fit =
     }
 
 -- so are fields that are equal to them, one by one
-pub fields_allowed : (p : StraightProgram) → HasRoom p → (slots : List Slot) (kind : Kind) (label : Label) (offset frame steps : ℕ) (words : List ℕ) → slots ≡ slots_from 0 p.parameters → kind ≡ p.returned.kind → label ≡ p.returned.label → offset ≡ result_offset p.variables → frame ≡ temporaries_offset p.variables p.controls + 4 * program_height p → steps ≡ 32 * p.nodes + 64 → words ≡ map word_of (program_code p) → All (λ word. word < 2 ^ 32) words → IsImage (record { slots = slots; returned = Some (record { kind = kind; label = label; offset = offset }); frame_bytes = frame; max_steps = steps; words = words })
-fields_allowed p room slots kind label offset frame steps words a b c d e f g fit =
-    let allowed = image_allowed p room (subst (AllByRecursion (λ word. word < 2 ^ 32)) g (recursion_from_All (λ word. word < 2 ^ 32) words fit)) in
-    rw (a, b, c, d, e, f, g) allowed
+pub fields_allowed : (p : StraightProgram) → HasRoom p → (slots : List Slot) (returned : Option ResultSlot) (frame steps : ℕ) (words : List ℕ) → slots ≡ slots_from 0 p.parameters → returned ≡ option_map (result_slot p.variables) p.returned → frame ≡ temporaries_offset p.variables p.controls + 4 * program_height p → steps ≡ 32 * p.nodes + 64 → words ≡ map word_of (program_code p) → All (λ word. word < 2 ^ 32) words → IsImage (record { slots = slots; returned = returned; frame_bytes = frame; max_steps = steps; words = words })
+fields_allowed p room slots returned frame steps words a b c d e fit =
+    let allowed = image_allowed p room (subst (AllByRecursion (λ word. word < 2 ^ 32)) e (recursion_from_All (λ word. word < 2 ^ 32) words fit)) in
+    rw (a, b, c, d, e) allowed

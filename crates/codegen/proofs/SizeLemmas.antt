@@ -1,27 +1,42 @@
 -- How many slots and instructions a procedure takes, against its nodes.
-use Rattle.std.proofs.Common.{ℕ, ◌+◌, ◌-◌, ◌*◌, ◌≤◌, Bool, true, false, cond, nat_lt, List, [], ◌∷◌, ◌++◌, length, Option, None, Some, max, subst, arith, length-append}
+use Rattle.std.proofs.Common.{ℕ, ◌+◌, ◌-◌, ◌*◌, ◌%◌, ◌≤◌, ◌==◌, Bool, true, false, cond, nat_lt, List, [], ◌∷◌, ◌++◌, length, Option, None, Some, max, subst, arith, length-append}
 use Rattle.std.proofs.Math.Nat.{max-le, le-max_left, le-max_right, add-max-add_right}
+use Rattle.std.specs.Option.{option_map}
 use Rattle.branch_removal.specs.Removal.{set_within, removed, removed_all, controls_in, controls_in_all}
 use Rattle.branch_removal.specs.Straight.{StraightTree, set, take, set_under}
-use Rattle.codegen.specs.Emitted.{load_code, store_code, constant_code, within_code, expr_code, statement_code, statements_code, height_of, height_in, height_in_all, bit_of}
-use Rattle.codegen.specs.Layout.{variable_offset, control_offset, temporaries_offset}
+use Rattle.codegen.specs.Emitted.{load_code, store_code, constant_code, within_code, expr_code, statement_code, statements_code, height_of, height_in, height_in_all, cut_code, operator_code, prefix_code, around_code, rotate_code}
+use Rattle.codegen.specs.Generated.{result_code, result_height}
+use Rattle.codegen.specs.Layout.{variable_offset, result_offset, control_offset, temporaries_offset}
 use Rattle.inline.specs.Flat.{TermTree}
-use Rattle.inline.specs.Numbering.{Numbers, number_of, term, names_after, statement, block}
+use Rattle.inline.specs.Flat as flat
+use Rattle.inline.specs.Numbering.{Numbers, number_of, kind_in, term, right, names_after, statement, block}
 use Rattle.rv_code.specs.declared.instructions.Instr.{Instr}
-use Rattle.syntax.specs.Size.{nodes_in, statement_nodes, block_nodes, statement_words, block_words}
-use Rattle.syntax.specs.Tree.{ExprTree, number, truth, name, binary, select, StatementTree, declaration, assignment, conditional, BlockTree, nothing, first}
+use Rattle.syntax.specs.declared.tree.BinaryOperator.{BinaryOperator}
+use Rattle.syntax.specs.declared.tree.BinaryOperator.TheVariants as operators
+use Rattle.syntax.specs.declared.tree.PrefixOperator.{PrefixOperator}
+use Rattle.syntax.specs.declared.tree.PrefixOperator.TheVariants as prefixes
+use Rattle.syntax.specs.Operators.{width_of}
+use Rattle.syntax.specs.Size.{nodes_in, right_nodes, return_nodes, statement_nodes, block_nodes, statement_words, block_words}
+use Rattle.syntax.specs.Tree.{ExprTree, number, truth, name, prefix, binary, rotate, convert, select, element, RightTree, called, computed, StatementTree, declaration, array, assignment, element_assignment, call, conditional, loop, BlockTree, nothing, first, ReturnTree}
+use Rattle.word.specs.declared.width.Width.{Width}
+use Rattle.word.specs.declared.width.Width.TheVariants.{W8, W16, W32}
+use Rattle.word.specs.Operators.{word_of}
+use Rattle.word.specs.Widths.{bits}
 
 -- Slots.
 
 pub height : (names : Numbers) (e : ExprTree) → height_of (term names e) + 1 ≤ nodes_in e
-height names (number place value) = omega arith
+height names (number place value kind) = omega arith
 height names (truth place value) = omega arith
 height names (name place text) = omega arith
-height names (binary place operator left right) =
-    let a = height names left in
-    let b = height names right in
-    let both : max (height_of (term names left)) (1 + height_of (term names right)) ≤ nodes_in left + nodes_in right = max-le (omega (arith, a, b)) (omega (arith, a, b)) in
+height names (prefix place operator operand) = let h = height names operand in omega (arith, h)
+height names (binary place operator one other) =
+    let a = height names one in
+    let b = height names other in
+    let both : max (height_of (term names one)) (1 + height_of (term names other)) ≤ nodes_in one + nodes_in other = max-le (omega (arith, a, b)) (omega (arith, a, b)) in
     omega (arith, both)
+height names (rotate place operand amount) = let h = height names operand in omega (arith, h)
+height names (convert place kind operand) = let h = height names operand in omega (arith, h)
 height names (select place condition accepted otherwise) =
     let h = height names condition in
     let i = height names accepted in
@@ -29,6 +44,15 @@ height names (select place condition accepted otherwise) =
     let inner : max (height_of (term names accepted)) (1 + height_of (term names otherwise)) ≤ nodes_in accepted + nodes_in otherwise = max-le (omega (arith, h, i, j)) (omega (arith, h, i, j)) in
     let outer : max (height_of (term names condition)) (1 + max (height_of (term names accepted)) (1 + height_of (term names otherwise))) ≤ nodes_in condition + nodes_in accepted + nodes_in otherwise = max-le (omega (arith, h, i, j)) (omega (arith, inner, h)) in
     omega (arith, outer)
+height names (element place target text index) = omega arith
+
+right_height : (names : Numbers) (r : RightTree) → height_of (right names r) + 1 ≤ right_nodes r
+right_height names (computed e) = height names e
+right_height names (called c) = omega arith
+
+pub result_height_fits : (names : Numbers) (r : Option ReturnTree) → result_height (option_map (λ (r : ReturnTree). term names r.value) r) ≤ return_nodes r
+result_height_fits names None = omega arith
+result_height_fits names (Some r) = let h = height names r.value in omega (arith, h)
 
 both_heights : (xs ys : List StraightTree) (most : ℕ) → height_in_all xs ≤ most → height_in_all ys ≤ most → height_in_all (xs ++ ys) ≤ most
 both_heights [] ys most h k = k
@@ -55,18 +79,29 @@ height_within (Some control) x value = omega arith
 height_one : (h n : ℕ) → h ≤ n → max h 0 ≤ n
 height_one h n below = max-le below (omega arith)
 
+-- what stands for a statement that is not compiled yet
+stand_in_room : (within : Option ℕ) (n : ℕ) → 0 + height_in_all (set_within within 0 (flat.truth false) ∷ []) ≤ n
+stand_in_room within n =
+    let h = height_within within 0 (flat.truth false) in
+    let one = height_one (height_in (set_within within 0 (flat.truth false))) n (omega (arith, h)) in
+    omega (arith, one)
+
 mutual
   -- the control values and the temporaries of a statement
   statement_room : (names : Numbers) (n : ℕ) (within : Option ℕ) (control : ℕ) (s : StatementTree) → controls_in (statement names n s) + height_in_all (removed within control (statement names n s)) ≤ statement_nodes s
   statement_room names n within control (declaration place label mutable kind text value) =
-      let h = height names value in
-      let one = height_one (height_of (term names value)) (nodes_in value) (omega (arith, h)) in
+      let h = right_height names value in
+      let one = height_one (height_of (right names value)) (right_nodes value) (omega (arith, h)) in
       omega (arith, one)
   statement_room names n within control (assignment place target text value) =
-      let h = height names value in
-      let w = height_within within (number_of names text) (term names value) in
-      let one = height_one (height_in (set_within within (number_of names text) (term names value))) (nodes_in value) (omega (arith, h, w)) in
+      let h = right_height names value in
+      let w = height_within within (number_of names text) (right names value) in
+      let one = height_one (height_in (set_within within (number_of names text) (right names value))) (right_nodes value) (omega (arith, h, w)) in
       omega (arith, one)
+  statement_room names n within control (array place label mutable kind size text values) = stand_in_room within (statement_nodes (array place label mutable kind size text values))
+  statement_room names n within control (element_assignment place bracket target text index value) = stand_in_room within (statement_nodes (element_assignment place bracket target text index value))
+  statement_room names n within control (call c) = stand_in_room within (statement_nodes (call c))
+  statement_room names n within control (loop place counter text low high body) = stand_in_room within (statement_nodes (loop place counter text low high body))
   statement_room names n within control (conditional place condition accepted otherwise) =
       let xs = removed_all (Some control) (control + 2) (block names n accepted) in
       let ys = removed_all (Some (control + 1)) (control + 2) (block names (n + block_words accepted) otherwise) in
@@ -116,17 +151,69 @@ store_length r o = one_of (nat_lt o 2048) _ _ 3 (omega arith) (omega arith)
 constant_length : (r n : ℕ) → length (constant_code r n) ≤ 2
 constant_length r n = one_of (nat_lt n 2048) _ _ 2 (omega arith) (omega arith)
 
+cut_length : (w : Width) → length (cut_code w) ≤ 2
+cut_length W8 = omega arith
+cut_length W16 = omega arith
+cut_length W32 = omega arith
+
+operator_length : (o : BinaryOperator) (w : Width) → length (operator_code o w) ≤ 3
+operator_length operators.Either w = omega arith
+operator_length operators.Both w = omega arith
+operator_length operators.Equal w = omega arith
+operator_length operators.Unequal w = omega arith
+operator_length operators.Less w = omega arith
+operator_length operators.LessOrEqual w = omega arith
+operator_length operators.Greater w = omega arith
+operator_length operators.GreaterOrEqual w = omega arith
+operator_length operators.BitOr w = omega arith
+operator_length operators.BitXor w = omega arith
+operator_length operators.BitAnd w = omega arith
+operator_length operators.ShiftLeft w = omega (arith, cut_length w)
+operator_length operators.ShiftRight w = omega (arith, cut_length w)
+operator_length operators.Add w = omega (arith, cut_length w)
+operator_length operators.Subtract w = omega (arith, cut_length w)
+operator_length operators.Multiply w = omega (arith, cut_length w)
+operator_length operators.Divide w = omega arith
+operator_length operators.Remainder w = omega arith
+
+prefix_length : (o : PrefixOperator) (w : Width) → length (prefix_code o w) ≤ 4
+prefix_length prefixes.Not w = omega arith
+prefix_length prefixes.Complement w = omega (arith, cut_length w)
+prefix_length prefixes.Negate w = omega (arith, cut_length w)
+
+around_length : (w : Width) (amount : ℕ) → length (around_code w amount) ≤ 5
+around_length w amount = one_of (amount == 0) _ _ 5 (omega arith) (omega (arith, cut_length w))
+
+rotate_length : (w : Width) (amount : ℕ) → length (rotate_code w amount) ≤ 7
+rotate_length w amount = simp length-append (omega (arith, cut_length w, around_length w (amount % bits w)))
+
 -- at most 16 instructions a node
 pub expr_length : (names : Numbers) (free : ℕ) (e : ExprTree) → length (expr_code free (term names e)) ≤ 16 * nodes_in e
-expr_length names free (number place value) = omega (arith, constant_length 5 value)
-expr_length names free (truth place value) = omega (arith, constant_length 5 (bit_of value))
+expr_length names free (number place value kind) = omega (arith, constant_length 5 value)
+expr_length names free (truth place value) = omega (arith, constant_length 5 (word_of value))
 expr_length names free (name place text) = omega (arith, load_length 5 (variable_offset (number_of names text)))
-expr_length names free (binary place operator left right) =
+expr_length names free (prefix place operator operand) =
+    simp length-append (omega (arith, expr_length names free operand, prefix_length operator (width_of (kind_in names operand))))
+expr_length names free (binary place operator one other) =
     simp length-append
-    (omega (arith, expr_length names free left, expr_length names (free + 4) right, store_length 5 free, load_length 6 free))
+    (omega (arith, operator_length operator (width_of (kind_in names one)), expr_length names free one, expr_length names (free + 4) other, store_length 5 free, load_length 6 free))
+expr_length names free (rotate place operand amount) =
+    let e = length-append (expr_code free (term names operand)) (rotate_code (width_of (kind_in names operand)) amount) in
+    omega (arith, e, expr_length names free operand, rotate_length (width_of (kind_in names operand)) amount)
+expr_length names free (convert place kind operand) = simp length-append (omega (arith, expr_length names free operand, cut_length (width_of kind)))
 expr_length names free (select place condition accepted otherwise) =
     simp length-append
     (omega (arith, expr_length names free condition, expr_length names (free + 4) accepted, expr_length names (free + 8) otherwise, store_length 5 free, store_length 5 (free + 4), load_length 6 (free + 4), load_length 7 free))
+expr_length names free (element place target text index) = omega (arith, constant_length 5 (word_of false))
+
+right_length : (names : Numbers) (free : ℕ) (r : RightTree) → length (expr_code free (right names r)) ≤ 16 * right_nodes r
+right_length names free (computed e) = expr_length names free e
+right_length names free (called c) = omega (arith, constant_length 5 (word_of false))
+
+pub result_length : (names : Numbers) (variables controls : ℕ) (r : Option ReturnTree) → length (result_code variables controls (option_map (λ (r : ReturnTree). term names r.value) r)) ≤ 16 * return_nodes r
+result_length names variables controls None = omega arith
+result_length names variables controls (Some r) =
+    simp length-append (omega (arith, expr_length names (temporaries_offset variables controls) r.value, store_length 5 (result_offset variables)))
 
 within_length : (variables : ℕ) (within : Option ℕ) → length (within_code variables within) ≤ 5
 within_length variables None = omega arith
@@ -158,14 +245,24 @@ module _ (variables controls : ℕ) where
   one_length : (s : StraightTree) (n : ℕ) → length (statement_code variables controls s) ≤ n → length (statements_code variables controls (s ∷ [])) ≤ n
   one_length s n h = let e = length-append (statement_code variables controls s) [] in omega (arith, e, h)
 
+  -- what stands for a statement that is not compiled yet
+  stand_in_length : (within : Option ℕ) (n : ℕ) → 1 ≤ n → length (statements_code variables controls (set_within within 0 (flat.truth false) ∷ [])) ≤ 16 * n
+  stand_in_length within n some =
+      let all = assigned_length within 0 2 (flat.truth false) (constant_length 5 (word_of false)) in
+      one_length (set_within within 0 (flat.truth false)) (16 * n) (omega (arith, all, some))
+
   mutual
     pub statement_length : (names : Numbers) (n : ℕ) (within : Option ℕ) (control : ℕ) (s : StatementTree) → length (statements_code variables controls (removed within control (statement names n s))) ≤ 16 * statement_nodes s
     statement_length names n within control (declaration place label mutable kind text value) =
-        let v = expr_length names (temporaries_offset variables controls) value in
-        one_length (set n (term names value)) (16 * (1 + nodes_in value)) (let all = set_length n (16 * nodes_in value) (term names value) v in omega (arith, all))
+        let v = right_length names (temporaries_offset variables controls) value in
+        one_length (set n (right names value)) (16 * (1 + right_nodes value)) (let all = set_length n (16 * right_nodes value) (right names value) v in omega (arith, all))
     statement_length names n within control (assignment place target text value) =
-        let v = expr_length names (temporaries_offset variables controls) value in
-        one_length (set_within within (number_of names text) (term names value)) (16 * (1 + nodes_in value)) (let all = assigned_length within (number_of names text) (16 * nodes_in value) (term names value) v in omega (arith, all))
+        let v = right_length names (temporaries_offset variables controls) value in
+        one_length (set_within within (number_of names text) (right names value)) (16 * (1 + right_nodes value)) (let all = assigned_length within (number_of names text) (16 * right_nodes value) (right names value) v in omega (arith, all))
+    statement_length names n within control (array place label mutable kind size text values) = stand_in_length within (statement_nodes (array place label mutable kind size text values)) (omega arith)
+    statement_length names n within control (element_assignment place bracket target text index value) = stand_in_length within (statement_nodes (element_assignment place bracket target text index value)) (omega arith)
+    statement_length names n within control (call c) = stand_in_length within (statement_nodes (call c)) (omega arith)
+    statement_length names n within control (loop place counter text low high body) = stand_in_length within (statement_nodes (loop place counter text low high body)) (omega arith)
     statement_length names n within control (conditional place condition accepted otherwise) =
         let xs = removed_all (Some control) (control + 2) (block names n accepted) in
         let ys = removed_all (Some (control + 1)) (control + 2) (block names (n + block_words accepted) otherwise) in

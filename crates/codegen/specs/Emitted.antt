@@ -1,18 +1,27 @@
 -- The instructions that are emitted for slots, numbers, expressions and statements.
-use Rattle.std.specs.Prelude.{ℕ, ◌+◌, ◌/◌, ◌%◌, ◌^◌, Bool, List, [], ◌∷◌, ◌++◌, Option, None, Some, max, nat_lt, if◌then◌else◌}
+use Rattle.std.specs.Prelude.{ℕ, ◌+◌, ◌-◌, ◌/◌, ◌%◌, ◌^◌, ◌==◌, Bool, List, [], ◌∷◌, ◌++◌, Option, None, Some, max, nat_lt, if◌then◌else◌}
 use Rattle.branch_removal.specs.Straight.{StraightTree, set, take, set_under}
 use Rattle.codegen.specs.Layout.{variable_offset, control_offset, temporaries_offset}
-use Rattle.inline.specs.Flat.{TermTree, number, truth, variable, binary, select}
+use Rattle.inline.specs.Flat.{TermTree, number, truth, variable, prefix, binary, rotate, convert, select}
 use Rattle.rv_code.specs.declared.instructions.Instr.{Instr}
-use Rattle.rv_code.specs.declared.instructions.Instr.TheVariants.{Upper, Immediate, Register, Load, Store}
+use Rattle.rv_code.specs.declared.instructions.Instr.TheVariants.{Upper, Immediate, Shift, Register, Multiply, Divide, Load, Store}
 use Rattle.rv_code.specs.declared.operations.UpperOperation.TheVariants.{Lui}
-use Rattle.rv_code.specs.declared.operations.ImmediateOperation.TheVariants.{Addi}
-use Rattle.rv_code.specs.declared.operations.RegisterOperation.{RegisterOperation}
-use Rattle.rv_code.specs.declared.operations.RegisterOperation.TheVariants.{Add, Sub, Xor, And}
+use Rattle.rv_code.specs.declared.operations.ImmediateOperation.TheVariants.{Addi, Sltiu, Andi}
+use Rattle.rv_code.specs.declared.operations.ShiftOperation.TheVariants.{Slli, Srli}
+use Rattle.rv_code.specs.declared.operations.RegisterOperation.TheVariants.{Add, Sub, Sll, Sltu, Xor, Srl, Or, And}
+use Rattle.rv_code.specs.declared.operations.MultiplyOperation.TheVariants.{Mul}
+use Rattle.rv_code.specs.declared.operations.DivideOperation.TheVariants.{Divu, Remu}
 use Rattle.rv_code.specs.declared.operations.LoadOperation.TheVariants.{Lw}
 use Rattle.rv_code.specs.declared.operations.StoreOperation.TheVariants.{Sw}
 use Rattle.syntax.specs.declared.tree.BinaryOperator.{BinaryOperator}
 use Rattle.syntax.specs.declared.tree.BinaryOperator.TheVariants as operators
+use Rattle.syntax.specs.declared.tree.PrefixOperator.{PrefixOperator}
+use Rattle.syntax.specs.declared.tree.PrefixOperator.TheVariants as prefixes
+use Rattle.syntax.specs.Operators.{width_of}
+use Rattle.word.specs.declared.width.Width.{Width}
+use Rattle.word.specs.declared.width.Width.TheVariants.{W8, W16, W32}
+use Rattle.word.specs.Operators.{word_of}
+use Rattle.word.specs.Widths.{bits}
 
 -- The registers: the frame's base, an expression's value, its left operand, a condition or a mask, and an address.
 
@@ -69,15 +78,65 @@ constant_code register n =
     then Immediate Addi register zero_register n ∷ []
     else Upper Lui register (upper_part n) ∷ Immediate Addi register register (lower_part n) ∷ []
 
-abbrev pub operation_of : BinaryOperator → RegisterOperation
-operation_of operators.BitXor = Xor
-operation_of operators.BitAnd = And
-operation_of operators.Add = Add
-operation_of operators.Subtract = Sub
+-- the value, cut to a width
+abbrev pub cut_code : Width → List Instr
+cut_code W8 = Immediate Andi value_register value_register 255 ∷ []
+cut_code W16 = Shift Slli value_register value_register 16 ∷ Shift Srli value_register value_register 16 ∷ []
+cut_code W32 = []
 
--- the left operand and the value into the value
-abbrev pub operator_code : BinaryOperator → List Instr
-operator_code operator = Register (operation_of operator) value_register left_register value_register ∷ []
+-- 1 where the value is 0, and else 0
+abbrev pub is_zero_code : List Instr
+is_zero_code = Immediate Sltiu value_register value_register 1 ∷ []
+
+-- 0 where the value is 0, and else 1
+abbrev pub is_not_zero_code : List Instr
+is_not_zero_code = Register Sltu value_register zero_register value_register ∷ []
+
+-- 0 where the left operand is 0, and else 1; and so of the value
+abbrev pub both_truths_code : List Instr
+both_truths_code = Register Sltu left_register zero_register left_register ∷ is_not_zero_code
+
+-- 0 less the value
+abbrev pub negation_code : List Instr
+negation_code = Register Sub value_register zero_register value_register ∷ []
+
+-- an operator between the left operand and the value, into the value. Whether numbers are equal is read off their
+-- difference, and an order that takes equal numbers too is the other order, turned round.
+abbrev pub operator_code : BinaryOperator → Width → List Instr
+operator_code operators.Either w = both_truths_code ++ Register Or value_register left_register value_register ∷ []
+operator_code operators.Both w = both_truths_code ++ Register And value_register left_register value_register ∷ []
+operator_code operators.Equal w = Register Sub value_register left_register value_register ∷ is_zero_code
+operator_code operators.Unequal w = Register Sub value_register left_register value_register ∷ is_not_zero_code
+operator_code operators.Less w = Register Sltu value_register left_register value_register ∷ []
+operator_code operators.LessOrEqual w = Register Sltu value_register value_register left_register ∷ is_zero_code
+operator_code operators.Greater w = Register Sltu value_register value_register left_register ∷ []
+operator_code operators.GreaterOrEqual w = Register Sltu value_register left_register value_register ∷ is_zero_code
+operator_code operators.BitOr w = Register Or value_register left_register value_register ∷ []
+operator_code operators.BitXor w = Register Xor value_register left_register value_register ∷ []
+operator_code operators.BitAnd w = Register And value_register left_register value_register ∷ []
+operator_code operators.ShiftLeft w = Register Sll value_register left_register value_register ∷ cut_code w
+operator_code operators.ShiftRight w = Register Srl value_register left_register value_register ∷ cut_code w
+operator_code operators.Add w = Register Add value_register left_register value_register ∷ cut_code w
+operator_code operators.Subtract w = Register Sub value_register left_register value_register ∷ cut_code w
+operator_code operators.Multiply w = Multiply Mul value_register left_register value_register ∷ cut_code w
+operator_code operators.Divide w = Divide Divu value_register left_register value_register ∷ []
+operator_code operators.Remainder w = Divide Remu value_register left_register value_register ∷ []
+
+-- an operator before the value. The complement is one less than the number's negative.
+abbrev pub prefix_code : PrefixOperator → Width → List Instr
+prefix_code prefixes.Not w = is_zero_code
+prefix_code prefixes.Complement w = negation_code ++ Immediate Addi value_register value_register 4095 ∷ cut_code w
+prefix_code prefixes.Negate w = negation_code ++ cut_code w
+
+-- the value's bits moved up by an amount below the width, and those that go past its end back in at the bottom
+abbrev pub around_code : Width → ℕ → List Instr
+around_code w amount =
+    if amount == 0 then [] else
+    Shift Slli left_register value_register amount ∷ Shift Srli value_register value_register (bits w - amount)
+    ∷ Register Add value_register left_register value_register ∷ cut_code w
+
+abbrev pub rotate_code : Width → ℕ → List Instr
+rotate_code w amount = cut_code w ++ around_code w (amount % bits w)
 
 -- of the left operand and the value, the left where the condition is 1 and the value where it is 0
 abbrev pub choice_code : List Instr
@@ -87,18 +146,18 @@ choice_code =
     ∷ Register And left_register left_register condition_register
     ∷ Register Xor value_register value_register left_register ∷ []
 
-abbrev pub bit_of : Bool → ℕ
-bit_of b = if b then 1 else 0
-
 -- an expression into the value register; temporaries lie in slots from this offset on
 abbrev pub expr_code : ℕ → TermTree → List Instr
-expr_code free (number value) = constant_code value_register value
-expr_code free (truth value) = constant_code value_register (bit_of value)
+expr_code free (number value kind) = constant_code value_register value
+expr_code free (truth value) = constant_code value_register (word_of value)
 expr_code free (variable x) = load_code value_register (variable_offset x)
-expr_code free (binary operator left right) =
+expr_code free (prefix operator width operand) = expr_code free operand ++ prefix_code operator width
+expr_code free (binary operator width left right) =
     expr_code free left ++ store_code value_register free
     ++ expr_code (free + 4) right
-    ++ load_code left_register free ++ operator_code operator
+    ++ load_code left_register free ++ operator_code operator width
+expr_code free (rotate width operand amount) = expr_code free operand ++ rotate_code width amount
+expr_code free (convert kind operand) = expr_code free operand ++ cut_code (width_of kind)
 expr_code free (select condition accepted otherwise) =
     expr_code free condition ++ store_code value_register free
     ++ expr_code (free + 4) accepted ++ store_code value_register (free + 4)
@@ -152,10 +211,13 @@ statements_code variables controls (statement ∷ rest) =
 
 -- how many slots the temporaries of an expression take
 abbrev pub height_of : TermTree → ℕ
-height_of (number value) = 0
+height_of (number value kind) = 0
 height_of (truth value) = 0
 height_of (variable x) = 0
-height_of (binary operator left right) = max (height_of left) (1 + height_of right)
+height_of (prefix operator width operand) = height_of operand
+height_of (binary operator width left right) = max (height_of left) (1 + height_of right)
+height_of (rotate width operand amount) = height_of operand
+height_of (convert kind operand) = height_of operand
 height_of (select condition accepted otherwise) =
     max (height_of condition) (1 + max (height_of accepted) (1 + height_of otherwise))
 

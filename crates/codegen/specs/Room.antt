@@ -4,17 +4,25 @@ use Rattle.std.specs.List.{AllByRecursion}
 use Rattle.branch_removal.specs.Straight.{StraightTree, set, take, set_under, StraightProgram}
 use Rattle.codegen.specs.Generated.{program_code, program_height}
 use Rattle.codegen.specs.Layout.{temporaries_offset}
-use Rattle.inline.specs.Flat.{TermTree, number, truth, variable, binary, select}
+use Rattle.inline.specs.Flat.{TermTree, number, truth, variable, prefix, binary, rotate, convert, select}
 use Rattle.syntax.specs.declared.signature.Form.TheVariants.{SingleWord}
 use Rattle.syntax.specs.declared.signature.Param.{Param}
 
 -- its variables are numbered up to this one
 abbrev pub IsUpTo : ℕ → TermTree → Type 0
-IsUpTo most (number value) = Unit {0}
+IsUpTo most (number value kind) = Unit {0}
 IsUpTo most (truth value) = Unit {0}
 IsUpTo most (variable x) = x ≤ most
-IsUpTo most (binary operator left right) = IsUpTo most left × IsUpTo most right
+IsUpTo most (prefix operator width operand) = IsUpTo most operand
+IsUpTo most (binary operator width left right) = IsUpTo most left × IsUpTo most right
+IsUpTo most (rotate width operand amount) = IsUpTo most operand
+IsUpTo most (convert kind operand) = IsUpTo most operand
 IsUpTo most (select condition accepted otherwise) = IsUpTo most condition × IsUpTo most accepted × IsUpTo most otherwise
+
+-- so are those of a result, where there is one
+abbrev pub IsResultUpTo : ℕ → Option TermTree → Type 0
+IsResultUpTo most None = Unit {0}
+IsResultUpTo most (Some value) = IsUpTo most value
 
 -- an enclosing control value, where there is one, is among so many
 abbrev pub IsAmong : ℕ → Option ℕ → Type 0
@@ -45,6 +53,6 @@ pub record HasRoom (p : StraightProgram) : Type 0 where
   pub nodes : p.nodes ≤ 6000
   -- one number past the variables has a word too, the result's, which is written last
   pub statements : AllByRecursion (λ (statement : StraightTree). HasPlaces p.variables p.controls statement) p.statements
-  pub value : IsUpTo p.variables p.value
+  pub value : IsResultUpTo p.variables p.value
   pub frame : p.controls + program_height p ≤ p.nodes + 1
   pub code : length (program_code p) ≤ 32 * p.nodes + 64

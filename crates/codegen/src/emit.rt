@@ -1,20 +1,19 @@
 // Instructions for slots, numbers and masks, each appended to the code so far.
 
-ghost use Rattle.std.specs.Prelude.{◌≡◌, ◌++◌, ◌^◌, ◌<◌, OnOk};
-ghost use Rattle.codegen.specs.Emitted.{upper_part, lower_part, load_code, store_code, constant_code, choice_code, operator_code, masks_code, join_code, merge_code};
+ghost use Rattle.std.specs.Prelude.{◌≡◌, ◌++◌, OnOk};
+ghost use Rattle.codegen.specs.Emitted.{upper_part, lower_part, load_code, store_code, constant_code, choice_code, masks_code, join_code, merge_code};
 
 use rv_code::{
     Immediate12, ImmediateOperation, Instr, LoadOperation, Reg, RegisterOperation, StoreOperation,
     UpperImmediate, UpperOperation,
 };
 use std::alloc::AllocError;
-use syntax::BinaryOperator;
 
 /// What 12 bits hold as a number that is not negative.
 const NEAR: u32 = 2048;
 
 /// -1 as 12 bits.
-const MINUS_ONE: u32 = 4095;
+pub const MINUS_ONE: u32 = 4095;
 
 /// The upper part of a number, whose lower part is sign-extended when it is added.
 fn upper_part(n: u32) -> UpperImmediate
@@ -71,20 +70,6 @@ pub fn constant(code: &mut Vec<Instr>, register: Reg, n: u32) -> Result<(), Allo
     }
     code.push(Instr::Upper(UpperOperation::Lui, register, upper_part(n)))?;
     code.push(Instr::Immediate(ImmediateOperation::Addi, register, register, low))?;
-    Ok(())
-}
-
-/// The left operand and the value into the value.
-pub fn operator(code: &mut Vec<Instr>, operator: BinaryOperator) -> Result<(), AllocError>
-    ensures { OnOk result (code.new.items ≡ code.old.items ++ operator_code operator) }
-{
-    let operation = match operator {
-        BinaryOperator::BitXor => RegisterOperation::Xor,
-        BinaryOperator::BitAnd => RegisterOperation::And,
-        BinaryOperator::Add => RegisterOperation::Add,
-        BinaryOperator::Subtract => RegisterOperation::Sub,
-    };
-    code.push(Instr::Register(operation, Reg::X5, Reg::X6, Reg::X5))?;
     Ok(())
 }
 

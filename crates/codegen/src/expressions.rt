@@ -5,8 +5,8 @@ ghost use Rattle.codegen.specs.Emitted.{expr_code, height_of};
 ghost use Rattle.codegen.specs.Room.{IsUpTo};
 ghost use Rattle.inline.specs.Flat.{term_tree};
 
-use crate::emit;
 use crate::layout::Layout;
+use crate::{emit, operators};
 use inline::Term;
 use rv_code::{Instr, Reg};
 use std::alloc::AllocError;
@@ -17,8 +17,11 @@ pub fn height(term: &Term) -> u32
     ensures { result ≡ height_of (term_tree term.now) }
 {
     match term {
-        Term::Number(_) | Term::Truth(_) | Term::Variable(_) => 0,
-        Term::Binary(_, left, right) => {
+        Term::Number(_, _) | Term::Truth(_) | Term::Variable(_) => 0,
+        Term::Prefix(_, _, operand) | Term::Rotate(_, operand, _) | Term::Convert(_, operand) => {
+            height(operand)
+        }
+        Term::Binary(_, _, left, right) => {
             let left = height(left);
             let right = height(right);
             left.max(1 + right)
@@ -45,15 +48,27 @@ pub fn expression(
     ensures { OnOk result (code.new.items ≡ code.old.items ++ expr_code free (term_tree term.now)) }
 {
     match term {
-        Term::Number(value) => emit::constant(code, Reg::X5, *value),
+        Term::Number(value, _) => emit::constant(code, Reg::X5, *value),
         Term::Truth(value) => emit::constant(code, Reg::X5, u32::from(*value)),
         Term::Variable(number) => emit::load(code, Reg::X5, layout.variable(*number)),
-        Term::Binary(operator, left, right) => {
+        Term::Prefix(operator, width, operand) => {
+            expression(code, layout, free, operand)?;
+            operators::prefix(code, *operator, *width)
+        }
+        Term::Binary(operator, width, left, right) => {
             expression(code, layout, free, left)?;
             emit::store(code, Reg::X5, free)?;
             expression(code, layout, free + 4, right)?;
             emit::load(code, Reg::X6, free)?;
-            emit::operator(code, *operator)
+            operators::operator(code, *operator, *width)
+        }
+        Term::Rotate(width, operand, amount) => {
+            expression(code, layout, free, operand)?;
+            operators::rotate(code, *width, *amount)
+        }
+        Term::Convert(kind, operand) => {
+            expression(code, layout, free, operand)?;
+            operators::convert(code, *kind)
         }
         Term::Select(condition, accepted, otherwise) => {
             expression(code, layout, free, condition)?;

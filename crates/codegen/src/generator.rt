@@ -1,5 +1,6 @@
 ghost use Rattle.std.specs.Prelude.{◌≡◌, ◌<◌, ◌^◌, map, All, IfOk};
-ghost use Rattle.codegen.specs.Generated.{program_code, program_height, image_of};
+ghost use Rattle.std.specs.Option.{option_map};
+ghost use Rattle.codegen.specs.Generated.{program_code, program_height, result_slot, image_of};
 ghost use Rattle.codegen.specs.Room.{HasRoom};
 ghost use Rattle.rv_code.specs.Words.{word_of};
 
@@ -33,8 +34,10 @@ fn code(alloc: Global, straight: &Straight<'_>, layout: Layout) -> Result<Vec<In
 {
     let mut code = Vec::new(alloc);
     statements(&mut code, layout, straight.statements())?;
-    expression(&mut code, layout, layout.temporaries(), straight.value())?;
-    emit::store(&mut code, Reg::X5, layout.result())?;
+    if let Some(value) = straight.value() {
+        expression(&mut code, layout, layout.temporaries(), value)?;
+        emit::store(&mut code, Reg::X5, layout.result())?;
+    }
     code.push(Instr::Ecall)?;
     Ok(code)
 }
@@ -44,7 +47,25 @@ fn temporaries(straight: &Straight<'_>) -> u32
     requires { HasRoom straight.now }
     ensures { result ≡ program_height straight.now }
 {
-    greatest_height(straight.statements()).max(height(straight.value()))
+    let result = match straight.value() {
+        Some(value) => height(value),
+        None => 0,
+    };
+    greatest_height(straight.statements()).max(result)
+}
+
+/// The slot of the result, where there is one.
+fn result_slot(straight: &Straight<'_>, layout: Layout) -> Option<ResultSlot>
+    requires room { HasRoom straight.now }
+    requires variables { layout.variables ≡ straight.now.variables }
+    ensures { result ≡ option_map (result_slot straight.now.variables) straight.now.returned }
+{
+    let word = straight.returned()?;
+    Some(ResultSlot {
+        kind: word.kind,
+        label: word.label,
+        offset: layout.result(),
+    })
 }
 
 /// The image of straight code.
@@ -56,16 +77,11 @@ pub fn generate(alloc: Global, straight: &Straight<'_>) -> Result<Image, AllocEr
         variables: straight.variables(),
         controls: straight.controls(),
     };
-    let word = straight.returned();
-    let returned = ResultSlot {
-        kind: word.kind,
-        label: word.label,
-        offset: layout.result(),
-    };
+    let returned = result_slot(straight, layout);
     let code = code(alloc, straight, layout)?;
     let slots = slots(alloc, straight.parameters())?;
     let words = words(alloc, code.as_slice())?;
     let frame_bytes = layout.temporaries() + WORD_BYTES * temporaries(straight);
     let max_steps = 32 * u64::from(straight.nodes()) + 64;
-    Ok(Image::new(slots, Some(returned), frame_bytes, max_steps, words))
+    Ok(Image::new(slots, returned, frame_bytes, max_steps, words))
 }

@@ -7,6 +7,7 @@ mod expressions;
 mod generator;
 mod laws;
 mod layout;
+mod operators;
 mod statements;
 
 pub use generator::generate;

@@ -6,7 +6,7 @@ use crate::files::Files;
 use crate::outcome;
 use arguments::ArgumentRule;
 use clap::error::ErrorKind;
-use hepurita::{RunFault, build, execute, pair, read_args};
+use hepurita::{RunFault, build, execute, judge, pair, read_args};
 use image::Image;
 use observing::Pairing;
 use rv_machine::NullRecorder;
@@ -95,6 +95,10 @@ fn perform<'a, F: Files, O: Sink>(
     ensures { OnOk result (O.failures out.new ≡ O.failures out.old) }
 {
     match request {
+        Request::Check { file } => {
+            check_text(alloc, file, files)?;
+            print(out, "accepted\n")
+        }
         Request::Build { file, image } => build_image(alloc, file, image, files),
         Request::Run { image, arguments } => {
             let text = run_image(alloc, image, arguments, files)?;
@@ -116,6 +120,27 @@ fn print<O: Sink>(out: &mut O, text: &str) -> Result<(), Fault<'static>>
     }
 }
 
+/// A text's bytes. One that is too long is not read to its end.
+fn text_bytes<'a, F: Files>(
+    alloc: Global,
+    file: &'a str,
+    files: &mut F,
+) -> Result<Vec<u8>, Fault<'a>> {
+    let bytes = read_file(alloc, file, TEXT_LIMIT + 1, files)?;
+    if bytes.len() > TEXT_LIMIT {
+        return Err(Fault::Text(Refusal::at(Rule::TextTooLong, Place::ORIGIN)));
+    }
+    Ok(bytes)
+}
+
+/// The text that a file's bytes are.
+fn text_of<'a, 'b>(file: &'a str, bytes: &'b [u8]) -> Result<&'b str, Fault<'a>> {
+    match str::from_utf8(bytes) {
+        Ok(text) => Ok(text),
+        Err(_) => Err(Fault::File(FileFault::NotUtf8(file))),
+    }
+}
+
 /// Compiles the text of one file to the image of another, which is opened only once the text was
 /// accepted.
 fn build_image<'a, F: Files>(
@@ -124,15 +149,16 @@ fn build_image<'a, F: Files>(
     image: &'a str,
     files: &mut F,
 ) -> Result<(), Fault<'a>> {
-    let bytes = read_file(alloc, file, TEXT_LIMIT + 1, files)?;
-    if bytes.len() > TEXT_LIMIT {
-        return Err(Fault::Text(Refusal::at(Rule::TextTooLong, Place::ORIGIN)));
-    }
-    let Ok(text) = str::from_utf8(bytes.as_slice()) else {
-        return Err(Fault::File(FileFault::NotUtf8(file)));
-    };
-    let built = build(alloc, text)?;
+    let bytes = text_bytes(alloc, file, files)?;
+    let built = build(alloc, text_of(file, bytes.as_slice())?)?;
     write_file(image, built.as_slice(), files)
+}
+
+/// Judges the text of a file.
+fn check_text<'a, F: Files>(alloc: Global, file: &'a str, files: &mut F) -> Result<(), Fault<'a>> {
+    let bytes = text_bytes(alloc, file, files)?;
+    let _accepted = judge(alloc, text_of(file, bytes.as_slice())?)?;
+    Ok(())
 }
 
 /// What an image gives on arguments, as lines.

@@ -4,6 +4,9 @@ use std::alloc::{AllocError, Global};
 
 /// What the words ask for.
 pub enum Request<'a> {
+    Check {
+        file: &'a str,
+    },
     Build {
         file: &'a str,
         image: &'a str,
@@ -24,17 +27,20 @@ pub fn parse<'a>(alloc: Global, words: &'a [&'a str]) -> Result<Request<'a>, Err
     let mut command = factc(alloc)?;
     let matches = command.try_get_matches_from_mut(words)?;
     match matches.subcommand() {
+        Some(("check", check)) => Ok(Request::Check {
+            file: text_of(check, "FILE"),
+        }),
         Some(("build", build)) => Ok(Request::Build {
             file: text_of(build, "FILE"),
             image: text_of(build, "IMAGE"),
         }),
         Some(("run", run)) => Ok(Request::Run {
             image: text_of(run, "IMAGE"),
-            arguments: after_image(words),
+            arguments: after_path(words),
         }),
         Some(("pair", pair)) => Ok(Request::Pair {
             image: text_of(pair, "IMAGE"),
-            arguments: after_image(words),
+            arguments: after_path(words),
         }),
         _ => Err(command.error(ErrorKind::MissingSubcommand, "a command is required")?),
     }
@@ -45,9 +51,9 @@ fn text_of<'a>(matches: &ArgMatches<'a>, id: &str) -> &'a str {
     matches.get_str(id).unwrap_or("")
 }
 
-/// The words after those of `run` or `pair` and IMAGE. Each of them is an argument, also `--`,
-/// which before IMAGE says that IMAGE may begin with a hyphen.
-fn after_image<'a>(words: &'a [&'a str]) -> &'a [&'a str] {
+/// The words after a command and its IMAGE. Each of them is an argument, also `--`, which
+/// before the path says that the path may begin with a hyphen.
+fn after_path<'a>(words: &'a [&'a str]) -> &'a [&'a str] {
     match words {
         [_, _, dashes, _, arguments @ ..] if *dashes == "--" => arguments,
         [_, _, _, arguments @ ..] => arguments,
@@ -63,9 +69,16 @@ fn factc<'a>(alloc: Global) -> Result<Command<'a>, AllocError> {
              runs what it compiled, and shows what an observer sees of the run",
         )
         .subcommand_required(true)
+        .subcommand(check_command(alloc)?)?
         .subcommand(build_command(alloc)?)?
         .subcommand(run_command(alloc)?)?
         .subcommand(pair_command(alloc)?)
+}
+
+fn check_command<'a>(alloc: Global) -> Result<Command<'a>, AllocError> {
+    Command::new(alloc, "check")
+        .about("Says whether a text is accepted, or names the first rule that it violates")
+        .arg(path(alloc, "FILE", "The text to judge"))
 }
 
 fn build_command<'a>(alloc: Global) -> Result<Command<'a>, AllocError> {
@@ -108,7 +121,7 @@ fn path<'a>(alloc: Global, name: &'a str, help: &'a str) -> Arg<'a> {
         .help(help)
 }
 
-/// Every word after IMAGE, also one that begins with a hyphen.
+/// Every word after a path, also one that begins with a hyphen.
 fn arguments<'a>(alloc: Global, help: &'a str) -> Arg<'a> {
     Arg::new(alloc, "ARG")
         .action(ArgAction::Append)

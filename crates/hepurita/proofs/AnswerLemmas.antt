@@ -1,5 +1,5 @@
 -- What is answered for a compiled image at the standard bases.
-use Rattle.std.proofs.Common.{◌≡◌, ◌≢◌, ◌↔◌, inl, inr, ℕ, ◌*◌, ◌+◌, ◌<◌, ◌≤◌, ◌==◌, ◌&&◌, Bool, true, false, List, [], length, slice_get, Option, None, Some, Result, Ok, if◌then◌else◌, refl, sym, ap, subst, ◌∙◌, arith}
+use Rattle.std.proofs.Common.{◌≡◌, ◌≢◌, ◌↔◌, inl, inr, ℕ, ◌*◌, ◌+◌, ◌<◌, ◌≤◌, ◌==◌, ◌&&◌, Bool, true, false, List, [], length, slice_get, Option, None, Some, Result, Ok, IfSome, if◌then◌else◌, refl, sym, ap, subst, ◌∙◌, arith}
 use Rattle.std.specs.Option.{option_map}
 use Rattle.std.proofs.lemmas.Bool.Decides.{Decides-eqb}
 use Rattle.arguments.specs.Faults.{fault_of, count_fault}
@@ -23,12 +23,13 @@ use Rattle.simulation.specs.Compiled.{AreBases, IsCompiled, RunsTo}
 use Rattle.simulation.specs.Loaded.{params_of, code_at, loaded_at, results_in}
 use Rattle.syntax.specs.declared.signature.Label.TheVariants.{Public}
 use Rattle.syntax.specs.declared.signature.Param.{Param}
+use Rattle.syntax.specs.declared.typing.WordType.{WordType}
 use Rattle.syntax.specs.declared.values.Arg.{Arg}
-use Rattle.syntax.specs.Meaning.{Gives}
+use Rattle.syntax.specs.Meaning.{Ending, Gives, gives}
 use Rattle.syntax.specs.Reading.{OneAnswer}
 use Rattle.syntax.specs.Results.{Results}
 use Rattle.syntax.specs.Size.{nodes_of}
-use Rattle.syntax.specs.Tree.{ProcedureTree}
+use Rattle.syntax.specs.Tree.{ProcedureTree, ProgramTree}
 use Rattle.hepurita.specs.declared.fault.RunFault.{RunFault}
 use Rattle.hepurita.specs.Answers.{Builds, IsTheOutcome, IsSame}
 use Rattle.hepurita.specs.Executed.{Executed, answer_at, refused, out_of_memory, ran}
@@ -48,29 +49,29 @@ abbrev pub OneForEach : Type 0
 OneForEach = (params : List Param) (args : List Arg) → AreWithin params args → length args ≡ length params
 
 abbrev pub BasesFit : Type 0
-BasesFit = (p : ProcedureTree) (image : Fields) (k : ℕ) → IsCompiled p image → nodes_of p ≤ 6000 → k < 8 → AreBases image (code_base + 0x0010_0000 * k) (frame_base + 0x0001_0000 * k)
+BasesFit = (program : ProgramTree) (p : ProcedureTree) (image : Fields) (k : ℕ) → IsCompiled program p image → nodes_of p ≤ 6000 → k < 8 → AreBases image (code_base + 0x0010_0000 * k) (frame_base + 0x0001_0000 * k)
 
 abbrev pub OneOutcome : Type 0
-OneOutcome = (p : ProcedureTree) (args : List Arg) (a b : Results) → Gives p args a → Gives p args b → a ≡ b
+OneOutcome = (program : ProgramTree) (args : List Arg) (a b : Ending Results) → Gives program args a → Gives program args b → a ≡ b
 
 -- ---- the image of an accepted text
 
 -- it is the export, compiled, and may lie at the standard bases
-pub record Fits (export : ProcedureTree) (image : Fields) : Type 0 where
-  pub compiled : IsCompiled export image
+pub record Fits (program : ProgramTree) (export : ProcedureTree) (image : Fields) : Type 0 where
+  pub compiled : IsCompiled program export image
   pub bases : AreBases image code_base frame_base
 
-pub fits : OneAnswer → OneSpelling → BasesFit → (text bytes : List ℕ) (export : ProcedureTree) (image : Fields) → Builds text bytes export image → Fits export image
-fits one spell fit text bytes export image is =
+pub fits : OneAnswer → OneSpelling → BasesFit → (text bytes : List ℕ) (program : ProgramTree) (export : ProcedureTree) (image : Fields) → Builds text bytes program export image → Fits program export image
+fits one spell fit text bytes program export image is =
     let built = is.built in
-    let exports : built.export ≡ export = one_export one text built.export export built.judged is.judged in
+    let same = one_export one text built.program program built.export export built.judged is.judged in
     let images : built.image ≡ image = spell built.image image built.allowed is.allowed (sym built.spelled ∙ is.spelled) in
-    let compiled = subst (λ (f : Fields). IsCompiled export f) images (subst (λ (p : ProcedureTree). IsCompiled p built.image) exports built.compiled) in
-    record { compiled = compiled; bases = fit export image 0 compiled (few_nodes text export is.judged) (omega arith) }
+    let compiled : IsCompiled program export image = subst (λ (f : Fields). IsCompiled program export f) images (subst (λ (p : ProcedureTree). IsCompiled program p built.image) same.1 (subst (λ (p : ProgramTree). IsCompiled p built.export built.image) same.0 built.compiled)) in
+    record { compiled = compiled; bases = fit program export image 0 compiled (few_nodes text program export is.judged) (omega arith) }
 
-module _ (export : ProcedureTree) (image : Fields) (is : Fits export image) where
+module _ (program : ProgramTree) (export : ProcedureTree) (image : Fields) (is : Fits program export image) where
   -- the run on arguments
-  pub run_on : (args : List Arg) → AreWithin (params_of image) args → RunsTo export image code_base frame_base args
+  pub run_on : (args : List Arg) → AreWithin (params_of image) args → RunsTo program image code_base frame_base args
   run_on args within = is.compiled.results code_base frame_base args is.bases within
 
   -- a run that no recorder cuts short is that one
@@ -82,11 +83,11 @@ module _ (export : ProcedureTree) (image : Fields) (is : Fits export image) wher
   -- ---- execute
 
   -- a run leaves the outcome, or the recorder refused
-  outcome_at : OneOutcome → (args : List Arg) → AreWithin (params_of image) args → (keeps : Bool) (list after : List Observation) (end : State) (stop : Stop) → Ran (code_at code_base image) keeps image.max_steps (loaded_at code_base frame_base image args) list stop end after → IsTheOutcome export args (answer_at frame_base image stop end.bytes)
+  outcome_at : OneOutcome → (args : List Arg) → AreWithin (params_of image) args → (keeps : Bool) (list after : List Observation) (end : State) (stop : Stop) → Ran (code_at code_base image) keeps image.max_steps (loaded_at code_base frame_base image args) list stop end after → IsTheOutcome program args (answer_at frame_base image stop end.bytes)
   outcome_at one args within keeps list after end Ecall run =
       let ended = is_run args within keeps list after Ecall end run (λ h. cc) in
-      let gives = subst (λ (t : State). Gives export args (results_in frame_base image t.bytes)) (sym ended.1) (run_on args within).outcome in
-      (gives, λ other h. one export args other _ h gives)
+      let given = subst (λ (t : State). Gives program args (gives (results_in frame_base image t.bytes))) (sym ended.1) (run_on args within).outcome in
+      (given, λ other h. one program args other _ h given)
   outcome_at one args within keeps list after end Break run = let ended = (is_run args within keeps list after Break end run (λ h. cc)).0 in cc
   outcome_at one args within keeps list after end Illegal run = let ended = (is_run args within keeps list after Illegal end run (λ h. cc)).0 in cc
   outcome_at one args within keeps list after end AccessFault run = let ended = (is_run args within keeps list after AccessFault end run (λ h. cc)).0 in cc
@@ -94,13 +95,13 @@ module _ (export : ProcedureTree) (image : Fields) (is : Fits export image) wher
   outcome_at one args within keeps list after end Budget run = let ended = (is_run args within keeps list after Budget end run (λ h. cc)).0 in cc
   outcome_at one args within keeps list after end RecorderRefused run = inr refl
 
-  pub the_outcome : Faultless → OneOutcome → (args : List Arg) (keeps : Bool) (list after : List Observation) (answer : Result Results RunFault) → AreWithin (params_of image) args → Executed image args keeps list answer after → IsTheOutcome export args answer
+  pub the_outcome : Faultless → OneOutcome → (args : List Arg) (keeps : Bool) (list after : List Observation) (answer : Result Results RunFault) → AreWithin (params_of image) args → Executed image args keeps list answer after → IsTheOutcome program args answer
   the_outcome faultless one args keeps list after answer within (refused first) =
       let none = (faultless (params_of image) args).1 within in
       cc
   the_outcome faultless one args keeps list after answer within out_of_memory = inl refl
   the_outcome faultless one args keeps list after answer within (ran {stop} {end} none run answered) =
-      subst (λ (r : Result Results RunFault). IsTheOutcome export args r) (sym answered) (outcome_at one args within keeps list after end stop run)
+      subst (λ (r : Result Results RunFault). IsTheOutcome program args r) (sym answered) (outcome_at one args within keeps list after end stop run)
 
   -- the results of a run that ends by ECALL, and what it showed
   left_at : (args : List Arg) (within : AreWithin (params_of image) args) (keeps : Bool) (list after : List Observation) (end : State) (outcome : Results) (stop : Stop) → Ran (code_at code_base image) keeps image.max_steps (loaded_at code_base frame_base image args) list stop end after → Ok outcome ≡ answer_at frame_base image stop end.bytes → (outcome ≡ results_in frame_base image (run_on args within).end.bytes) × (after ≡ kept keeps list (run_on args within).seen)
@@ -133,7 +134,7 @@ module _ (export : ProcedureTree) (image : Fields) (is : Fits export image) wher
         ∙ ap (kept keeps list) same_shown
         ∙ sym (left other keeps list after' b agree.other_within second).1
 
-    pub one_result : (keeps : Bool) (list after after' : List Observation) (x y : Results) → export.label ≡ Public → Executed image one keeps list (Ok x) after → Executed image other keeps list (Ok y) after' → x ≡ y
+    pub one_result : (keeps : Bool) (list after after' : List Observation) (x y : Results) → IfSome export.result (λ (word : WordType). word.label ≡ Public) → Executed image one keeps list (Ok x) after → Executed image other keeps list (Ok y) after' → x ≡ y
     one_result keeps list after after' x y public first second =
         let a = run_on one agree.one_within in
         let b = run_on other agree.other_within in

@@ -1,25 +1,42 @@
 -- Refusals of the passes as judgements on programs and texts.
-use Rattle.std.proofs.Common.{◌≡◌, inl, inr, ℕ, List, length, Some, sym, subst}
+use Rattle.std.proofs.Common.{◌≡◌, inl, inr, ℕ, List, [], length, Some, Result, Ok, Err, IfOk, sym, subst}
+use Rattle.coverage.specs.Earliest.{IsEarliest}
+use Rattle.coverage.specs.NotCompiled.{uncompiled, IsCompiledYet}
+use Rattle.inline.specs.Flat.{FlatProgram}
+use Rattle.inline.specs.Numbering.{flattened}
+use Rattle.word.specs.declared.place.Place.{Place}
 use Rattle.syntax.specs.declared.refusal.Refusal.{Refusal}
 use Rattle.syntax.specs.declared.rule.Rule.{Rule}
+use Rattle.syntax.specs.declared.rule.Rule.TheVariants.{NotCompiledYet}
 use Rattle.syntax.specs.FirstViolation.{IsRefusedFor}
+use Rattle.syntax.specs.Meaning.{exported}
 use Rattle.syntax.specs.Reading.{Reads, accepted, IsRefusedAs}
 use Rattle.syntax.specs.Size.{size_violations}
 use Rattle.syntax.specs.Tree.{ProcedureTree, ProgramTree}
 use Rattle.syntax.specs.Typing.{violations}
-use Rattle.hepurita.specs.Built.{JudgesProgram, Judges, refuses, ill_typed, too_large, unreadable, readable, IsRefusal}
+use Rattle.hepurita.specs.Built.{JudgesProgram, Judges, accepts, refuses, not_compiled_yet, ill_typed, too_large, fine, unreadable, readable, IsRefusal}
+
+-- a refusal of what is not compiled yet
+pub refusal_of_coverage : (program : ProgramTree) (place : Place) (r : Refusal) → IsEarliest (uncompiled program) place → r.rule ≡ NotCompiledYet → r.place ≡ Some place → IsRefusal (JudgesProgram program) r
+refusal_of_coverage program place r earliest rule at =
+    inr (place, at, subst (λ (x : Rule). JudgesProgram program (refuses x place)) (sym rule) (not_compiled_yet earliest))
 
 -- a refusal by the rules on names, types and labels
-pub refusal_of_types : (program : ProgramTree) (r : Refusal) → IsRefusedFor (violations program) r.rule r.place → IsRefusal (JudgesProgram program) r
-refusal_of_types program r (inl memory) = inl memory
-refusal_of_types program r (inr (first, is, rule, place)) =
-    inr (first.place, place, subst (λ (x : Rule). JudgesProgram program (refuses x first.place)) (sym rule) (ill_typed is))
+pub refusal_of_types : (program : ProgramTree) (r : Refusal) → IsCompiledYet program → IsRefusedFor (violations program) r.rule r.place → IsRefusal (JudgesProgram program) r
+refusal_of_types program r compiled (inl memory) = inl memory
+refusal_of_types program r compiled (inr (first, is, rule, place)) =
+    inr (first.place, place, subst (λ (x : Rule). JudgesProgram program (refuses x first.place)) (sym rule) (ill_typed compiled is))
 
 -- a refusal by the limits on size
-pub refusal_of_sizes : (program : ProgramTree) (export : ProcedureTree) (r : Refusal) → length (violations program) ≡ 0 → program.export ≡ Some export → IsRefusedFor (size_violations export) r.rule r.place → IsRefusal (JudgesProgram program) r
-refusal_of_sizes program export r fine is (inl memory) = inl memory
-refusal_of_sizes program export r fine is (inr (first, earliest, rule, place)) =
-    inr (first.place, place, subst (λ (x : Rule). JudgesProgram program (refuses x first.place)) (sym rule) (too_large fine is earliest))
+pub refusal_of_sizes : (program : ProgramTree) (before : List ProcedureTree) (export : ProcedureTree) (r : Refusal) → IsCompiledYet program → length (violations program) ≡ 0 → exported [] program.procedures ≡ Some (before, export) → IsRefusedFor (size_violations export) r.rule r.place → IsRefusal (JudgesProgram program) r
+refusal_of_sizes program before export r compiled typed is (inl memory) = inl memory
+refusal_of_sizes program before export r compiled typed is (inr (first, earliest, rule, place)) =
+    inr (first.place, place, subst (λ (x : Rule). JudgesProgram program (refuses x first.place)) (sym rule) (too_large compiled typed is earliest))
+
+-- the export as one body, where it passes no limit
+pub judged_flat : (program : ProgramTree) (before : List ProcedureTree) (export : ProcedureTree) (r : Result FlatProgram Refusal) → IsCompiledYet program → length (violations program) ≡ 0 → exported [] program.procedures ≡ Some (before, export) → IfOk r (λ flat. flat ≡ flattened export) → IfOk r (λ _. length (size_violations export) ≡ 0) → IfOk r (λ flat. (p : ProcedureTree) × JudgesProgram program (accepts program p) × (flat ≡ flattened p))
+judged_flat program before export (Ok flat) compiled typed is made small = (export, fine compiled typed is small, made)
+judged_flat program before export (Err refusal) compiled typed is made small = tt
 
 -- a refusal of the text as such
 pub refusal_of_text : (text : List ℕ) (r : Refusal) → IsRefusedAs (Reads text) r → IsRefusal (Judges text) r

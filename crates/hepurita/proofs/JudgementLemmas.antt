@@ -1,44 +1,54 @@
 -- A text is not both accepted and refused, nor accepted for two exports; and its export is small.
-use Rattle.std.proofs.Common.{◌≡◌, ℕ, ◌≤◌, Bool, true, false, nat_lt, List, ◌++◌, Some, length, length-append, Contains, refl, ap, sym, subst, ◌∙◌, arith}
+use Rattle.std.proofs.Common.{◌≡◌, ℕ, ◌≤◌, Bool, true, false, nat_lt, List, [], ◌++◌, Option, Some, length, length-append, Contains, refl, ap, sym, subst, ◌∙◌, arith}
 use Rattle.std.proofs.lemmas.Bool.Decides.{nat_tests}
 use Rattle.std.proofs.lemmas.List.{length-map}
 use Rattle.word.specs.declared.place.Place.{Place}
 use Rattle.syntax.specs.declared.rule.Rule.{Rule}
 use Rattle.syntax.specs.declared.rule.Rule.TheVariants.{InlinedSize, DeclaredBytes}
 use Rattle.syntax.specs.declared.typing.Violation.{Violation}
+use Rattle.syntax.specs.Meaning.{exported}
 use Rattle.syntax.specs.Reading.{accepted, refused, OneAnswer}
 use Rattle.syntax.specs.Size.{nodes_of, declared_bytes, most_nodes, most_declared_bytes, size_violations}
 use Rattle.syntax.specs.Tree.{ProcedureTree, ProgramTree}
-use Rattle.syntax.specs.Typing.{when}
-use Rattle.hepurita.specs.Built.{Judges, JudgesProgram, accepts, refuses, ill_typed, too_large, fine, unreadable, readable}
+use Rattle.syntax.specs.Types.{when}
+use Rattle.hepurita.specs.Built.{Judges, JudgesProgram, accepts, refuses, not_compiled_yet, ill_typed, too_large, fine, unreadable, readable}
+use Rattle.hepurita.proofs.Exports.{Export, export_or}
 
 -- none of no violations is the first
 none : (all : List Violation) (v : Violation) → length all ≡ 0 → Contains all v → ⊥
 none all v empty there = absurd (omega (arith, there.1))
 
--- nor is a program
-pub apart : (program : ProgramTree) (export : ProcedureTree) (rule : Rule) (place : Place) → JudgesProgram program (accepts export) → JudgesProgram program (refuses rule place) → ⊥
-apart program export rule place (fine typed is within) (ill_typed first) = none _ _ typed first.there
-apart program export rule place (fine typed is within) (too_large {export = other} typed' is' first) =
-    let some : Some export ≡ Some other = sym is ∙ is' in
-    let same : export ≡ other = cc in
+-- nor is there a place among no places
+nowhere : (all : List Place) (p : Place) → length all ≡ 0 → Contains all p → ⊥
+nowhere all p empty there = absurd (omega (arith, there.1))
+
+-- a program has one export
+exports_agree : (found : Export) (before before' : List ProcedureTree) (p q : ProcedureTree) → found ≡ Some (before, p) → found ≡ Some (before', q) → p ≡ q
+exports_agree found before before' p q is is' = ap (export_or p) (sym is ∙ is')
+
+-- a program is not both
+pub apart : (program of : ProgramTree) (export : ProcedureTree) (rule : Rule) (place : Place) → JudgesProgram program (accepts of export) → JudgesProgram program (refuses rule place) → ⊥
+apart program of export rule place (fine compiled typed is within) (not_compiled_yet first) = nowhere _ _ compiled first.there
+apart program of export rule place (fine compiled typed is within) (ill_typed compiled' first) = none _ _ typed first.there
+apart program of export rule place (fine {before} compiled typed is within) (too_large {before = before'} {export = other} compiled' typed' is' first) =
+    let same = exports_agree (exported [] program.procedures) before before' export other is is' in
     none (size_violations other) _ (subst (λ (e : ProcedureTree). length (size_violations e) ≡ 0) same within) first.there
 
-pub not_both : OneAnswer → (text : List ℕ) (export : ProcedureTree) (rule : Rule) (place : Place) → Judges text (accepts export) → Judges text (refuses rule place) → ⊥
-not_both one text export rule place (readable {program} reads judges) (unreadable reads') =
+pub not_both : OneAnswer → (text : List ℕ) (program : ProgramTree) (export : ProcedureTree) (rule : Rule) (place : Place) → Judges text (accepts program export) → Judges text (refuses rule place) → ⊥
+not_both one text of export rule place (readable {program} reads judges) (unreadable reads') =
     let same : accepted program ≡ refused rule place = one text (accepted program) (refused rule place) reads reads' in
     cc
-not_both one text export rule place (readable {program} reads judges) (readable {program = other} reads' judges') =
+not_both one text of export rule place (readable {program} reads judges) (readable {program = other} reads' judges') =
     let answer : accepted program ≡ accepted other = one text (accepted program) (accepted other) reads reads' in
     let same : program ≡ other = cc in
-    apart other export rule place (subst (λ (p : ProgramTree). JudgesProgram p (accepts export)) same judges) judges'
+    apart other of export rule place (subst (λ (p : ProgramTree). JudgesProgram p (accepts of export)) same judges) judges'
 
-pub one_export : OneAnswer → (text : List ℕ) (export other : ProcedureTree) → Judges text (accepts export) → Judges text (accepts other) → export ≡ other
-one_export one text export other (readable {program} reads (fine typed is small)) (readable {program = p} reads' (fine typed' is' small')) =
-    let answer : accepted program ≡ accepted p = one text (accepted program) (accepted p) reads reads' in
-    let same : program ≡ p = cc in
-    let some : Some export ≡ Some other = sym is ∙ ap (λ (q : ProgramTree). q.export) same ∙ is' in
-    cc
+-- an accepted text is one program with one export
+pub one_export : OneAnswer → (text : List ℕ) (program program' : ProgramTree) (export export' : ProcedureTree) → Judges text (accepts program export) → Judges text (accepts program' export') → (program ≡ program') × (export ≡ export')
+one_export one text program program' export export' (readable reads (fine {before} compiled typed is small)) (readable reads' (fine {before = before'} compiled' typed' is' small')) =
+    let answer : accepted program ≡ accepted program' = one text (accepted program) (accepted program') reads reads' in
+    let same : program ≡ program' = cc in
+    (same, exports_agree (exported [] program'.procedures) before before' export export' (ap (λ (q : ProgramTree). exported [] q.procedures) (sym same) ∙ is) is')
 
 not_passed : (b : Bool) (rule : Rule) → length (when b rule) ≡ 0 → b ≡ false
 not_passed true rule h = absurd (omega (arith, h))
@@ -47,10 +57,16 @@ not_passed false rule h = refl
 within : (most n : ℕ) → nat_lt most n ≡ false → n ≤ most
 within most n h = grind (arith, nat_tests)
 
-pub few_nodes : (text : List ℕ) (export : ProcedureTree) → Judges text (accepts export) → nodes_of export ≤ most_nodes
-few_nodes text export (readable reads (fine typed is small)) =
-    let a = when (nat_lt most_nodes (nodes_of export)) InlinedSize in
-    let b = when (nat_lt most_declared_bytes (declared_bytes export)) DeclaredBytes in
-    let m = length-map {B = Violation} (a ++ b) (λ rule. record { place = export.place; rule = rule }) in
-    let n = length-append a b in
-    within most_nodes (nodes_of export) (not_passed _ InlinedSize (omega (arith, small, m, n)))
+-- what passes no limit on size
+pub sizes : (p : ProcedureTree) → length (size_violations p) ≡ 0 → (nodes_of p ≤ most_nodes) × (declared_bytes p ≤ most_declared_bytes)
+sizes p small =
+    let a = when (nat_lt most_nodes (nodes_of p)) InlinedSize in
+    let b = when (nat_lt most_declared_bytes (declared_bytes p)) DeclaredBytes in
+    let m = length-map {B = Violation} (a ++ b) (λ rule. record { place = p.place; rule = rule }) in
+    let n = length-append a b in (
+      within most_nodes (nodes_of p) (not_passed _ InlinedSize (omega (arith, small, m, n))),
+      within most_declared_bytes (declared_bytes p) (not_passed _ DeclaredBytes (omega (arith, small, m, n))),
+    )
+
+pub few_nodes : (text : List ℕ) (program : ProgramTree) (export : ProcedureTree) → Judges text (accepts program export) → nodes_of export ≤ most_nodes
+few_nodes text program export (readable reads (fine compiled typed is small)) = (sizes export small).0

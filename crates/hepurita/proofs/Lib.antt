@@ -4,6 +4,8 @@ pub mod ExecutedLemmas
 pub mod BuiltLemmas
 pub mod FaultLemmas
 pub mod PairedLemmas
+pub mod Exports
 pub mod JudgementLemmas
+pub mod RoomLemmas
 pub mod TheoremLemmas
 pub mod AnswerLemmas

@@ -6,24 +6,24 @@ use Rattle.observing.specs.declared.pairing.Pairing.{Pairing}
 use Rattle.observing.specs.declared.pairing.Pairing.TheVariants.{Same}
 use Rattle.rv_machine.specs.declared.stops.Stop.TheVariants.{RecorderRefused}
 use Rattle.syntax.specs.declared.values.Arg.{Arg}
-use Rattle.syntax.specs.Meaning.{Gives}
+use Rattle.syntax.specs.Meaning.{Ending, Gives, gives}
 use Rattle.syntax.specs.Results.{Results}
-use Rattle.syntax.specs.Tree.{ProcedureTree}
+use Rattle.syntax.specs.Tree.{ProcedureTree, ProgramTree}
 use Rattle.hepurita.specs.declared.fault.RunFault.{RunFault}
 use Rattle.hepurita.specs.declared.fault.RunFault.TheVariants.{Memory, Stopped}
 use Rattle.hepurita.specs.Built.{Judges, accepts, IsBuilt}
 
 -- a text that is accepted with this export, and the image that its bytes spell
-pub record Builds (text bytes : List ℕ) (export : ProcedureTree) (image : Fields) : Type 0 where
+pub record Builds (text bytes : List ℕ) (program : ProgramTree) (export : ProcedureTree) (image : Fields) : Type 0 where
   pub built : IsBuilt text bytes
-  pub judged : Judges text (accepts export)
+  pub judged : Judges text (accepts program export)
   pub allowed : IsImage image
   pub spelled : bytes ≡ spelling image
 
--- the one outcome that the procedure gives; or memory was refused, or the recorder refused
-abbrev pub IsTheOutcome : ProcedureTree → List Arg → Result Results RunFault → Type 0
-IsTheOutcome export args (Ok outcome) = Gives export args outcome × ((other : Results) → Gives export args other → other ≡ outcome)
-IsTheOutcome export args (Err fault) = (fault ≡ Memory) ⊎ (fault ≡ Stopped RecorderRefused)
+-- the one outcome that the program gives, which meets no fault; or memory was refused, or the recorder refused
+abbrev pub IsTheOutcome : ProgramTree → List Arg → Result Results RunFault → Type 0
+IsTheOutcome program args (Ok outcome) = Gives program args (gives outcome) × ((other : Ending Results) → Gives program args other → other ≡ gives outcome)
+IsTheOutcome program args (Err fault) = (fault ≡ Memory) ⊎ (fault ≡ Stopped RecorderRefused)
 
 -- `same`; or memory was refused
 abbrev pub IsSame : Result Pairing RunFault → Type 0

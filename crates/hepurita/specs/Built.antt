@@ -1,31 +1,38 @@
 -- What the compiler answers to a text: the passes are asked in order, and each names its first violation.
-use Rattle.std.specs.Prelude.{◌≡◌, ◌⊎◌, ℕ, List, length, Some}
+use Rattle.std.specs.Prelude.{◌≡◌, ◌⊎◌, ℕ, List, [], length, Some}
+use Rattle.coverage.specs.Earliest.{IsEarliest}
+use Rattle.coverage.specs.NotCompiled.{uncompiled, IsCompiledYet}
 use Rattle.image.specs.Fields.{Fields, IsImage}
 use Rattle.image.specs.Spelling.{spelling}
 use Rattle.simulation.specs.Compiled.{IsCompiled}
 use Rattle.word.specs.declared.place.Place.{Place}
 use Rattle.syntax.specs.declared.refusal.Refusal.{Refusal}
 use Rattle.syntax.specs.declared.rule.Rule.{Rule}
-use Rattle.syntax.specs.declared.rule.Rule.TheVariants.{OutOfMemory}
+use Rattle.syntax.specs.declared.rule.Rule.TheVariants.{NotCompiledYet}
 use Rattle.syntax.specs.declared.typing.Violation.{Violation}
 use Rattle.syntax.specs.FirstViolation.{IsFirst}
+use Rattle.syntax.specs.Meaning.{exported}
 use Rattle.syntax.specs.Reading.{Reads, accepted, refused}
 use Rattle.syntax.specs.Size.{size_violations}
 use Rattle.syntax.specs.Tree.{ProcedureTree, ProgramTree}
 use Rattle.syntax.specs.Typing.{violations}
+use Rattle.syntax.specs.WantOfMemory.{IsWantOfMemory}
 
 pub data Judgement : Type 0 where
-  accepts : (export : ProcedureTree) → Judgement
+  -- a program with this export
+  accepts : (program : ProgramTree) (export : ProcedureTree) → Judgement
   refuses : (rule : Rule) (place : Place) → Judgement
 
 -- the judgement on a program
 pub data JudgesProgram (program : ProgramTree) : Judgement → Type 0 where
+  -- it has a node that is not compiled yet
+  not_compiled_yet : {place : Place} → IsEarliest (uncompiled program) place → JudgesProgram program (refuses NotCompiledYet place)
   -- it violates a rule on names, types and labels
-  ill_typed : {first : Violation} → IsFirst (violations program) first → JudgesProgram program (refuses first.rule first.place)
-  -- it passes a limit on size
-  too_large : {export : ProcedureTree} {first : Violation} → length (violations program) ≡ 0 → program.export ≡ Some export → IsFirst (size_violations export) first → JudgesProgram program (refuses first.rule first.place)
+  ill_typed : {first : Violation} → IsCompiledYet program → IsFirst (violations program) first → JudgesProgram program (refuses first.rule first.place)
+  -- its export passes a limit on size
+  too_large : {before : List ProcedureTree} {export : ProcedureTree} {first : Violation} → IsCompiledYet program → length (violations program) ≡ 0 → exported [] program.procedures ≡ Some (before, export) → IsFirst (size_violations export) first → JudgesProgram program (refuses first.rule first.place)
   -- nothing is violated
-  fine : {export : ProcedureTree} → length (violations program) ≡ 0 → program.export ≡ Some export → length (size_violations export) ≡ 0 → JudgesProgram program (accepts export)
+  fine : {before : List ProcedureTree} {export : ProcedureTree} → IsCompiledYet program → length (violations program) ≡ 0 → exported [] program.procedures ≡ Some (before, export) → length (size_violations export) ≡ 0 → JudgesProgram program (accepts program export)
 
 -- the judgement on a text
 pub data Judges (text : List ℕ) : Judgement → Type 0 where
@@ -34,15 +41,16 @@ pub data Judges (text : List ℕ) : Judgement → Type 0 where
   -- it is one
   readable : {program : ProgramTree} {judgement : Judgement} → Reads text (accepted program) → JudgesProgram program judgement → Judges text judgement
 
--- the refusal is want of memory, or it has a place and is the judgement
+-- the refusal is want of memory, which has no place, or it has a place and is the judgement
 abbrev pub IsRefusal : (Judgement → Type 0) → Refusal → Type 0
-IsRefusal J refusal = (refusal.rule ≡ OutOfMemory) ⊎ ((place : Place) × (refusal.place ≡ Some place) × J (refuses refusal.rule place))
+IsRefusal J refusal = IsWantOfMemory refusal.rule refusal.place ⊎ ((place : Place) × (refusal.place ≡ Some place) × J (refuses refusal.rule place))
 
 -- the bytes are the image of an accepted text: they spell fields, which are those of the exported procedure, compiled
 pub record IsBuilt (text bytes : List ℕ) : Type 0 where
+  pub program : ProgramTree
   pub export : ProcedureTree
   pub image : Fields
-  pub judged : Judges text (accepts export)
+  pub judged : Judges text (accepts program export)
   pub allowed : IsImage image
   pub spelled : bytes ≡ spelling image
-  pub compiled : IsCompiled export image
+  pub compiled : IsCompiled program export image

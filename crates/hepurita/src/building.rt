@@ -1,37 +1,38 @@
-ghost use Rattle.std.specs.Prelude.{◌≡◌, ℕ, List, IfOk, IfErr};
+// A text, compiled to the bytes of an image.
+
+ghost use Rattle.std.specs.Prelude.{◌≡◌, ℕ, List, [], Some, IfOk, IfErr};
 ghost use Rattle.branch_removal.specs.Removal.{straightened};
 ghost use Rattle.codegen.specs.Generated.{image_of};
 ghost use Rattle.image.specs.Fields.{IsImage};
 ghost use Rattle.inline.specs.Numbering.{flattened};
-ghost use Rattle.syntax.specs.Tree.{ProcedureTree, program_tree};
+ghost use Rattle.syntax.specs.Grammatical.{IsGrammatical};
+ghost use Rattle.syntax.specs.Meaning.{exported};
+ghost use Rattle.syntax.specs.Tree.{ProcedureTree, ProgramTree, program_tree};
 ghost use Rattle.word.specs.declared.place.Place.{Place};
 ghost use Rattle.syntax.specs.declared.rule.Rule.{Rule};
 ghost use Rattle.hepurita.specs.Built.{Judges, JudgesProgram, IsRefusal, IsBuilt, accepts, refuses};
 
+use crate::judging::flat_of;
 use branch_removal::{controls_are_few, remove};
 use codegen::{generate, limits_leave_room};
+use coverage::compiled_procedures_have_compiled_parts;
 use image::{Image, write};
-use inline::inline;
-use labels::check;
 use simulation::texts_are_compiled;
 use std::alloc::Global;
-use syntax::{Program, Refusal, one_answer_for_a_text, parse};
+use syntax::{Program, Refusal, one_answer_for_a_text, parse, texts_are_grammatical};
 
-/// The image of a program that violates no rule, or the first violation. Names, types and labels are
-/// asked before sizes.
+/// The image of a program that violates no rule, or the first refusal.
 fn compile(alloc: Global, program: &Program<'_>) -> Result<Image, Refusal>
-    ensures accepted { IfOk result (λ image. (export : ProcedureTree) × JudgesProgram (program_tree program.now) (accepts export) × (image ≡ image_of (straightened (flattened export)))) }
+    requires grammatical { (before : List ProcedureTree) (p : ProcedureTree) → exported [] (program_tree program.now).procedures ≡ Some (before, p) → IsGrammatical p }
+    ensures accepted { IfOk result (λ image. (export : ProcedureTree) × JudgesProgram (program_tree program.now) (accepts (program_tree program.now) export) × (image ≡ image_of (straightened (flattened export)))) }
     ensures allowed { IfOk result IsImage }
     ensures refused { IfErr result (IsRefusal (JudgesProgram (program_tree program.now))) }
 {
     // The laws that the passes' conditions rest on.
+    compiled_procedures_have_compiled_parts();
     controls_are_few();
     limits_leave_room();
-    let checked = check(alloc, program)?;
-    let Some(export) = &checked.program().export else {
-        unreachable!()
-    };
-    let flat = inline(alloc, export)?;
+    let flat = flat_of(alloc, program)?;
     let straight = remove(alloc, &flat)?;
     let image = generate(alloc, &straight)?;
     let _words = image.words();
@@ -39,7 +40,7 @@ fn compile(alloc: Global, program: &Program<'_>) -> Result<Image, Refusal>
 }
 
 /// The bytes of the image of an accepted text, or the first refusal. Passes are asked in the order:
-/// the text itself; names, types and labels; sizes.
+/// the text itself; what is not compiled yet; names, types and labels; sizes.
 ///
 /// The image, run on any arguments within the parameter types, gives what the text means, within its
 /// stated steps and its frame; and on arguments that are equal where they are public an observer
@@ -48,8 +49,9 @@ pub fn build(alloc: Global, text: &str) -> Result<Vec<u8>, Refusal>
     ensures accepted { IfOk result (λ bytes. IsBuilt text.now bytes.items) }
     ensures refused { IfErr result (IsRefusal (Judges text.now)) }
 {
-    // The law that the first clause rests on.
+    // The laws that the first clause and the condition of `compile` rest on.
     texts_are_compiled();
+    texts_are_grammatical();
     let program = parse(alloc, text)?;
     let image = compile(alloc, &program)?;
     write(alloc, &image)
@@ -57,7 +59,7 @@ pub fn build(alloc: Global, text: &str) -> Result<Vec<u8>, Refusal>
 
 /// A text is not both accepted and refused.
 pub fn accepted_or_refused()
-    ensures { (text : List ℕ) (export : ProcedureTree) (rule : Rule) (place : Place) → Judges text (accepts export) → Judges text (refuses rule place) → ⊥ }
+    ensures { (text : List ℕ) (program : ProgramTree) (export : ProcedureTree) (rule : Rule) (place : Place) → Judges text (accepts program export) → Judges text (refuses rule place) → ⊥ }
 {
     one_answer_for_a_text();
 }

@@ -1,3 +1,5 @@
+// Two runs of an image, compared by what an observer sees.
+
 ghost use Rattle.std.specs.Prelude.{◌≡◌, ◌≤◌, None, length, IfOk, IfErr};
 ghost use Rattle.arguments.specs.Within.{AreWithin};
 ghost use Rattle.rv_machine.specs.ListRecording.{recorded};

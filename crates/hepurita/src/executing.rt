@@ -1,3 +1,5 @@
+// A run of an image on arguments.
+
 ghost use Rattle.std.specs.Prelude.{◌≡◌, ◌≢◌, Err};
 ghost use Rattle.hepurita.specs.Executed.{Executed, answer_at};
 ghost use Rattle.rv_machine.specs.Recording.{HasRefused};

@@ -1,3 +1,5 @@
+// Why a run gives no outcome, and how that is printed.
+
 ghost use Rattle.std.specs.Prelude.{◌≡◌};
 ghost use Rattle.hepurita.specs.declared.fault.RunFault.TheVariants.{Argument, Memory};
 

@@ -1,3 +1,5 @@
+// Arguments from the texts that spell them.
+
 ghost use Rattle.std.specs.Prelude.{◌≡◌, ◌↔◌, Some, None, Err, map, IfOk, OnOk};
 ghost use Rattle.arguments.specs.declared.fault.ArgumentFault.{ArgumentFault};
 ghost use Rattle.arguments.specs.Texts.{numbers_of, fault_of_texts};

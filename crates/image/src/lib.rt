@@ -18,6 +18,3 @@ pub use laws::{no_spelling_begins_another, one_spelling, spelling_is_read};
 pub use reading::read;
 pub use slot::{ResultSlot, Slot};
 pub use writing::write;
-
-#[cfg(test)]
-mod tests;

@@ -1,12 +1,11 @@
 -- A well-typed body keeps each variable in scope within its kind.
 use Rattle.std.proofs.Common.{◌≡◌, ℕ, zero, suc, ◌≤◌, ◌==◌, Bool, true, false, if◌then◌else◌, List, [], ◌∷◌, Some, sym, ap, ◌∙◌, subst, refl, arith, eqb-true}
 use Rattle.std.proofs.lemmas.Option.{none-some, same_Some}
-use Rattle.std.specs.List.{AllByRecursion}
 use Rattle.arguments.specs.Within.{AreWithin, greatest_of}
-use Rattle.inline.specs.Fitting.{IsWithinKind, Fits, HaveWordKinds}
-use Rattle.inline.specs.Flat.{FlatTree, declare, assign, branch, FlatBlock, nothing, first, FlatProgram}
+use Rattle.inline.specs.Fitting.{IsWithinKind, Fits}
+use Rattle.inline.specs.Flat.{TermTree, FlatTree, declare, assign, branch, FlatBlock, nothing, first, FlatProgram}
 use Rattle.inline.specs.FlatMeaning.{Values, with_value, value_in, after, after_all, given, word_in}
-use Rattle.inline.specs.FlatTyping.{Types, with_type, IsTyped, AreTyped, IsTypedProgram, types_after, types_after_all, parameter_types}
+use Rattle.inline.specs.FlatTyping.{Types, with_type, IsTyped, AreTyped, IsTypedProgram, IsResult, types_after, types_after_all, parameter_types}
 use Rattle.syntax.specs.declared.signature.Kind.{Kind}
 use Rattle.syntax.specs.declared.signature.Kind.TheVariants.{Boolean, Uint8, Uint16, Uint32}
 use Rattle.syntax.specs.declared.signature.Label.{Label}
@@ -15,26 +14,9 @@ use Rattle.syntax.specs.declared.signature.Param.{Param}
 use Rattle.syntax.specs.declared.typing.WordType.{WordType}
 use Rattle.syntax.specs.declared.values.Arg.{Arg}
 use Rattle.syntax.specs.declared.values.Arg.TheVariants.{Word, Array}
-use Rattle.syntax.specs.Grammatical.{IsWordKind}
-use Rattle.syntax.specs.Typing.{joined}
+use Rattle.syntax.specs.Types.{joined}
 use Rattle.inline.proofs.Fitting.{suited_fits}
 use Rattle.inline.proofs.TypesKept.{types_kept}
-
-kind_declared : (types : Types) (y : ℕ) (known : WordType) → IsWordKind known.kind → HaveWordKinds types → HaveWordKinds (with_type types y known)
-kind_declared types y known kind words x word is = by_number (x == y) is
-  where
-    by_number : (b : Bool) → (if b then Some known else types x) ≡ Some word → IsWordKind word.kind
-    by_number true is = subst (λ (t : WordType). IsWordKind t.kind) (same_Some known word is) kind
-    by_number false is = words x word is
-
-pub kinds_after : (s : FlatTree) (types : Types) (control : Label) → HaveWordKinds types → IsTyped types control s → HaveWordKinds (types_after types s)
-kinds_after (declare y kind value) types control words typed = kind_declared types y kind typed.2 words
-kinds_after (assign y value) types control words typed = words
-kinds_after (branch condition accepted otherwise) types control words typed = words
-
-pub kinds_after_all : (b : FlatBlock) (types : Types) (control : Label) → HaveWordKinds types → AreTyped types control b → HaveWordKinds (types_after_all types b)
-kinds_after_all nothing types control words typed = words
-kinds_after_all (first s rest) types control words typed = kinds_after_all rest (types_after types s) control (kinds_after s types control words typed.0) typed.1
 
 fits_declared : (types : Types) (m : Values) (y v : ℕ) (known : WordType) → IsWithinKind known.kind v → Fits types m → Fits (with_type types y known) (with_value m y v)
 fits_declared types m y v known here fits x word is = by_number (x == y) is
@@ -55,23 +37,20 @@ either_fits types true m n one other = other
 either_fits types false m n one other = one
 
 mutual
-  pub fits_after : (s : FlatTree) (types : Types) (control : Label) → HaveWordKinds types → IsTyped types control s → (m : Values) → Fits types m → Fits (types_after types s) (after m s)
-  fits_after (declare y kind value) types control words typed m fits = fits_declared types m y (value_in m value) kind (suited_fits types words m fits kind value typed.2 typed.1) fits
-  fits_after (assign y value) types control words typed m fits =
-      let known = typed.word in
-      fits_assigned types m y (value_in m value) known typed.known (suited_fits types words m fits known value (words y known typed.known) typed.suits) fits
-  fits_after (branch condition accepted otherwise) types control words typed m fits =
+  pub fits_after : (s : FlatTree) (types : Types) (control : Label) → IsTyped types control s → (m : Values) → Fits types m → Fits (types_after types s) (after m s)
+  fits_after (declare y kind value) types control typed m fits = fits_declared types m y (value_in m value) kind (suited_fits types m fits kind value typed.1) fits
+  fits_after (assign y value) types control typed m fits = fits_assigned types m y (value_in m value) typed.word typed.known (suited_fits types m fits typed.word value typed.suits) fits
+  fits_after (branch condition accepted otherwise) types control typed m fits =
       let under = joined typed.0.label control in
-      let one = fits_after_all accepted types under words typed.3 m fits in
-      let other = fits_after_all otherwise types under words typed.4 m fits in
+      let one = fits_after_all accepted types under typed.3 m fits in
+      let other = fits_after_all otherwise types under typed.4 m fits in
       either_fits types (value_in m condition == 0) (after_all m accepted) (after_all m otherwise)
       (λ x word is. one x word (types_kept types under accepted typed.3 x word is))
       (λ x word is. other x word (types_kept types under otherwise typed.4 x word is))
 
-  pub fits_after_all : (b : FlatBlock) (types : Types) (control : Label) → HaveWordKinds types → AreTyped types control b → (m : Values) → Fits types m → Fits (types_after_all types b) (after_all m b)
-  fits_after_all nothing types control words typed m fits = fits
-  fits_after_all (first s rest) types control words typed m fits =
-      fits_after_all rest (types_after types s) control (kinds_after s types control words typed.0) typed.1 (after m s) (fits_after s types control words typed.0 m fits)
+  pub fits_after_all : (b : FlatBlock) (types : Types) (control : Label) → AreTyped types control b → (m : Values) → Fits types m → Fits (types_after_all types b) (after_all m b)
+  fits_after_all nothing types control typed m fits = fits
+  fits_after_all (first s rest) types control typed m fits = fits_after_all rest (types_after types s) control typed.1 (after m s) (fits_after s types control typed.0 m fits)
 
 -- The parameters.
 
@@ -92,18 +71,12 @@ fits_given (p ∷ ps) (arg ∷ args) within zero word is =
     subst (λ (t : WordType). IsWithinKind t.kind (word_in arg)) (same_Some _ word is) (within_kind p.kind (word_in arg) (argument_fits p ps arg args within))
 fits_given (p ∷ ps) (arg ∷ args) within (suc x) word is = fits_given ps args within.1 x word is
 
-pub parameter_kinds : (ps : List Param) → AllByRecursion (λ (p : Param). IsWordKind p.kind) ps → HaveWordKinds (parameter_types ps)
-parameter_kinds [] kinds x word is = absurd (none-some word is)
-parameter_kinds (p ∷ ps) kinds zero word is = subst (λ (t : WordType). IsWordKind t.kind) (same_Some _ word is) kinds.0
-parameter_kinds (p ∷ ps) kinds (suc x) word is = parameter_kinds ps kinds.1 x word is
-
 -- in a well-typed program
-pub end_kinds : (p : FlatProgram) → IsTypedProgram p → HaveWordKinds (types_after_all (parameter_types p.parameters) p.body)
-end_kinds p typed = kinds_after_all p.body (parameter_types p.parameters) Public (parameter_kinds p.parameters typed.kinds) typed.body
-
 pub end_fits : (p : FlatProgram) (args : List Arg) → IsTypedProgram p → AreWithin p.parameters args → Fits (types_after_all (parameter_types p.parameters) p.body) (after_all (given args) p.body)
-end_fits p args typed within = fits_after_all p.body (parameter_types p.parameters) Public (parameter_kinds p.parameters typed.kinds) typed.body (given args) (fits_given p.parameters args within)
+end_fits p args typed within = fits_after_all p.body (parameter_types p.parameters) Public typed.body (given args) (fits_given p.parameters args within)
 
-pub result_fits : (p : FlatProgram) (args : List Arg) → IsTypedProgram p → AreWithin p.parameters args → IsWithinKind p.returned.kind (value_in (after_all (given args) p.body) p.value)
-result_fits p args typed within =
-    suited_fits (types_after_all (parameter_types p.parameters) p.body) (end_kinds p typed) (after_all (given args) p.body) (end_fits p args typed within) p.returned p.value typed.result typed.value
+pub result_fits : (p : FlatProgram) (args : List Arg) (word : WordType) (value : TermTree) → IsTypedProgram p → AreWithin p.parameters args → p.returned ≡ Some word → p.value ≡ Some value → IsWithinKind word.kind (value_in (after_all (given args) p.body) value)
+result_fits p args word value typed within returned valued =
+    let types = types_after_all (parameter_types p.parameters) p.body in
+    let result = subst (λ v. IsResult types (Some word) v) valued (subst (λ r. IsResult types r p.value) returned typed.result) in
+    suited_fits types (after_all (given args) p.body) (end_fits p args typed within) word value result

@@ -1,116 +1,184 @@
 -- A statement means the same once its names are numbers.
-use Rattle.std.proofs.Common.{◌≡◌, ℕ, ◌+◌, ◌==◌, Bool, true, false, if◌then◌else◌, List, length, Some, unwrap_or, refl, sym, ap, ◌∙◌, subst, arith, eqb-true}
+use Rattle.std.proofs.Common.{◌≡◌, ℕ, ◌+◌, ◌==◌, Bool, true, false, not, if◌then◌else◌, List, length, Some, None, refl, sym, ap, ap₂, ◌∙◌, subst, arith, true≢false}
+use Rattle.std.proofs.lemmas.Option.{same_Some}
+use Rattle.std.specs.Str.{bytes_eq}
+use lib.Pointwise.{bytes_decides}
+use Rattle.word.specs.declared.place.Place.{Place}
+use Rattle.coverage.specs.Compiled.{IsCompiledStatement, IsCompiledBlock}
+use Rattle.inline.specs.declared.numbering.Numbered.{Numbered}
 use Rattle.inline.specs.FlatMeaning.{Values, value_in, after, after_all}
-use Rattle.inline.specs.FlatTyping.{Types, types_after}
+use Rattle.inline.specs.FlatMeaning as flat
+use Rattle.inline.specs.FlatTyping.{Types, with_type, AreTyped, types_after, types_after_all}
 use Rattle.inline.specs.Numbering as numbering
 use Rattle.inline.specs.Numbering.{Numbers, number_of, term, block, names_after, names_after_all}
-use Rattle.names.specs.Scope.{found}
-use Rattle.word.specs.declared.place.Place.{Place}
+use Rattle.names.specs.Scope.{found, declared}
+use Rattle.syntax.specs.declared.signature.Kind.{Kind}
 use Rattle.syntax.specs.declared.signature.Label.{Label}
-use Rattle.syntax.specs.declared.typing.VariableType.{VariableType}
-use Rattle.syntax.specs.declared.typing.Declared.{Declared}
-use Rattle.syntax.specs.declared.typing.Declared.TheVariants.{Variable}
-use Rattle.syntax.specs.Meaning.{State, with_word, Evaluates, Runs, declares, assigns, accepts, declines, RunsAll, ends, goes_on}
+use Rattle.syntax.specs.declared.typing.WordType.{WordType}
+use Rattle.syntax.specs.Grammatical.{IsPlain, ArePlain}
+use Rattle.syntax.specs.Meaning.{Evaluates, gives, of_expr, Runs, declares, assigns, accepts, declines, RunsAll, ends, goes_on}
 use Rattle.syntax.specs.Size.{statement_words, block_words}
-use Rattle.syntax.specs.Tree.{ExprTree, StatementTree, declaration, assignment, conditional, BlockTree, nothing, first}
-use Rattle.syntax.specs.Typing.{Scope, joined, statement_violations, block_violations, scope_after, scope_after_all}
-use Rattle.inline.proofs.FlatTypes.{linked_after}
-use Rattle.inline.proofs.Linked.{Linked, later}
-use Rattle.inline.proofs.Lookup.{found-kept}
-use Rattle.inline.proofs.Rules as rules
+use Rattle.syntax.specs.State.{State, Word, single, with_value}
+use Rattle.syntax.specs.Tree.{ExprTree, called, computed, StatementTree, declaration, array, assignment, element_assignment, call, conditional, loop, BlockTree, nothing, first, ProcedureTree}
+use Rattle.syntax.specs.Types.{Scope, joined}
+use Rattle.syntax.specs.Typing.{statement_violations, block_violations, scope_after}
+use Rattle.inline.proofs.FlatTypes as flat_types
+use Rattle.inline.proofs.FlatTypes.{linked_after, typed_block}
+use Rattle.inline.proofs.Linked.{Linked, entry, later, number_known, with_type-same, with_type-other}
+use Rattle.inline.proofs.Lookup.{found-new, found-other, found-kept}
 use Rattle.inline.proofs.Rules.{none_left, none_right}
-use Rattle.inline.proofs.FlatValues.{Shows, same_value, shows_declared, shows_assigned}
+use Rattle.inline.proofs.Terms.{Shows}
+use Rattle.inline.proofs.TypesKept.{types_kept, with_value-other, with_value-same}
 
--- what is in scope stays there
-kept_statement : (s : StatementTree) (scope : Scope) (text : List ℕ) (what : Declared) → found scope text ≡ Some what → found (scope_after scope s) text ≡ Some what
-kept_statement (declaration place label mutable kind own value) scope text what h = found-kept scope own (Variable (record { word = record { kind = kind; label = label }; mutable = mutable })) text what h
-kept_statement (assignment place target own value) scope text what h = h
-kept_statement (conditional place condition accepted otherwise) scope text what h = h
+abbrev word_at : Kind → ℕ → Word
+word_at kind value = record { kind = kind; value = value }
 
-kept_number : (s : StatementTree) (names : Numbers) (n : ℕ) (text : List ℕ) (x : ℕ) → found names text ≡ Some x → found (names_after names n s) text ≡ Some x
-kept_number (declaration place label mutable kind own value) names n text x h = found-kept names own n text x h
+module _ (scope : Scope) (names : Numbers) (types : Types) (n : ℕ) (linked : Linked scope names types n) (s : State) (m : Values) (shows : Shows names types s m) where
+  -- after a declaration
+  module _ (text : List ℕ) (own : WordType) (v : ℕ) (new : found scope text ≡ None) where
+    declared_by : (other : List ℕ) (x : Numbered) (type : WordType) (b : Bool) → bytes_eq other text ≡ b → found (declared names text (entry n own)) other ≡ Some x → with_type types n own x.number ≡ Some type
+        → with_value s text (single (word_at own.kind v)) other ≡ Some (single (word_at type.kind (flat.with_value m n v x.number)))
+    declared_by other x type true e there is =
+        let same = ap (λ (z : Numbered). z.number) (same_Some (entry n own) x (sym (found-new names text (entry n own) other e (linked.none text new)) ∙ there)) in
+        let typed = same_Some own type (sym (with_type-same types n own) ∙ (ap (with_type types n own) same ∙ is)) in
+        ap (λ b. if b then Some (single (word_at own.kind v)) else s other) e
+        ∙ ap₂ (λ (t : WordType) y. Some (single (word_at t.kind y))) typed (sym (ap (flat.with_value m n v) (sym same) ∙ with_value-same m n v))
+    declared_by other x type false e there is =
+        let old = sym (found-other names text (entry n own) other e) ∙ there in
+        let low = linked.below other x old in
+        let typed = sym (with_type-other types n x.number own (λ q. omega arith)) ∙ is in
+        ap (λ b. if b then Some (single (word_at own.kind v)) else s other) e
+        ∙ (shows other x type old typed ∙ ap (λ y. Some (single (word_at type.kind y))) (sym (with_value-other m n x.number v (λ q. omega arith))))
+
+    pub shows_declared : Shows (declared names text (entry n own)) (with_type types n own) (with_value s text (single (word_at own.kind v))) (flat.with_value m n v)
+    shows_declared other x type there is = declared_by other x type (bytes_eq other text) refl there is
+
+  -- after an assignment
+  module _ (text : List ℕ) (y v : ℕ) (own : WordType) (known : found names text ≡ Some (entry y own)) (typed : types y ≡ Some own) where
+    assigned_by : (other : List ℕ) (x : Numbered) (type : WordType) (b : Bool) → bytes_eq other text ≡ b → found names other ≡ Some x → types x.number ≡ Some type
+        → with_value s text (single (word_at own.kind v)) other ≡ Some (single (word_at type.kind (flat.with_value m y v x.number)))
+    assigned_by other x type true e there is =
+        let same = ap (λ (z : Numbered). z.number) (same_Some x (entry y own) (sym there ∙ (ap (found names) ((bytes_decides other text).0 e) ∙ known))) in
+        let one = same_Some own type (sym typed ∙ (ap types (sym same) ∙ is)) in
+        ap (λ b. if b then Some (single (word_at own.kind v)) else s other) e
+        ∙ ap₂ (λ (t : WordType) z. Some (single (word_at t.kind z))) one (sym (ap (flat.with_value m y v) same ∙ with_value-same m y v))
+    assigned_by other x type false e there is =
+        ap (λ b. if b then Some (single (word_at own.kind v)) else s other) e
+        ∙ (shows other x type there is ∙ ap (λ z. Some (single (word_at type.kind z))) (sym (with_value-other m y x.number v (λ q. differs e (linked.apart other text x (entry y own) there known q)))))
+      where
+        differs : bytes_eq other text ≡ false → other ≡ text → ⊥
+        differs e same = true≢false (sym ((bytes_decides other text).1 same) ∙ e)
+
+    pub shows_assigned : Shows names types (with_value s text (single (word_at own.kind v))) (flat.with_value m y v)
+    shows_assigned other x type there is = assigned_by other x type (bytes_eq other text) refl there is
+
+kept_number : (s : StatementTree) (names : Numbers) (n : ℕ) (text : List ℕ) (x : Numbered) → found names text ≡ Some x → found (names_after names n s) text ≡ Some x
+kept_number (declaration place label mutable kind own value) names n text x h = found-kept names own (record { number = n; kind = kind }) text x h
+kept_number (array place label mutable kind size own values) names n text x h = found-kept names own (record { number = n; kind = kind }) text x h
 kept_number (assignment place target own value) names n text x h = h
+kept_number (element_assignment place bracket target own index value) names n text x h = h
+kept_number (call c) names n text x h = h
 kept_number (conditional place condition accepted otherwise) names n text x h = h
+kept_number (loop place counter own low high body) names n text x h = h
 
-kept_statements : (b : BlockTree) (scope : Scope) (text : List ℕ) (what : Declared) → found scope text ≡ Some what → found (scope_after_all scope b) text ≡ Some what
-kept_statements nothing scope text what h = h
-kept_statements (first s rest) scope text what h = kept_statements rest (scope_after scope s) text what (kept_statement s scope text what h)
-
-kept_numbers : (b : BlockTree) (names : Numbers) (n : ℕ) (text : List ℕ) (x : ℕ) → found names text ≡ Some x → found (names_after_all names n b) text ≡ Some x
+kept_numbers : (b : BlockTree) (names : Numbers) (n : ℕ) (text : List ℕ) (x : Numbered) → found names text ≡ Some x → found (names_after_all names n b) text ≡ Some x
 kept_numbers nothing names n text x h = h
 kept_numbers (first s rest) names n text x h = kept_numbers rest (names_after names n s) (n + statement_words s) text x (kept_number s names n text x h)
 
 -- after an arm the names are those before it
-shows_before : (b : BlockTree) (scope : Scope) (names : Numbers) (n : ℕ) (s : State) (m : Values) → Shows (scope_after_all scope b) (names_after_all names n b) s m → Shows scope names s m
-shows_before b scope names n s m shows text v x is there = shows text v x (kept_statements b scope text (Variable v) is) (kept_numbers b names n text x there)
+shows_before : (b : BlockTree) (names : Numbers) (types : Types) (n : ℕ) (under : Label) → AreTyped types under (block names n b) → (s : State) (m : Values)
+    → Shows (names_after_all names n b) (types_after_all types (block names n b)) s m → Shows names types s m
+shows_before b names types n under typed s m shows text x type there is = shows text x type (kept_numbers b names n text x there) (types_kept types under (block names n b) typed x.number type is)
 
 -- where a statement leads
-pub record Leads (s : State) (statement : StatementTree) (scope : Scope) (names : Numbers) (m : Values) : Type 0 where
+pub record Leads (ps : List ProcedureTree) (s : State) (statement : StatementTree) (names : Numbers) (types : Types) (m : Values) : Type 0 where
   pub end : State
-  pub runs : Runs s statement end
-  pub shows : Shows scope names end m
+  pub runs : Runs ps s statement (gives end)
+  pub shows : Shows names types end m
 
-pub record LeadsAll (s : State) (b : BlockTree) (scope : Scope) (names : Numbers) (m : Values) : Type 0 where
+pub record LeadsAll (ps : List ProcedureTree) (s : State) (b : BlockTree) (names : Numbers) (types : Types) (m : Values) : Type 0 where
   pub end : State
-  pub runs : RunsAll s b end
-  pub shows : Shows scope names end m
+  pub runs : RunsAll ps s b (gives end)
+  pub shows : Shows names types end m
 
 -- one arm runs
-chosen : (s : State) (place : Place) (condition : ExprTree) (accepted otherwise : BlockTree) (scope : Scope) (names : Numbers) (n k : ℕ) (if_true if_false : Values) (c : ℕ) → Evaluates s condition c
-    → LeadsAll s accepted (scope_after_all scope accepted) (names_after_all names n accepted) if_true → LeadsAll s otherwise (scope_after_all scope otherwise) (names_after_all names k otherwise) if_false
-    → (b : Bool) → (c == 0) ≡ b → Leads s (conditional place condition accepted otherwise) scope names (if b then if_false else if_true)
-chosen s place condition accepted otherwise scope names n k if_true if_false c evaluates one other true e = record {
+chosen : (ps : List ProcedureTree) (s : State) (place : Place) (condition : ExprTree) (accepted otherwise : BlockTree) (names : Numbers) (types : Types) (if_true if_false : Values) (kind : Kind) (c : ℕ) → Evaluates s condition (gives (word_at kind c))
+    → LeadsAll ps s accepted names types if_true → LeadsAll ps s otherwise names types if_false
+    → (b : Bool) → (c == 0) ≡ b → Leads ps s (conditional place condition accepted otherwise) names types (if b then if_false else if_true)
+chosen ps s place condition accepted otherwise names types if_true if_false kind c evaluates one other true e = record {
   end = other.end;
-  runs = declines s other.end place condition accepted otherwise (subst (λ v. Evaluates s condition v) (eqb-true c 0 e) evaluates) other.runs;
-  shows = shows_before otherwise scope names k other.end if_false other.shows;
+  runs = declines ps s place condition accepted otherwise (word_at kind c) (gives other.end) evaluates (ap not e) other.runs;
+  shows = other.shows;
 }
-chosen s place condition accepted otherwise scope names n k if_true if_false c evaluates one other false e = record {
+chosen ps s place condition accepted otherwise names types if_true if_false kind c evaluates one other false e = record {
   end = one.end;
-  runs = accepts s one.end place condition accepted otherwise c evaluates e one.runs;
-  shows = shows_before accepted scope names n one.end if_true one.shows;
+  runs = accepts ps s place condition accepted otherwise (word_at kind c) (gives one.end) evaluates (ap not e) one.runs;
+  shows = one.shows;
 }
+
+-- an arm, with the names before it
+arm : (ps : List ProcedureTree) (s : State) (b : BlockTree) (names : Numbers) (types : Types) (n : ℕ) (under : Label) (m : Values) → AreTyped types under (block names n b)
+    → LeadsAll ps s b (names_after_all names n b) (types_after_all types (block names n b)) m → LeadsAll ps s b names types m
+arm ps s b names types n under m typed leads = record { end = leads.end; runs = leads.runs; shows = shows_before b names types n under typed leads.end m leads.shows }
 
 mutual
-  pub same_end : (statement : StatementTree) (scope : Scope) (names : Numbers) (types : Types) (n : ℕ) (control : Label) → Linked scope names types n → length (statement_violations scope control statement) ≡ 0
-      → (s : State) (m : Values) → Shows scope names s m → Leads s statement (scope_after scope statement) (names_after names n statement) (after m (numbering.statement names n statement))
-  same_end (declaration place label mutable kind text value) scope names types n control linked h s m shows =
-      let d = rules.declares scope control place label mutable kind text value h in
+  pub same_end : (statement : StatementTree) (ps : List ProcedureTree) (scope : Scope) (names : Numbers) (types : Types) (n : ℕ) (control : Label) → Linked scope names types n → length (statement_violations ps scope control statement) ≡ 0
+      → IsCompiledStatement statement → IsPlain statement → (s : State) (m : Values) → Shows names types s m
+      → Leads ps s statement (names_after names n statement) (types_after types (numbering.statement names n statement)) (after m (numbering.statement names n statement))
+  same_end (declaration place label mutable kind text (computed value)) ps scope names types n control linked h compiled plain s m shows =
+      let d = flat_types.declares ps scope names types n control linked place label mutable kind text value h compiled plain in
       let v = value_in m (term names value) in
-      let w : VariableType = record { word = record { kind = kind; label = label }; mutable = mutable } in
+      let own : WordType = record { kind = kind; label = label } in
       record {
-        end = with_word s text v;
-        runs = declares s place label mutable kind text value v (same_value scope names types n linked s m shows value d.word d.is);
-        shows = shows_declared scope names types n linked s m shows text w v d.new;
+        end = with_value s text (single (word_at d.value_known.type.kind v));
+        runs = declares ps s place label mutable kind text (computed value) (record { word = Some (word_at d.value_known.type.kind v); state = s })
+            (of_expr ps s value (word_at d.value_known.type.kind v) (d.value_known.value s m shows));
+        shows = subst (λ k. Shows (declared names text (entry n own)) (with_type types n own) (with_value s text (single (word_at k v))) (flat.with_value m n v)) (sym d.same_kind)
+            (shows_declared scope names types n linked s m shows text own v d.new);
       }
-  same_end (assignment place target text value) scope names types n control linked h s m shows =
-      let a = rules.assigns scope control place target text value h in
+  same_end (declaration place label mutable kind text (called c)) ps scope names types n control linked h compiled plain s m shows = absurd compiled
+  same_end (assignment place target text (computed value)) ps scope names types n control linked h compiled plain s m shows =
+      let a = flat_types.assigns ps scope names types n control linked place target text value h compiled plain in
       let v = value_in m (term names value) in
-      let x = linked.known text a.variable a.there in
-      let here : number_of names text ≡ x.0 = ap (λ o. unwrap_or o 0) x.1 in
+      let x = a.target in
+      let here = number_known names types text a.variable x in
       record {
-        end = with_word s text v;
-        runs = assigns s place target text value v (same_value scope names types n linked s m shows value a.word a.is);
-        shows = shows_assigned scope names types n linked s m shows text (number_of names text) v (x.1 ∙ ap Some (sym here));
+        end = with_value s text (single (word_at a.value_known.type.kind v));
+        runs = assigns ps s place target text (computed value) (record { word = Some (word_at a.value_known.type.kind v); state = s })
+            (of_expr ps s value (word_at a.value_known.type.kind v) (a.value_known.value s m shows));
+        shows = subst (λ k. Shows names types (with_value s text (single (word_at k v))) (flat.with_value m (number_of names text) v)) (sym a.same_kind)
+            (shows_assigned scope names types n linked s m shows text (number_of names text) v x.word (x.numbered ∙ ap (λ y. Some (entry y x.word)) (sym here)) (ap types here ∙ x.typed));
       }
-  same_end (conditional place condition accepted otherwise) scope names types n control linked h s m shows =
-      let c = rules.chooses scope control place condition accepted otherwise h in
+  same_end (assignment place target text (called c)) ps scope names types n control linked h compiled plain s m shows = absurd compiled
+  same_end (conditional place condition accepted otherwise) ps scope names types n control linked h compiled plain s m shows =
+      let c = flat_types.chooses ps scope names types n control linked place condition accepted otherwise h compiled.0 plain.0 in
       let k = n + block_words accepted in
-      let under = joined c.word.label control in
+      let under = joined c.chooser.type.label control in
       let v = value_in m (term names condition) in
-      chosen s place condition accepted otherwise scope names n k (after_all m (block names n accepted)) (after_all m (block names k otherwise)) v (same_value scope names types n linked s m shows condition c.word c.is)
-      (same_ends accepted scope names types n under linked c.if_true s m shows)
-      (same_ends otherwise scope names types k under (later scope names types n k (omega arith) linked) c.if_false s m shows)
+      let next = later scope names types n k (omega arith) linked in
+      let if_true = after_all m (block names n accepted) in
+      let if_false = after_all m (block names k otherwise) in
+      chosen ps s place condition accepted otherwise names types if_true if_false c.chooser.type.kind v (c.chooser.value s m shows)
+      (arm ps s accepted names types n under if_true (typed_block accepted ps scope names types n under linked c.if_true compiled.1 plain.1)
+      (same_ends accepted ps scope names types n under linked c.if_true compiled.1 plain.1 s m shows))
+      (arm ps s otherwise names types k under if_false (typed_block otherwise ps scope names types k under next c.if_false compiled.2 plain.2)
+      (same_ends otherwise ps scope names types k under next c.if_false compiled.2 plain.2 s m shows))
       (v == 0) refl
+  same_end (array place label mutable kind size text values) ps scope names types n control linked h compiled plain s m shows = absurd compiled
+  same_end (element_assignment place bracket target text index right) ps scope names types n control linked h compiled plain s m shows = absurd compiled
+  same_end (call c) ps scope names types n control linked h compiled plain s m shows = absurd compiled
+  same_end (loop place counter text low high body) ps scope names types n control linked h compiled plain s m shows = absurd compiled
 
-  pub same_ends : (b : BlockTree) (scope : Scope) (names : Numbers) (types : Types) (n : ℕ) (control : Label) → Linked scope names types n → length (block_violations scope control b) ≡ 0
-      → (s : State) (m : Values) → Shows scope names s m → LeadsAll s b (scope_after_all scope b) (names_after_all names n b) (after_all m (block names n b))
-  same_ends nothing scope names types n control linked h s m shows = record { end = s; runs = ends s; shows = shows }
-  same_ends (first statement rest) scope names types n control linked h s m shows =
-      let here = statement_violations scope control statement in
-      let there = block_violations (scope_after scope statement) control rest in
+  pub same_ends : (b : BlockTree) (ps : List ProcedureTree) (scope : Scope) (names : Numbers) (types : Types) (n : ℕ) (control : Label) → Linked scope names types n → length (block_violations ps scope control b) ≡ 0
+      → IsCompiledBlock b → ArePlain b → (s : State) (m : Values) → Shows names types s m
+      → LeadsAll ps s b (names_after_all names n b) (types_after_all types (block names n b)) (after_all m (block names n b))
+  same_ends nothing ps scope names types n control linked h compiled plain s m shows = record { end = s; runs = ends ps s; shows = shows }
+  same_ends (first statement rest) ps scope names types n control linked h compiled plain s m shows =
+      let here = statement_violations ps scope control statement in
+      let there = block_violations ps (scope_after scope statement) control rest in
       let none = none_left here there h in
-      let one = same_end statement scope names types n control linked none s m shows in
+      let one = same_end statement ps scope names types n control linked none compiled.0 plain.0 s m shows in
       let tree = numbering.statement names n statement in
-      let next = linked_after scope names types n control statement linked none in
-      let all = same_ends rest (scope_after scope statement) (names_after names n statement) (types_after types tree) (n + statement_words statement) control next (none_right here there h) one.end (after m tree) one.shows in
-      record { end = all.end; runs = goes_on s one.end all.end statement rest one.runs all.runs; shows = all.shows }
+      let next = linked_after ps scope names types n control statement linked none compiled.0 plain.0 in
+      let all = same_ends rest ps (scope_after scope statement) (names_after names n statement) (types_after types tree) (n + statement_words statement) control next (none_right here there h) compiled.1 plain.1 one.end (after m tree) one.shows in
+      record { end = all.end; runs = goes_on ps s one.end statement rest (gives all.end) one.runs all.runs; shows = all.shows }

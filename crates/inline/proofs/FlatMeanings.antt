@@ -1,37 +1,75 @@
--- A procedure that violates no rule gives what the flat program gives.
-use Rattle.std.proofs.Common.{◌≡◌, ◌+◌, List, length, map, Some, sym, ap, ◌∙◌, arith}
+-- A program that violates no rule gives what the flat program gives.
+use Rattle.std.proofs.Common.{◌≡◌, ℕ, ◌+◌, List, [], ◌∷◌, ◌++◌, length, map, Option, None, Some, refl, sym, ap, ap₂, ◌∙◌, subst, arith}
 use Rattle.std.proofs.lemmas.Option.{same_Some}
+use Rattle.std.specs.List.{AllByRecursion}
+use Rattle.std.specs.Option.{option_map}
 use Rattle.arguments.specs.Within.{AreWithin}
-use Rattle.inline.specs.FlatMeaning.{given, value_in, after_all, outcome_of}
-use Rattle.inline.specs.FlatTyping.{parameter_types, types_after_all}
-use Rattle.inline.specs.Numbering.{param_of, parameter_names, return_names, flattened, block, term}
+use Rattle.coverage.specs.Compiled.{IsCompiledProcedure, IsCompiledParameter, IsCompiledReturn}
+use Rattle.inline.specs.FlatMeaning.{Values, given, value_in, after_all, outcome_of}
+use Rattle.inline.specs.FlatTyping.{Types, parameter_types, types_after_all}
+use Rattle.inline.specs.Numbering.{Numbers, param_of, parameter_names, return_names, flattened, block, term}
 use Rattle.syntax.specs.declared.signature.Label.TheVariants.{Public}
+use Rattle.syntax.specs.declared.typing.WordType.{WordType}
 use Rattle.syntax.specs.declared.values.Arg.{Arg}
-use Rattle.syntax.specs.Meaning.{holding, Gives, returns}
+use Rattle.syntax.specs.ExprTyping.{type_of, expr_violations}
+use Rattle.syntax.specs.Grammatical.{IsGrammatical, IsSmallReturn}
+use Rattle.syntax.specs.Meaning.{Bodies, Gives, RunsAll, ends_well, exported, final_array, final_arrays, gives, holding, returns, returns_nothing}
+use Rattle.syntax.specs.Results.{Results}
 use Rattle.syntax.specs.Size.{block_words}
-use Rattle.syntax.specs.Tree.{ProcedureTree}
-use Rattle.syntax.specs.Typing.{body_scope, return_scope, procedure_violations}
-use Rattle.inline.proofs.FlatPrograms.{returned_value, linked_return}
+use Rattle.syntax.specs.State.{State, Value, Word, single}
+use Rattle.syntax.specs.Tree.{ParameterTree, ProcedureTree, ProgramTree, ReturnTree}
+use Rattle.syntax.specs.Types.{Scope, at, of_one}
+use Rattle.syntax.specs.Typing.{body_scope, return_rules, return_violations, scope_after_all, violations}
 use Rattle.inline.proofs.FlatEnds.{same_ends}
-use Rattle.inline.proofs.FlatValues.{Shows, same_value}
-use Rattle.inline.proofs.ParameterNames.{linked_parameters, numbered, is_parameter, number_there}
+use Rattle.inline.proofs.FlatPrograms.{own_rules, parts, linked_body, linked_return}
+use Rattle.inline.proofs.Linked.{Linked}
+use Rattle.inline.proofs.ParameterNames.{number_there, numbered_there}
+use Rattle.inline.proofs.Rules.{none_left}
+use Rattle.inline.proofs.Terms.{Shows, means}
 
 -- the parameters hold the arguments
-shows_arguments : (p : ProcedureTree) (args : List Arg) → AreWithin (map param_of p.parameters) args → Shows (body_scope p) (parameter_names p) (holding p.parameters args) (given args)
-shows_arguments p args within text v x is there =
-    let r = numbered p.parameters 0 text v (is_parameter p text v is) in
+shows_arguments : (p : ProcedureTree) (args : List Arg) → AllByRecursion IsCompiledParameter p.parameters → AreWithin (map param_of p.parameters) args → Shows (parameter_names p) (parameter_types (map param_of p.parameters)) (holding p.parameters args) (given args)
+shows_arguments p args compiled within text x type there is =
+    let q = numbered_there p.parameters 0 text x compiled (sym (number_there p text) ∙ there) in
+    let r = q.1 in
     let i = r.index in
-    let plain : 0 + i ≡ i = omega arith in
-    let same = same_Some i x (ap Some (sym plain) ∙ (sym r.is ∙ (sym (number_there p text) ∙ there))) in
-    r.holds args within ∙ ap (λ y. Some (given args y)) same
+    let low : 0 + i ≡ x.number = q.2 in
+    let same : i ≡ x.number = omega (arith, low) in
+    let word = same_Some r.word type (sym r.typed ∙ (ap (parameter_types (map param_of p.parameters)) same ∙ is)) in
+    r.holds args within ∙ ap₂ shown word same
+  where
+    shown : WordType → ℕ → Option Value
+    shown t y = Some (single (record { kind = t.kind; value = given args y }))
 
-pub flat_keeps_meaning : (p : ProcedureTree) (args : List Arg) → length (procedure_violations p) ≡ 0 → AreWithin (map param_of p.parameters) args → Gives p args (outcome_of (flattened p) args)
-flat_keeps_meaning p args h within =
-    let r = returned_value p h in
+-- words go back to no caller
+no_arrays : (t : State) (ps : List ParameterTree) → AllByRecursion IsCompiledParameter ps → final_arrays t ps ≡ []
+no_arrays t [] compiled = refl
+no_arrays t (p ∷ ps) compiled = ap (λ form. final_array form (t p.name) ++ final_arrays t ps) compiled.0 ∙ no_arrays t ps compiled.1
+
+-- the result, where there is one
+finish : (before : List ProcedureTree) (p : ProcedureTree) (start end : State) (scope : Scope) (names : Numbers) (types : Types) (n : ℕ) (m : Values) → Linked scope names types n → Shows names types end m
+    → RunsAll before start p.body (gives end) → (o : Option ReturnTree) → p.returned ≡ o → length (return_violations scope p.result o) ≡ 0 → IsCompiledReturn o → IsSmallReturn o
+    → (w : Option Word) × Bodies before p start (gives (record { word = w; state = end })) × (option_map (λ (v : Word). v.value) w ≡ option_map (value_in m) (option_map (λ (r : ReturnTree). term names r.value) o))
+finish before p start end scope names types n m linked shows run None is h compiled small = (None, returns_nothing before p start end run is, refl)
+finish before p start end scope names types n m linked shows run (Some r) is h compiled small =
+    let all = expr_violations scope r.value in
+    let own = at r.place (of_one [] (return_rules p.result) (type_of scope r.value)) in
+    let x = means scope names types n linked r.value (none_left all own h) compiled small in
+    let v : Word = record { kind = x.type.kind; value = value_in m (term names r.value) } in
+    (Some v, returns before p start end r v run is (x.value end m shows), refl)
+
+pub flat_keeps_meaning : (program : ProgramTree) (before : List ProcedureTree) (p : ProcedureTree) (args : List Arg) → length (violations program) ≡ 0 → exported [] program.procedures ≡ Some (before, p)
+    → IsCompiledProcedure p → IsGrammatical p → AreWithin (map param_of p.parameters) args → Gives program args (gives (outcome_of (flattened p) args))
+flat_keeps_meaning program before p args h is compiled plain within =
+    let e = own_rules program before p h is in
+    let r = parts before e.scope p e.rules in
+    let scope = body_scope e.scope (length before) p in
     let types = parameter_types (map param_of p.parameters) in
     let n = length p.parameters in
     let body = block (parameter_names p) n p.body in
-    let end = same_ends p.body (body_scope p) (parameter_names p) types n Public (linked_parameters p) r.body (holding p.parameters args) (given args) (shows_arguments p args within) in
+    let start = holding p.parameters args in
+    let end = same_ends p.body before scope (parameter_names p) types n Public (linked_body before p e compiled) r.body compiled.body plain.body start (given args) (shows_arguments p args compiled.parameters within) in
     let m = after_all (given args) body in
-    returns end.end (value_in m (term (return_names p) p.value)) end.runs
-    (same_value (return_scope p) (return_names p) (types_after_all types body) (n + block_words p.body) (linked_return p r) end.end m end.shows p.value r.word r.is)
+    let result = finish before p start end.end (scope_after_all scope p.body) (return_names p) (types_after_all types body) (n + block_words p.body) m (linked_return before p e compiled plain) end.shows end.runs p.returned refl r.returned compiled.returned plain.returned in
+    subst (λ (x : Results). Gives program args (gives x)) (ap₂ (λ o arrays. record { returned = o; arrays = arrays }) result.2 (no_arrays end.end p.parameters compiled.parameters))
+    (ends_well before p result.0 end.end is result.1)

@@ -5,6 +5,7 @@ use Rattle.std.proofs.Math.Seq.{take-append_seam}
 use Rattle.inline.proofs.RowLemmas.{branch_tree, conditional_tree}
 use Rattle.inline.specs.declared.flat.FlatStatement.{FlatStatement, Branch}
 use Rattle.inline.specs.declared.flat.Term.{Term}
+use Rattle.inline.specs.declared.numbering.Numbered.{Numbered}
 use Rattle.inline.specs.Flat.{FlatBlock, nothing, first, flat_block, flat_tree, term_tree}
 use Rattle.inline.specs.Numbering.{Numbers, block, names_after, names_after_all, statement, term}
 use Rattle.names.specs.Scope.{declared, found}
@@ -50,16 +51,20 @@ numbered_conditional names between n m s place condition accepted otherwise ones
     cc
 
 -- a declaration only appends
-declared_more : (names : Numbers) (text : List ℕ) (n : ℕ) → (more : Numbers) × (declared names text n ≡ names ++ more)
-declared_more names text n = by (is_some (found names text)) refl
+declared_more : (names : Numbers) (text : List ℕ) (what : Numbered) → (more : Numbers) × (declared names text what ≡ names ++ more)
+declared_more names text what = by (is_some (found names text)) refl
   where
-    by : (b : Bool) → is_some (found names text) ≡ b → (more : Numbers) × (declared names text n ≡ names ++ more)
+    by : (b : Bool) → is_some (found names text) ≡ b → (more : Numbers) × (declared names text what ≡ names ++ more)
     by true is = rw is ([], sym (append-nil names))
-    by false is = rw is ((text, n) ∷ [], refl)
+    by false is = rw is ((text, what) ∷ [], refl)
 
 after_more : (names : Numbers) (n : ℕ) (s : StatementTree) → (more : Numbers) × (names_after names n s ≡ names ++ more)
-after_more names n (declaration place label mutable kind text value) = declared_more names text n
+after_more names n (declaration place label mutable kind text value) = declared_more names text (record { number = n; kind = kind })
 after_more names n (assignment place target text value) = ([], sym (append-nil names))
+after_more names n (source.array place label mutable kind size text values) = declared_more names text (record { number = n; kind = kind })
+after_more names n (source.element_assignment place bracket target text index right) = ([], sym (append-nil names))
+after_more names n (source.call c) = ([], sym (append-nil names))
+after_more names n (source.loop place counter text low high body) = ([], sym (append-nil names))
 after_more names n (conditional place condition accepted otherwise) = ([], sym (append-nil names))
 
 all_more : (b : BlockTree) (names : Numbers) (n : ℕ) → (more : Numbers) × (names_after_all names n b ≡ names ++ more)

@@ -1,60 +1,49 @@
 -- The value of a public expression depends on public variables alone.
-use Rattle.std.proofs.Common.{◌≡◌, ◌≢◌, ℕ, ◌==◌, if◌then◌else◌, Some, length, ◌++◌, not, ◌&&◌, refl, ap, ap₂, ◌∙◌, true≢false, false}
-use Rattle.inline.specs.Flat.{TermTree, number, truth, variable, binary, select}
+use Rattle.std.proofs.Common.{◌≡◌, ℕ, ◌==◌, if◌then◌else◌, Some, refl, ap, ap₂, ◌∙◌}
+use Rattle.word.specs.Operators.{converted, rotated_left}
+use Rattle.inline.specs.Flat.{TermTree, number, truth, variable, prefix, binary, rotate, convert, select}
 use Rattle.inline.specs.FlatMeaning.{Values, value_in}
-use Rattle.inline.specs.FlatTyping.{Types, type_in, Suits}
-use Rattle.syntax.specs.declared.rule.Rule.TheVariants.{SecretToPublic, WidthsDiffer, WrongKind}
+use Rattle.inline.specs.FlatTyping.{Types, HasType, Suits}
 use Rattle.syntax.specs.declared.signature.Label.{Label}
 use Rattle.syntax.specs.declared.signature.Label.TheVariants.{Public, Secret}
 use Rattle.syntax.specs.declared.typing.WordType.{WordType}
-use Rattle.syntax.specs.Meaning.{operated}
-use Rattle.syntax.specs.Typing.{joined, is_secret, when, widths_differ, are_alike, value_rules, binary_rules, binary_type, select_rules, select_type}
-use Rattle.inline.proofs.Parts.{two_parts, three_parts, no_rule}
-use Rattle.inline.proofs.Rules.{none_right, not_when}
-
-pub secret≢public : Secret ≢ Public
-secret≢public h = true≢false (ap is_secret h)
+use Rattle.syntax.specs.Operators.{operated, prefix_value, width_of}
+use Rattle.syntax.specs.Types.{joined}
+use Rattle.inline.proofs.NodeTypes.{prefix_typed, binary_typed, rotate_typed, convert_typed, select_typed}
+use Rattle.inline.proofs.Rules.{secret≢public}
 
 both_public : (m n : Label) → joined m n ≡ Public → (m ≡ Public) × (n ≡ Public)
 both_public Public n h = (refl, h)
 both_public Secret n h = absurd (secret≢public h)
-
--- where a public value is wanted, a public value suits
-pub public_suits : (wanted word : WordType) → length (value_rules wanted word) ≡ 0 → wanted.label ≡ Public → word.label ≡ Public
-public_suits wanted word h = labels wanted.label word.label (not_when (not (is_secret wanted.label) && is_secret word.label) SecretToPublic (none_right (when (widths_differ wanted.kind word.kind) WidthsDiffer ++ when (not (are_alike wanted.kind word.kind)) WrongKind) (when (not (is_secret wanted.label) && is_secret word.label) SecretToPublic) h))
-  where
-    labels : (m n : Label) → (not (is_secret m) && is_secret n) ≡ false → m ≡ Public → n ≡ Public
-    labels m Public h is = refl
-    labels Secret Secret h is = is
-    labels Public Secret h is = absurd (true≢false h)
 
 -- the public variables in scope hold the same
 abbrev pub SamePublic : Types → Values → Values → Type 0
 SamePublic types one other = (x : ℕ) (word : WordType) → types x ≡ Some word → word.label ≡ Public → one x ≡ other x
 
 module _ (types : Types) (one other : Values) (same : SamePublic types one other) where
-  pub public_value : (e : TermTree) (word : WordType) → type_in types e ≡ Some word → word.label ≡ Public → value_in one e ≡ value_in other e
-  public_value (number value) word is label = refl
-  public_value (truth value) word is label = refl
-  public_value (variable x) word is label = same x word is label
-  public_value (binary operator left right) word is label =
-      let parts = two_parts (type_in types left) (type_in types right) word is in
-      let a = parts.0 in
-      let b = parts.1 in
-      let whole = no_rule (binary_rules a b) (binary_type a b) word parts.4 in
-      let labels = both_public a.label b.label (ap (λ (t : WordType). t.label) whole ∙ label) in
-      ap₂ (operated operator) (public_value left a parts.2 labels.0) (public_value right b parts.3 labels.1)
-  public_value (select condition accepted otherwise) word is label =
-      let parts = three_parts (type_in types condition) (type_in types accepted) (type_in types otherwise) word is in
-      let c = parts.0 in
-      let a = parts.1 in
-      let b = parts.2 in
-      let whole = no_rule (select_rules c a b) (select_type c a b) word parts.6 in
-      let outer = both_public c.label (joined a.label b.label) (ap (λ (t : WordType). t.label) whole ∙ label) in
-      let labels = both_public a.label b.label outer.1 in
-      ap (λ z. if z == 0 then value_in one otherwise else value_in one accepted) (public_value condition c parts.3 outer.0)
-      ∙ ap₂ (λ z u. if value_in other condition == 0 then z else u) (public_value otherwise b parts.5 labels.1) (public_value accepted a parts.4 labels.0)
+  pub public_value : (e : TermTree) (whole : WordType) → HasType types e whole → whole.label ≡ Public → value_in one e ≡ value_in other e
+  public_value (number value kind) whole typed label = refl
+  public_value (truth value) whole typed label = refl
+  public_value (variable x) whole typed label = same x whole typed label
+  public_value (prefix operator width operand) whole typed label =
+      let node = prefix_typed operator typed.0 whole typed.3 in
+      ap (prefix_value operator width) (public_value operand _ typed.1 (ap (λ (t : WordType). t.label) node.1 ∙ label))
+  public_value (binary operator width left right) whole typed label =
+      let node = binary_typed operator typed.0 typed.1 whole typed.6 in
+      let labels = both_public typed.0.label typed.1.label (ap (λ (t : WordType). t.label) node.1 ∙ label) in
+      ap₂ (operated operator width) (public_value left _ typed.2 labels.0) (public_value right _ typed.3 labels.1)
+  public_value (rotate width operand amount) whole typed label =
+      let node = rotate_typed amount typed.0 whole typed.3 in
+      ap (λ v. rotated_left width v amount) (public_value operand _ typed.1 (ap (λ (t : WordType). t.label) node.1 ∙ label))
+  public_value (convert kind operand) whole typed label =
+      ap (converted (width_of kind)) (public_value operand _ typed.1 (ap (λ (t : WordType). t.label) (convert_typed kind typed.0 whole typed.3) ∙ label))
+  public_value (select condition accepted otherwise) whole typed label =
+      let node = select_typed typed.0 typed.1 typed.2 whole typed.6 in
+      let outer = both_public typed.0.label (joined typed.1.label typed.2.label) (ap (λ (t : WordType). t.label) node.1 ∙ label) in
+      let labels = both_public typed.1.label typed.2.label outer.1 in
+      ap (λ z. if z == 0 then value_in one otherwise else value_in one accepted) (public_value condition _ typed.3 outer.0)
+      ∙ ap₂ (λ z u. if value_in other condition == 0 then z else u) (public_value otherwise _ typed.5 labels.1) (public_value accepted _ typed.4 labels.0)
 
   -- so does what suits where a public value is wanted
   pub public_suited : (wanted : WordType) (e : TermTree) → Suits types wanted e → wanted.label ≡ Public → value_in one e ≡ value_in other e
-  public_suited wanted e suits label = public_value e suits.word suits.has_type.typed (public_suits wanted suits.word suits.suits label)
+  public_suited wanted e suits label = public_value e suits.word suits.has_type (suits.label label)

@@ -2,9 +2,10 @@
 use Rattle.std.proofs.Common.{◌≡◌, Vec, Global, refl, ap, ap₂, ◌∙◌}
 use mathlib.Core.Former.{Count}
 use Rattle.word.specs.declared.place.Place.{Place}
+use Rattle.syntax.specs.declared.tree.Counter.{Counter}
 use Rattle.syntax.specs.declared.tree.Expr.{Expr}
-use Rattle.syntax.specs.declared.tree.Statement.{Statement, If, If', Row_of-Statement, end_of-Statement, more_of-Statement, items-the_row-Statement, items_hidden-the_row-Statement-0}
-use Rattle.syntax.specs.Tree.{expr_tree, statement_tree, row_tree, block_tree, conditional, first}
+use Rattle.syntax.specs.declared.tree.Statement.{Statement, If, If', For, For', Row_of-Statement, end_of-Statement, more_of-Statement, items-the_row-Statement, items_hidden-the_row-Statement-0}
+use Rattle.syntax.specs.Tree.{expr_tree, statement_tree, row_tree, block_tree, conditional, loop, first}
 use Rattle.inline.specs.declared.flat.FlatStatement.{FlatStatement, Branch, Branch', Row_of-FlatStatement, end_of-FlatStatement, more_of-FlatStatement, items-the_row-FlatStatement, items_hidden-the_row-FlatStatement-0}
 use Rattle.inline.specs.declared.flat.Term.{Term}
 use Rattle.inline.specs.Flat.{term_tree, flat_tree, flat_block, branch}
@@ -17,6 +18,7 @@ rows n (more_of-Statement s rest) = ap (first (statement_tree s)) (rows _ rest)
 
 abbrev arms : Statement → ((n : Count) × Row_of-Statement n) × ((n : Count) × Row_of-Statement n)
 arms (If' place condition shape accepted shape' otherwise) = ((_, accepted), (_, otherwise))
+arms (For' place counter low high shape body) = ((_, body), (_, end_of-Statement))
 arms _ = ((_, end_of-Statement), (_, end_of-Statement))
 
 pub conditional_tree : (place : Place) (condition : Expr) (accepted otherwise : Vec Statement Global) →
@@ -26,6 +28,13 @@ conditional_tree place condition accepted otherwise =
     ap₂ (conditional place (expr_tree condition))
     (rows both.0.0 both.0.1 ∙ ap block_tree (items_hidden-the_row-Statement-0 accepted))
     (rows both.1.0 both.1.1 ∙ ap block_tree (items_hidden-the_row-Statement-0 otherwise))
+
+pub loop_tree : (place : Place) (counter : Counter) (low high : Expr) (body : Vec Statement Global) →
+    statement_tree (For place counter low high body) ≡ loop place counter.place counter.name.now (expr_tree low) (expr_tree high) (block_tree body.items)
+loop_tree place counter low high body =
+    let both = arms (For place counter low high body) in
+    ap (loop place counter.place counter.name.now (expr_tree low) (expr_tree high))
+    (rows both.0.0 both.0.1 ∙ ap block_tree (items_hidden-the_row-Statement-0 body))
 
 -- of the flat body
 flat_rows : (n : _) (row : Row_of-FlatStatement n) → flat.row_tree row ≡ flat_block (items-the_row-FlatStatement n row)

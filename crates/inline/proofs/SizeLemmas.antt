@@ -1,23 +1,30 @@
 -- Sizes of trees, and which limit is named.
-use Rattle.std.proofs.Common.{◌≡◌, ℕ, ◌+◌, ◌-◌, ◌<◌, ◌≤◌, inr, Bool, true, false, nat_lt, [], ◌∷◌, ◌++◌, Option, Some, None, Vec, Global, refl, sym, ap, subst, ◌∙◌, arith}
+use Rattle.std.proofs.Common.{◌≡◌, ℕ, ◌+◌, ◌-◌, ◌<◌, ◌≤◌, inr, Bool, true, false, nat_lt, [], ◌∷◌, ◌++◌, List, length, Option, Some, None, Vec, Global, refl, sym, ap, subst, ◌∙◌, arith}
+use Rattle.std.specs.List.{AllByRecursion}
 use Rattle.std.specs.Option.{SomeIff}
+use Rattle.coverage.specs.Compiled.{IsCompiledBlock, IsCompiledExpr, IsCompiledParameter, IsCompiledStatement}
 use Rattle.std.proofs.lemmas.Bool.Decides.{nat_tests}
 use Rattle.std.proofs.lemmas.List.Elements.{All-cons, All-nil}
 use Rattle.word.specs.declared.place.Place.{Place}
 use Rattle.syntax.specs.declared.rule.Rule.{Rule}
 use Rattle.syntax.specs.declared.rule.Rule.TheVariants.{InlinedSize, DeclaredBytes}
+use Rattle.syntax.specs.declared.tree.Counter.{Counter}
 use Rattle.syntax.specs.declared.tree.Expr.{Expr}
-use Rattle.syntax.specs.declared.tree.Statement.{Statement, If}
+use Rattle.syntax.specs.declared.tree.Statement.{Statement, If, For}
 use Rattle.syntax.specs.declared.typing.Violation.{Violation}
 use Rattle.syntax.specs.FirstViolation.{IsFirst, IsNoLaterThan}
-use Rattle.syntax.specs.Size.{nodes_in, statement_nodes, block_nodes, nodes_of, statement_words, block_words, size_violations, declared_bytes, most_nodes, most_declared_bytes}
-use Rattle.syntax.specs.Tree.{ExprTree, number, truth, name, binary, select, StatementTree, declaration, assignment, conditional, ProcedureTree, expr_tree, statement_tree, block_tree}
-use Rattle.syntax.specs.Typing.{at, when}
-use Rattle.inline.proofs.RowLemmas.{conditional_tree}
+use Rattle.syntax.specs.Size.{nodes_in, statement_nodes, block_nodes, nodes_of, statement_words, block_words, size_violations, declared_bytes, most_nodes, most_declared_bytes, held_words, parameter_words}
+use Rattle.syntax.specs.Tree.{ExprTree, number, truth, name, prefix, binary, rotate, convert, select, element, StatementTree, declaration, array, assignment, element_assignment, call, conditional, loop, ProcedureTree, ParameterTree, expr_tree, statement_tree, block_tree}
+use Rattle.syntax.specs.Types.{at, when}
+use Rattle.inline.proofs.RowLemmas.{conditional_tree, loop_tree}
 
 -- an expression has a node
 pub nodes_some : (e : ExprTree) → 1 ≤ nodes_in e
-nodes_some (number p v) = omega arith
+nodes_some (number p v k) = omega arith
+nodes_some (prefix p o e) = omega arith
+nodes_some (rotate p e n) = omega arith
+nodes_some (convert p k e) = omega arith
+nodes_some (element p g t e) = omega arith
 nodes_some (truth p v) = omega arith
 nodes_some (name p t) = omega arith
 nodes_some (binary p o l r) = omega arith
@@ -27,7 +34,11 @@ nodes_some (select p c a b) = omega arith
 pub statement_nodes_some : (s : StatementTree) → 1 ≤ statement_nodes s
 statement_nodes_some (declaration p l m k t v) = omega arith
 statement_nodes_some (assignment p g t v) = omega arith
+statement_nodes_some (array p l m k n t v) = omega arith
+statement_nodes_some (element_assignment p b g t e r) = omega arith
+statement_nodes_some (call c) = omega arith
 statement_nodes_some (conditional p c a b) = omega arith
+statement_nodes_some (loop p c t l h b) = omega arith
 
 -- the nodes of a conditional, by the lists of its arms
 pub conditional_nodes : (s : Statement) (place : Place) (condition : Expr) (accepted otherwise : Vec Statement Global) → s ≡ If place condition accepted otherwise →
@@ -40,6 +51,20 @@ pub conditional_words : (s : Statement) (place : Place) (condition : Expr) (acce
     statement_words (statement_tree s) ≡ block_words (block_tree accepted.items) + block_words (block_tree otherwise.items)
 conditional_words s place condition accepted otherwise is =
     ap (λ t. statement_words (statement_tree t)) is ∙ ap statement_words (conditional_tree place condition accepted otherwise)
+
+-- its parts are compiled, where it is
+pub conditional_compiled : (s : Statement) (place : Place) (condition : Expr) (accepted otherwise : Vec Statement Global) → s ≡ If place condition accepted otherwise → IsCompiledStatement (statement_tree s) →
+    IsCompiledExpr (expr_tree condition) × IsCompiledBlock (block_tree accepted.items) × IsCompiledBlock (block_tree otherwise.items)
+conditional_compiled s place condition accepted otherwise is = subst IsCompiledStatement (ap statement_tree is ∙ conditional_tree place condition accepted otherwise)
+
+-- the nodes and the words of a loop, by the list of its body
+pub loop_nodes : (s : Statement) (place : Place) (counter : Counter) (low high : Expr) (body : Vec Statement Global) → s ≡ For place counter low high body →
+    statement_nodes (statement_tree s) ≡ 1 + nodes_in (expr_tree low) + nodes_in (expr_tree high) + block_nodes (block_tree body.items)
+loop_nodes s place counter low high body is = ap (λ t. statement_nodes (statement_tree t)) is ∙ ap statement_nodes (loop_tree place counter low high body)
+
+pub loop_words : (s : Statement) (place : Place) (counter : Counter) (low high : Expr) (body : Vec Statement Global) → s ≡ For place counter low high body →
+    statement_words (statement_tree s) ≡ 1 + block_words (block_tree body.items)
+loop_words s place counter low high body is = ap (λ t. statement_words (statement_tree t)) is ∙ ap statement_words (loop_tree place counter low high body)
 
 -- what a last part leaves of what the others left is what the whole leaves of the room
 pub last_part : (o : Option ℕ) (room left last whole : ℕ) → whole + left ≡ room + last → left ≤ room → SomeIff o (last ≤ left) (left - last) → SomeIff o (whole ≤ room) (room - whole)
@@ -79,6 +104,14 @@ above a b h = grind (arith, nat_tests)
 
 not_above : (a b : ℕ) → b ≤ a → nat_lt a b ≡ false
 not_above a b h = grind (arith, nat_tests)
+
+-- parameters that are words take a word each
+pub single_words : (ps : List ParameterTree) → AllByRecursion IsCompiledParameter ps → parameter_words ps ≡ length ps
+single_words [] compiled = refl
+single_words (p ∷ ps) compiled =
+    let rest = single_words ps compiled.1 in
+    let here : held_words p.form p.kind p.length ≡ 1 = ap (λ form. held_words form p.kind p.length) compiled.0 in
+    omega (arith, here, rest)
 
 pub too_many_nodes : (p : ProcedureTree) → most_nodes < nodes_of p → IsFirst (size_violations p) (record { place = p.place; rule = InlinedSize })
 too_many_nodes p many =

@@ -1,17 +1,23 @@
 -- One body with numbered variables, as values, without where it lies in memory.
-use Rattle.std.specs.Prelude.{ℕ, Bool, List, [], ◌∷◌}
-use Rattle.inline.specs.declared.flat.Term.{Term, Number, Truth, Variable, Binary', Select'}
+use Rattle.std.specs.Prelude.{ℕ, Bool, List, [], ◌∷◌, Option}
+use Rattle.inline.specs.declared.flat.Term.{Term, Number, Truth, Variable, Prefix', Binary', Rotate', Convert', Select'}
 use Rattle.inline.specs.declared.flat.FlatStatement.{FlatStatement, Declare, Assign, Branch', Row_of-FlatStatement, end_of-FlatStatement, more_of-FlatStatement}
 use Rattle.syntax.specs.declared.signature.Param.{Param}
+use Rattle.syntax.specs.declared.signature.Kind.{Kind}
 use Rattle.syntax.specs.declared.tree.BinaryOperator.{BinaryOperator}
+use Rattle.syntax.specs.declared.tree.PrefixOperator.{PrefixOperator}
 use Rattle.syntax.specs.declared.typing.WordType.{WordType}
+use Rattle.word.specs.declared.width.Width.{Width}
 
--- an expression
+-- an expression; where the width of an operand decides what a node means, the node has it: the left operand's
 pub data TermTree : Type 0 where
-  number : (value : ℕ) → TermTree
+  number : (value : ℕ) (kind : Kind) → TermTree
   truth : (value : Bool) → TermTree
   variable : (number : ℕ) → TermTree
-  binary : (operator : BinaryOperator) (left right : TermTree) → TermTree
+  prefix : (operator : PrefixOperator) (width : Width) (operand : TermTree) → TermTree
+  binary : (operator : BinaryOperator) (width : Width) (left right : TermTree) → TermTree
+  rotate : (width : Width) (operand : TermTree) (amount : ℕ) → TermTree
+  convert : (kind : Kind) (operand : TermTree) → TermTree
   select : (condition accepted otherwise : TermTree) → TermTree
 
 mutual
@@ -27,19 +33,24 @@ mutual
 -- the export: its parameters are the first variables, in their order
 pub record FlatProgram : Type 0 where
   pub parameters : List Param
-  pub returned : WordType
+  -- the type of its result, where it has one
+  pub returned : Option WordType
   -- how many nodes the source has
   pub nodes : ℕ
   -- how many variables there are
   pub variables : ℕ
   pub body : FlatBlock
-  pub value : TermTree
+  -- the result, where there is one
+  pub value : Option TermTree
 
 abbrev pub term_tree : Term → TermTree
-term_tree (Number value) = number value
+term_tree (Number value kind) = number value kind
 term_tree (Truth value) = truth value
 term_tree (Variable n) = variable n
-term_tree (Binary' operator p left q right) = binary operator (term_tree left) (term_tree right)
+term_tree (Prefix' operator width p operand) = prefix operator width (term_tree operand)
+term_tree (Binary' operator width p left q right) = binary operator width (term_tree left) (term_tree right)
+term_tree (Rotate' width p operand amount) = rotate width (term_tree operand) amount
+term_tree (Convert' kind p operand) = convert kind (term_tree operand)
 term_tree (Select' p condition q accepted r otherwise) = select (term_tree condition) (term_tree accepted) (term_tree otherwise)
 
 abbrev mutual

@@ -1,10 +1,12 @@
 -- What a body with numbered variables means: a function from what the variables hold to what they hold in the end.
-use Rattle.std.specs.Prelude.{ℕ, zero, suc, ◌==◌, List, [], ◌∷◌, Some, if◌then◌else◌}
-use Rattle.inline.specs.Flat.{TermTree, number, truth, variable, binary, select, FlatTree, declare, assign, branch, FlatBlock, nothing, first, FlatProgram}
-use Rattle.syntax.specs.Meaning.{bit_of, operated}
+use Rattle.std.specs.Prelude.{ℕ, zero, suc, ◌==◌, List, [], ◌∷◌, if◌then◌else◌}
+use Rattle.std.specs.Option.{option_map}
+use Rattle.inline.specs.Flat.{TermTree, number, truth, variable, prefix, binary, rotate, convert, select, FlatTree, declare, assign, branch, FlatBlock, nothing, first, FlatProgram}
+use Rattle.syntax.specs.Operators.{operated, prefix_value, width_of}
 use Rattle.syntax.specs.Results.{Results}
 use Rattle.syntax.specs.declared.values.Arg.{Arg}
 use Rattle.syntax.specs.declared.values.Arg.TheVariants.{Word, Array}
+use Rattle.word.specs.Operators.{rotated_left, converted, word_of}
 
 -- what the variables hold; a bool is 0 or 1
 abbrev pub Values : Type 0
@@ -15,10 +17,13 @@ with_value m x v = λ y. if y == x then v else m y
 
 -- the value of an expression
 abbrev pub value_in : Values → TermTree → ℕ
-value_in m (number value) = value
-value_in m (truth value) = bit_of value
+value_in m (number value kind) = value
+value_in m (truth value) = word_of value
 value_in m (variable x) = m x
-value_in m (binary operator left right) = operated operator (value_in m left) (value_in m right)
+value_in m (prefix operator width operand) = prefix_value operator width (value_in m operand)
+value_in m (binary operator width left right) = operated operator width (value_in m left) (value_in m right)
+value_in m (rotate width operand amount) = rotated_left width (value_in m operand) amount
+value_in m (convert kind operand) = converted (width_of kind) (value_in m operand)
 value_in m (select condition accepted otherwise) = if value_in m condition == 0 then value_in m otherwise else value_in m accepted
 
 abbrev mutual
@@ -45,4 +50,4 @@ given (arg ∷ args) (suc x) = given args x
 
 -- the outcome on arguments
 abbrev pub outcome_of : FlatProgram → List Arg → Results
-outcome_of p args = record { returned = Some (value_in (after_all (given args) p.body) p.value); arrays = [] }
+outcome_of p args = record { returned = option_map (value_in (after_all (given args) p.body)) p.value; arrays = [] }

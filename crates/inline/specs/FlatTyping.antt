@@ -1,14 +1,16 @@
 -- Types of numbered variables: what is known of a well-typed body once its names are gone.
-use Rattle.std.specs.Prelude.{◌≡◌, ℕ, zero, suc, ◌^◌, ◌<◌, ◌==◌, List, [], ◌∷◌, length, Option, None, Some, if◌then◌else◌}
-use Rattle.std.specs.List.{AllByRecursion}
-use Rattle.inline.specs.Flat.{TermTree, number, truth, variable, binary, select, FlatTree, declare, assign, branch, FlatBlock, nothing, first, FlatProgram}
+use Rattle.std.specs.Prelude.{◌≡◌, ℕ, zero, suc, false, ◌^◌, ◌<◌, ◌==◌, List, [], ◌∷◌, Option, None, Some, if◌then◌else◌}
+use Rattle.inline.specs.Flat.{TermTree, number, truth, variable, prefix, binary, rotate, convert, select, FlatTree, declare, assign, branch, FlatBlock, nothing, first, FlatProgram}
 use Rattle.syntax.specs.declared.signature.Kind.TheVariants.{Boolean}
 use Rattle.syntax.specs.declared.signature.Label.{Label}
 use Rattle.syntax.specs.declared.signature.Label.TheVariants.{Public, Secret}
 use Rattle.syntax.specs.declared.signature.Param.{Param}
 use Rattle.syntax.specs.declared.typing.WordType.{WordType}
-use Rattle.syntax.specs.Grammatical.{IsWordKind}
-use Rattle.syntax.specs.Typing.{joined, number_type, truth_type, type_of_two, type_of_three, value_rules}
+use Rattle.syntax.specs.declared.typing.ValueType.TheVariants.{Word}
+use Rattle.syntax.specs.ExprTyping.{prefix_type, binary_type, rotate_type, convert_type, select_type}
+use Rattle.syntax.specs.Grammatical.{IsNumberKind}
+use Rattle.syntax.specs.Operators.{divides, width_of}
+use Rattle.syntax.specs.Types.{bits_of, joined}
 
 -- the types of the variables in scope
 abbrev pub Types : Type 0
@@ -17,32 +19,34 @@ Types = ℕ → Option WordType
 abbrev pub with_type : Types → ℕ → WordType → Types
 with_type types x word = λ y. if y == x then Some word else types y
 
--- the type of an expression, where it is well typed
-abbrev pub type_in : Types → TermTree → Option WordType
-type_in types (number value) = Some number_type
-type_in types (truth value) = Some truth_type
-type_in types (variable x) = types x
-type_in types (binary operator left right) = type_of_two (type_in types left) (type_in types right)
-type_in types (select condition accepted otherwise) = type_of_three (type_in types condition) (type_in types accepted) (type_in types otherwise)
-
--- its numbers are words
-abbrev pub IsSmall : TermTree → Type 0
-IsSmall (number value) = value < 2 ^ 32
-IsSmall (truth value) = Unit {0}
-IsSmall (variable x) = Unit {0}
-IsSmall (binary operator left right) = IsSmall left × IsSmall right
-IsSmall (select condition accepted otherwise) = IsSmall condition × IsSmall accepted × IsSmall otherwise
-
--- an expression of this type
-pub record HasType (types : Types) (term : TermTree) (word : WordType) : Type 0 where
-  pub typed : type_in types term ≡ Some word
-  pub small : IsSmall term
+-- an expression of this type, by the rules that the language has for its node. Of the operators those are here that
+-- are compiled: none divides.
+abbrev pub HasType : Types → TermTree → WordType → Type 0
+HasType types (number value kind) word = (value < 2 ^ bits_of kind) × (word ≡ record { kind = kind; label = Public })
+HasType types (truth value) word = word ≡ record { kind = Boolean; label = Public }
+HasType types (variable x) word = types x ≡ Some word
+HasType types (prefix operator width operand) word =
+    (one : WordType) × HasType types operand one × (width ≡ width_of one.kind)
+    × (prefix_type operator (Word one) ≡ Some (Word word))
+HasType types (binary operator width left right) word =
+    (one other : WordType) × HasType types left one × HasType types right other × (width ≡ width_of one.kind)
+    × (divides operator ≡ false) × (binary_type operator (Word one) (Word other) ≡ Some (Word word))
+HasType types (rotate width operand amount) word =
+    (one : WordType) × HasType types operand one × (width ≡ width_of one.kind)
+    × (rotate_type amount (Word one) ≡ Some (Word word))
+HasType types (convert kind operand) word =
+    (one : WordType) × HasType types operand one × IsNumberKind kind
+    × (convert_type kind (Word one) ≡ Some (Word word))
+HasType types (select condition accepted otherwise) word =
+    (chooser one other : WordType) × HasType types condition chooser × HasType types accepted one × HasType types otherwise other
+    × (select_type (Word chooser) (Word one) (Word other) ≡ Some (Word word))
 
 -- an expression that may be put where this type is wanted: of the same kind, and no secret where it is public
 pub record Suits (types : Types) (wanted : WordType) (term : TermTree) : Type 0 where
   pub word : WordType
   pub has_type : HasType types term word
-  pub suits : length (value_rules wanted word) ≡ 0
+  pub kind : word.kind ≡ wanted.kind
+  pub label : wanted.label ≡ Public → word.label ≡ Public
 
 -- the types after a statement: an arm's variables are its own
 abbrev pub types_after : Types → FlatTree → Types
@@ -58,9 +62,9 @@ pub record IsAssigned (types : Types) (control : Label) (x : ℕ) (value : TermT
   pub hidden : control ≡ Secret → word.label ≡ Secret
 
 abbrev mutual
-  -- a well-typed statement under a control label. What it declares is new, and of a kind that can be declared.
+  -- a well-typed statement under a control label. What it declares is new.
   pub IsTyped : Types → Label → FlatTree → Type 0
-  IsTyped types control (declare x word value) = (types x ≡ None) × Suits types word value × IsWordKind word.kind
+  IsTyped types control (declare x word value) = (types x ≡ None) × Suits types word value
   IsTyped types control (assign x value) = IsAssigned types control x value
   IsTyped types control (branch condition accepted otherwise) =
       (word : WordType) × HasType types condition word × (word.kind ≡ Boolean)
@@ -81,9 +85,14 @@ parameter_types [] x = None
 parameter_types (p ∷ ps) zero = Some (record { kind = p.kind; label = p.label })
 parameter_types (p ∷ ps) (suc x) = parameter_types ps x
 
+-- a value stands exactly where there is a result, and suits its type
+abbrev pub IsResult : Types → Option WordType → Option TermTree → Type 0
+IsResult types None None = Unit {0}
+IsResult types None (Some value) = ⊥
+IsResult types (Some word) None = ⊥
+IsResult types (Some word) (Some value) = Suits types word value
+
 -- a well-typed program
 pub record IsTypedProgram (p : FlatProgram) : Type 0 where
-  pub kinds : AllByRecursion (λ (param : Param). IsWordKind param.kind) p.parameters
-  pub result : IsWordKind p.returned.kind
   pub body : AreTyped (parameter_types p.parameters) Public p.body
-  pub value : Suits (types_after_all (parameter_types p.parameters) p.body) p.returned p.value
+  pub result : IsResult (types_after_all (parameter_types p.parameters) p.body) p.returned p.value

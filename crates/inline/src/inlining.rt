@@ -1,4 +1,5 @@
 ghost use Rattle.std.specs.Prelude.{◌≡◌, ◌*◌, ◌≤◌, length, IfOk, IfErr};
+ghost use Rattle.coverage.specs.Compiled.{IsCompiledProcedure};
 ghost use Rattle.inline.specs.Numbering.{flattened};
 ghost use Rattle.syntax.specs.FirstViolation.{IsRefusedFor};
 ghost use Rattle.syntax.specs.Size.{size_violations};
@@ -8,10 +9,11 @@ use crate::Flat;
 use crate::numbering::Numbering;
 use crate::sizes::measure;
 use std::alloc::Global;
-use syntax::{Procedure, Refusal, WordType};
+use syntax::{Procedure, Refusal};
 
 /// The export as one body with numbered variables, where it passes no limit on its size.
 pub fn inline(alloc: Global, export: &Procedure<'_>) -> Result<Flat, Refusal>
+    requires compiled { IsCompiledProcedure (procedure_tree export.now) }
     ensures accepted { IfOk result (λ flat. flat ≡ flattened (procedure_tree export.now)) }
     ensures bounds { IfOk result (λ flat. (flat.nodes ≤ 6000) × (4 * flat.variables ≤ 32768)) }
     ensures within { IfOk result (λ _. length (size_violations (procedure_tree export.now)) ≡ 0) }
@@ -21,14 +23,13 @@ pub fn inline(alloc: Global, export: &Procedure<'_>) -> Result<Flat, Refusal>
     let mut numbering = Numbering::new(alloc);
     let parameters = numbering.parameters(&export.parameters)?;
     let body = numbering.block(&export.body)?;
-    let value = numbering.term(&export.value)?;
-    let returned = WordType {
-        kind: export.kind,
-        label: export.label,
+    let value = match &export.returned {
+        Some(returned) => Some(numbering.term(&returned.value)?),
+        None => None,
     };
     Ok(Flat::new(
         parameters,
-        returned,
+        export.result,
         nodes,
         numbering.variables(),
         body,

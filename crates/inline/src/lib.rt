@@ -16,6 +16,3 @@ pub use laws::{
     typed_values_fit,
 };
 pub use program::Flat;
-
-#[cfg(test)]
-mod tests;

@@ -1,50 +1,69 @@
 ghost use Rattle.std.specs.Prelude.{◌≡◌, ◌+◌, ◌^◌, ◌<◌, [], length, map, IfOk, OnOk};
+ghost use Rattle.coverage.specs.Compiled.{IsCompiledBlock, IsCompiledExpr, IsCompiledRight, IsCompiledStatement};
 ghost use Rattle.inline.specs.Flat as flat;
 ghost use Rattle.inline.specs.Flat.{flat_block, flat_tree, term_tree};
 ghost use Rattle.inline.specs.Numbering as numbered;
 ghost use Rattle.names.specs.Scope.{declared};
+ghost use Rattle.syntax.specs.ExprTyping.{operation_kind, operation_of};
+ghost use Rattle.syntax.specs.Operators.{width_of};
 ghost use Rattle.syntax.specs.Size.{block_words, statement_words};
-ghost use Rattle.syntax.specs.Tree.{block_tree, expr_tree, parameter_tree, statement_tree};
+ghost use Rattle.syntax.specs.Tree.{block_tree, expr_tree, parameter_tree, right_tree, statement_tree};
 
 use crate::{FlatStatement, Term};
 use names::Names;
 use std::alloc::{AllocError, Global};
-use syntax::{BinaryOperator, Expr, Form, Param, Parameter, Statement, WordType};
+use syntax::{BinaryOperator, Expr, Kind, Param, Parameter, RightSide, Statement, WordType};
+use word::Width;
 
-/// A term with two operands.
-fn operation(
-    alloc: Global,
-    operator: BinaryOperator,
-    left: Term,
-    right: Term,
-) -> Result<Term, AllocError>
-    ensures { IfOk result (λ whole. term_tree whole ≡ flat.binary operator (term_tree left) (term_tree right)) }
-{
-    let left = Box::new(alloc, left)?;
-    let right = Box::new(alloc, right)?;
-    Ok(Term::Binary(operator, left, right))
+/// What a name stands for: a variable's number, and its kind.
+#[derive(Clone, Copy)]
+pub struct Numbered {
+    pub number: u32,
+    pub kind: Kind,
 }
 
-/// A term that chooses between two others.
-fn choice(
-    alloc: Global,
-    condition: Term,
-    accepted: Term,
-    otherwise: Term,
-) -> Result<Term, AllocError>
-    ensures { IfOk result (λ whole. term_tree whole ≡ flat.select (term_tree condition) (term_tree accepted) (term_tree otherwise)) }
+/// The width of a number; a bool lies in the narrowest.
+fn width_of(kind: Kind) -> Width
+    ensures { result ≡ width_of kind }
 {
-    let condition = Box::new(alloc, condition)?;
-    let accepted = Box::new(alloc, accepted)?;
-    let otherwise = Box::new(alloc, otherwise)?;
-    Ok(Term::Select(condition, accepted, otherwise))
+    match kind {
+        Kind::Boolean | Kind::Uint8 => Width::W8,
+        Kind::Uint16 => Width::W16,
+        Kind::Uint32 => Width::W32,
+    }
+}
+
+/// The kind of what an operator makes of a left operand of this kind.
+fn kind_of_binary(operator: BinaryOperator, left: Kind) -> Kind
+    ensures { result ≡ operation_kind (operation_of operator) left }
+{
+    match operator {
+        BinaryOperator::Either
+        | BinaryOperator::Both
+        | BinaryOperator::Equal
+        | BinaryOperator::Unequal
+        | BinaryOperator::Less
+        | BinaryOperator::LessOrEqual
+        | BinaryOperator::Greater
+        | BinaryOperator::GreaterOrEqual => Kind::Boolean,
+        BinaryOperator::BitOr
+        | BinaryOperator::BitXor
+        | BinaryOperator::BitAnd
+        | BinaryOperator::ShiftLeft
+        | BinaryOperator::ShiftRight
+        | BinaryOperator::Add
+        | BinaryOperator::Subtract
+        | BinaryOperator::Multiply
+        | BinaryOperator::Divide
+        | BinaryOperator::Remainder => left,
+    }
 }
 
 /// The numbers of the names in scope, and the number that the next declaration gets.
 #[derive(Drop)]
 pub struct Numbering<'a> {
     alloc: Global,
-    names: Names<'a, u32>,
+    names: Names<'a, Numbered>,
     next: u32,
 }
 
@@ -69,14 +88,14 @@ impl<'a> Numbering<'a> {
     }
 
     /// Gives a name the next number.
-    fn declare(&mut self, name: &'a str) -> Result<u32, AllocError>
+    fn declare(&mut self, name: &'a str, kind: Kind) -> Result<u32, AllocError>
         requires room { self.old.next + 1 < 2 ^ 32 }
         ensures number { IfOk result (λ number. number ≡ self.old.next) }
-        ensures names { OnOk result (self.new.names ≡ declared self.old.names name.now self.old.next) }
+        ensures names { OnOk result (self.new.names ≡ declared self.old.names name.now (record { number = self.old.next; kind = kind })) }
         ensures next { OnOk result (self.new.next ≡ self.old.next + 1) }
     {
         let number = self.next;
-        self.names.declare(name, number)?;
+        self.names.declare(name, Numbered { number, kind })?;
         self.next += 1;
         Ok(number)
     }
@@ -90,43 +109,90 @@ impl<'a> Numbering<'a> {
     {
         let mut params = Vec::new(self.alloc);
         for parameter in parameters {
-            self.declare(parameter.name)?;
+            self.declare(parameter.name, parameter.kind)?;
             params.push(Param {
                 kind: parameter.kind,
                 label: parameter.label,
-                form: Form::SingleWord,
-                length: 1,
+                form: parameter.form,
+                length: parameter.length,
             })?;
         }
         Ok(params)
     }
 
-    /// The number of a name. Each name is declared in a program that violates no rule.
-    fn number_of(&self, name: &str) -> u32
-        ensures { result ≡ numbered.number_of self.now.names name.now }
+    /// What a name stands for. Each name is declared in a program that violates no rule.
+    fn numbered(&self, name: &str) -> Numbered
+        ensures { result ≡ numbered.numbered self.now.names name.now }
     {
-        self.names.find(name).unwrap_or(0)
+        let nothing = Numbered {
+            number: 0,
+            kind: Kind::Boolean,
+        };
+        self.names.find(name).unwrap_or(nothing)
+    }
+
+    /// An expression with numbers in place of names, and its kind.
+    fn typed(&self, expr: &Expr<'_>) -> Result<(Term, Kind), AllocError>
+        requires compiled { IsCompiledExpr (expr_tree expr.now) }
+        ensures term { IfOk result (λ whole. term_tree whole.0 ≡ numbered.term self.now.names (expr_tree expr.now)) }
+        ensures kind { IfOk result (λ whole. whole.1 ≡ numbered.kind_in self.now.names (expr_tree expr.now)) }
+    {
+        let alloc = self.alloc;
+        match expr {
+            Expr::Number(_, value, kind) => Ok((Term::Number(*value, *kind), *kind)),
+            Expr::Truth(_, value) => Ok((Term::Truth(*value), Kind::Boolean)),
+            Expr::Name(_, text) => {
+                let Numbered { number, kind } = self.numbered(text);
+                Ok((Term::Variable(number), kind))
+            }
+            Expr::Prefix(_, operator, operand) => {
+                let (term, kind) = self.typed(operand)?;
+                let operand = Box::new(alloc, term)?;
+                Ok((Term::Prefix(*operator, width_of(kind), operand), kind))
+            }
+            Expr::Binary(_, operator, left, right) => {
+                let (term, kind) = self.typed(left)?;
+                let left = Box::new(alloc, term)?;
+                let right = Box::new(alloc, self.typed(right)?.0)?;
+                let whole = Term::Binary(*operator, width_of(kind), left, right);
+                Ok((whole, kind_of_binary(*operator, kind)))
+            }
+            Expr::Rotate(_, operand, amount) => {
+                let (term, kind) = self.typed(operand)?;
+                let operand = Box::new(alloc, term)?;
+                Ok((Term::Rotate(width_of(kind), operand, *amount), kind))
+            }
+            Expr::Convert(_, kind, operand) => {
+                let operand = Box::new(alloc, self.typed(operand)?.0)?;
+                Ok((Term::Convert(*kind, operand), *kind))
+            }
+            Expr::Select(_, condition, accepted, otherwise) => {
+                let condition = Box::new(alloc, self.typed(condition)?.0)?;
+                let (term, kind) = self.typed(accepted)?;
+                let accepted = Box::new(alloc, term)?;
+                let otherwise = Box::new(alloc, self.typed(otherwise)?.0)?;
+                Ok((Term::Select(condition, accepted, otherwise), kind))
+            }
+            Expr::Element(_, _, _, _) => unreachable!(),
+        }
     }
 
     /// An expression with numbers in place of names.
     pub fn term(&self, expr: &Expr<'_>) -> Result<Term, AllocError>
+        requires compiled { IsCompiledExpr (expr_tree expr.now) }
         ensures { IfOk result (λ whole. term_tree whole ≡ numbered.term self.now.names (expr_tree expr.now)) }
     {
-        match expr {
-            Expr::Number(_, value) => Ok(Term::Number(*value)),
-            Expr::Truth(_, value) => Ok(Term::Truth(*value)),
-            Expr::Name(_, text) => Ok(Term::Variable(self.number_of(text))),
-            Expr::Binary(_, operator, left, right) => {
-                let left = self.term(left)?;
-                let right = self.term(right)?;
-                operation(self.alloc, *operator, left, right)
-            }
-            Expr::Select(_, condition, accepted, otherwise) => {
-                let condition = self.term(condition)?;
-                let accepted = self.term(accepted)?;
-                let otherwise = self.term(otherwise)?;
-                choice(self.alloc, condition, accepted, otherwise)
-            }
+        Ok(self.typed(expr)?.0)
+    }
+
+    /// A right side with numbers in place of names.
+    fn right(&self, right: &RightSide<'a>) -> Result<Term, AllocError>
+        requires compiled { IsCompiledRight (right_tree right.now) }
+        ensures { IfOk result (λ whole. term_tree whole ≡ numbered.right self.now.names (right_tree right.now)) }
+    {
+        match right {
+            RightSide::Value(expr) => self.term(expr),
+            RightSide::Call(_) => unreachable!(),
         }
     }
 
@@ -134,23 +200,24 @@ impl<'a> Numbering<'a> {
     #[cycle(numbering)]
     fn statement(&mut self, statement: &Statement<'a>) -> Result<FlatStatement, AllocError>
         requires room { self.old.next + statement_words (statement_tree statement.now) < 2 ^ 32 }
+        requires compiled { IsCompiledStatement (statement_tree statement.now) }
         ensures statement { IfOk result (λ whole. flat_tree whole ≡ numbered.statement self.old.names self.old.next (statement_tree statement.now)) }
         ensures names { OnOk result (self.new.names ≡ numbered.names_after self.old.names self.old.next (statement_tree statement.now)) }
         ensures next { OnOk result (self.new.next ≡ self.old.next + statement_words (statement_tree statement.now)) }
     {
         match statement {
             Statement::Declare(declaration) => {
-                let value = self.term(&declaration.value)?;
+                let value = self.right(&declaration.value)?;
                 let word = WordType {
                     kind: declaration.kind,
                     label: declaration.label,
                 };
-                let variable = self.declare(declaration.name)?;
+                let variable = self.declare(declaration.name, declaration.kind)?;
                 Ok(FlatStatement::Declare(variable, word, value))
             }
             Statement::Assign(assignment) => {
-                let variable = self.number_of(assignment.name);
-                let value = self.term(&assignment.value)?;
+                let variable = self.numbered(assignment.name).number;
+                let value = self.right(&assignment.value)?;
                 Ok(FlatStatement::Assign(variable, value))
             }
             Statement::If(_, condition, accepted, otherwise) => {
@@ -159,6 +226,10 @@ impl<'a> Numbering<'a> {
                 let otherwise = self.arm(otherwise)?;
                 Ok(FlatStatement::Branch(condition, accepted, otherwise))
             }
+            Statement::DeclareArray(_)
+            | Statement::AssignElement(_)
+            | Statement::Call(_)
+            | Statement::For(_, _, _, _, _) => unreachable!(),
         }
     }
 
@@ -166,6 +237,7 @@ impl<'a> Numbering<'a> {
     #[cycle(numbering)]
     fn arm(&mut self, arm: &[Statement<'a>]) -> Result<Vec<FlatStatement>, AllocError>
         requires room { self.old.next + block_words (block_tree arm.now) < 2 ^ 32 }
+        requires compiled { IsCompiledBlock (block_tree arm.now) }
         ensures block { IfOk result (λ whole. flat_block whole.items ≡ numbered.block self.old.names self.old.next (block_tree arm.now)) }
         ensures names { OnOk result (self.new.names ≡ self.old.names) }
         ensures next { OnOk result (self.new.next ≡ self.old.next + block_words (block_tree arm.now)) }
@@ -180,6 +252,7 @@ impl<'a> Numbering<'a> {
     #[cycle(numbering)]
     pub fn block(&mut self, block: &[Statement<'a>]) -> Result<Vec<FlatStatement>, AllocError>
         requires room { self.old.next + block_words (block_tree block.now) < 2 ^ 32 }
+        requires compiled { IsCompiledBlock (block_tree block.now) }
         ensures block { IfOk result (λ whole. flat_block whole.items ≡ numbered.block self.old.names self.old.next (block_tree block.now)) }
         ensures names { OnOk result (self.new.names ≡ numbered.names_after_all self.old.names self.old.next (block_tree block.now)) }
         ensures next { OnOk result (self.new.next ≡ self.old.next + block_words (block_tree block.now)) }

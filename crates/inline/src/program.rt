@@ -1,4 +1,5 @@
 ghost use Rattle.std.specs.Prelude.{◌≡◌};
+ghost use Rattle.std.specs.Option.{option_map};
 ghost use Rattle.inline.specs.Flat.{FlatProgram, term_tree, flat_block};
 
 use crate::{FlatStatement, Term};
@@ -9,14 +10,15 @@ use syntax::{Param, WordType};
 #[derive(Debug, Drop)]
 pub struct Flat {
     parameters: Vec<Param>,
-    returned: WordType,
+    returned: Option<WordType>,
     nodes: u32,
     variables: u32,
     body: Vec<FlatStatement>,
-    value: Term,
+    value: Option<Term>,
 }
 
 impl Model for Flat {
+    ghost use Rattle.std.specs.Option.{option_map};
     ghost use Rattle.inline.specs.Codes.{coded_program};
     ghost use Rattle.inline.specs.Flat.{FlatProgram, term_tree, flat_block};
 
@@ -24,20 +26,20 @@ impl Model for Flat {
 
     ghost coded = { coded_program };
 
-    ghost view = { λ f. record { parameters = f.parameters.items; returned = f.returned; nodes = f.nodes; variables = f.variables; body = flat_block f.body.items; value = term_tree f.value } };
+    ghost view = { λ f. record { parameters = f.parameters.items; returned = f.returned; nodes = f.nodes; variables = f.variables; body = flat_block f.body.items; value = option_map term_tree f.value } };
 }
 
 impl Flat {
     /// A program of these parts.
     pub(crate) fn new(
         parameters: Vec<Param>,
-        returned: WordType,
+        returned: Option<WordType>,
         nodes: u32,
         variables: u32,
         body: Vec<FlatStatement>,
-        value: Term,
+        value: Option<Term>,
     ) -> Self
-        ensures { result ≡ record { parameters = parameters.items; returned = returned; nodes = nodes; variables = variables; body = flat_block body.items; value = term_tree value } }
+        ensures { result ≡ record { parameters = parameters.items; returned = returned; nodes = nodes; variables = variables; body = flat_block body.items; value = option_map term_tree value } }
     {
         Flat {
             parameters,
@@ -56,8 +58,8 @@ impl Flat {
         self.parameters.as_slice()
     }
 
-    /// The type of the result.
-    pub fn returned(&self) -> WordType
+    /// The type of the result, where there is one.
+    pub fn returned(&self) -> Option<WordType>
         ensures { result ≡ self.now.returned }
     {
         self.returned
@@ -84,10 +86,10 @@ impl Flat {
         self.body.as_slice()
     }
 
-    /// The result.
-    pub fn value(&self) -> &Term
-        ensures { term_tree result.now ≡ self.now.value }
+    /// The result, where there is one.
+    pub fn value(&self) -> Option<&Term>
+        ensures { option_map (λ term. term_tree term.now) result ≡ self.now.value }
     {
-        &self.value
+        self.value.as_ref()
     }
 }

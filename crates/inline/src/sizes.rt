@@ -1,12 +1,12 @@
 // The limits on a program's size.
 
-ghost use Rattle.std.specs.Prelude.{◌≡◌, ◌+◌, ◌-◌, ◌≤◌, ◌↔◌, length, IsTrue, IfOk, IfErr};
+ghost use Rattle.std.specs.Prelude.{◌≡◌, ◌+◌, ◌-◌, ◌≤◌, ◌↔◌, length, map, IsTrue, IfOk, IfErr};
 ghost use Rattle.std.specs.Option.{SomeIff};
 ghost use Rattle.syntax.specs.FirstViolation.{IsRefusedFor};
-ghost use Rattle.syntax.specs.Size.{nodes_in, statement_nodes, block_nodes, nodes_of, statement_words, block_words, size_violations};
-ghost use Rattle.syntax.specs.Tree.{expr_tree, statement_tree, block_tree, procedure_tree};
+ghost use Rattle.syntax.specs.Size.{nodes_in, nodes_in_all, nodes_passed, call_nodes, right_nodes, return_nodes, statement_nodes, block_nodes, nodes_of, array_words, element_bytes, held_words, parameter_words, statement_words, block_words, size_violations};
+ghost use Rattle.syntax.specs.Tree.{block_tree, call_tree, expr_tree, parameter_tree, procedure_tree, right_tree, statement_tree};
 
-use syntax::{Expr, Procedure, Refusal, Rule, Statement};
+use syntax::{Call, Expr, Form, Kind, Parameter, Procedure, Refusal, RightSide, Rule, Statement};
 
 /// The most nodes that a program may have.
 const MOST_NODES: u32 = 6000;
@@ -20,7 +20,11 @@ fn nodes_after(expr: &Expr<'_>, room: u32) -> Option<u32>
 {
     let room = room.checked_sub(1)?;
     match expr {
-        Expr::Number(_, _) | Expr::Truth(_, _) | Expr::Name(_, _) => Some(room),
+        Expr::Number(_, _, _) | Expr::Truth(_, _) | Expr::Name(_, _) => Some(room),
+        Expr::Prefix(_, _, operand)
+        | Expr::Rotate(_, operand, _)
+        | Expr::Convert(_, _, operand)
+        | Expr::Element(_, _, _, operand) => nodes_after(operand, room),
         Expr::Binary(_, _, left, right) => nodes_after(right, nodes_after(left, room)?),
         Expr::Select(_, condition, accepted, otherwise) => {
             let room = nodes_after(accepted, nodes_after(condition, room)?)?;
@@ -29,18 +33,73 @@ fn nodes_after(expr: &Expr<'_>, room: u32) -> Option<u32>
     }
 }
 
+/// How much room for nodes the first values of an array leave, where they fit.
+fn nodes_after_values(values: &[Expr<'_>], room: u32) -> Option<u32>
+    ensures { SomeIff result (nodes_in_all (map expr_tree values.now) ≤ room) (room - nodes_in_all (map expr_tree values.now)) }
+{
+    let mut left = room;
+    for value in values {
+        left = nodes_after(value, left)?;
+    }
+    Some(left)
+}
+
+/// How much room for nodes arguments leave, where they fit: each is put into a parameter.
+fn nodes_after_passed(arguments: &[Expr<'_>], room: u32) -> Option<u32>
+    ensures { SomeIff result (nodes_passed (map expr_tree arguments.now) ≤ room) (room - nodes_passed (map expr_tree arguments.now)) }
+{
+    let mut left = room;
+    for argument in arguments {
+        left = nodes_after(argument, left)?.checked_sub(1)?;
+    }
+    Some(left)
+}
+
+/// How much room for nodes a call leaves, where it fits.
+fn nodes_after_call(call: &Call<'_>, room: u32) -> Option<u32>
+    ensures { SomeIff result (call_nodes (call_tree call.now) ≤ room) (room - call_nodes (call_tree call.now)) }
+{
+    nodes_after_passed(&call.arguments, room.checked_sub(1)?)
+}
+
+/// How much room for nodes a right side leaves, where it fits.
+fn nodes_after_right(right: &RightSide<'_>, room: u32) -> Option<u32>
+    ensures { SomeIff result (right_nodes (right_tree right.now) ≤ room) (room - right_nodes (right_tree right.now)) }
+{
+    match right {
+        RightSide::Value(expr) => nodes_after(expr, room),
+        RightSide::Call(call) => nodes_after_call(call, room),
+    }
+}
+
 /// How much room for nodes a statement leaves, where it fits.
 #[cycle(nodes)]
 fn nodes_after_statement(statement: &Statement<'_>, room: u32) -> Option<u32>
     ensures { SomeIff result (statement_nodes (statement_tree statement.now) ≤ room) (room - statement_nodes (statement_tree statement.now)) }
 {
+    if let Statement::Call(call) = statement {
+        return nodes_after_call(call, room);
+    }
     let room = room.checked_sub(1)?;
     match statement {
-        Statement::Declare(declaration) => nodes_after(&declaration.value, room),
-        Statement::Assign(assignment) => nodes_after(&assignment.value, room),
+        Statement::Declare(declaration) => nodes_after_right(&declaration.value, room),
+        Statement::DeclareArray(array) => match &array.values {
+            Some(values) => nodes_after_values(values, room),
+            None => Some(room),
+        },
+        Statement::Assign(assignment) => nodes_after_right(&assignment.value, room),
+        Statement::AssignElement(assignment) => {
+            let room = nodes_after(&assignment.index, room.checked_sub(1)?)?;
+            nodes_after_right(&assignment.value, room)
+        }
+        Statement::Call(_) => unreachable!(),
         Statement::If(_, condition, accepted, otherwise) => {
             let room = nodes_after_block(accepted, nodes_after(condition, room)?)?;
             nodes_after_block(otherwise, room)
+        }
+        Statement::For(_, _, low, high, body) => {
+            let room = nodes_after(high, nodes_after(low, room)?)?;
+            nodes_after_block(body, room)
         }
     }
 }
@@ -57,6 +116,18 @@ fn nodes_after_block(block: &[Statement<'_>], room: u32) -> Option<u32>
     Some(left)
 }
 
+/// How many words an array takes: the last may be taken in part.
+fn words_of_array(kind: Kind, length: u16) -> usize
+    ensures { result ≡ array_words kind length }
+{
+    let element_bytes = match kind {
+        Kind::Boolean | Kind::Uint8 => 1,
+        Kind::Uint16 => 2,
+        Kind::Uint32 => 4,
+    };
+    (usize::from(length) * element_bytes).div_ceil(4)
+}
+
 /// How much room for declared words a statement leaves, where it fits.
 #[cycle(words)]
 fn words_after_statement(statement: &Statement<'_>, room: usize) -> Option<usize>
@@ -64,10 +135,14 @@ fn words_after_statement(statement: &Statement<'_>, room: usize) -> Option<usize
 {
     match statement {
         Statement::Declare(_) => room.checked_sub(1),
-        Statement::Assign(_) => Some(room),
+        Statement::DeclareArray(array) => {
+            room.checked_sub(words_of_array(array.kind, array.length))
+        }
+        Statement::Assign(_) | Statement::AssignElement(_) | Statement::Call(_) => Some(room),
         Statement::If(_, _, accepted, otherwise) => {
             words_after_block(otherwise, words_after_block(accepted, room)?)
         }
+        Statement::For(_, _, _, _, body) => words_after_block(body, room.checked_sub(1)?),
     }
 }
 
@@ -83,29 +158,56 @@ fn words_after_block(block: &[Statement<'_>], room: usize) -> Option<usize>
     Some(left)
 }
 
+/// How much room for words some parameters leave, where they fit.
+fn words_after_parameters(parameters: &[Parameter<'_>], room: usize) -> Option<usize>
+    ensures { SomeIff result (parameter_words (map parameter_tree parameters.now) ≤ room) (room - parameter_words (map parameter_tree parameters.now)) }
+{
+    let mut left = room;
+    for parameter in parameters {
+        let words = match parameter.form {
+            Form::SingleWord => 1,
+            Form::FixedArray | Form::MutableArray => {
+                words_of_array(parameter.kind, parameter.length)
+            }
+        };
+        left = left.checked_sub(words)?;
+    }
+    Some(left)
+}
+
 /// Whether a procedure declares no more words than allowed.
 fn words_fit(export: &Procedure<'_>) -> bool
-    ensures { IsTrue result ↔ (length export.now.parameters.items + block_words (block_tree export.now.body.items) ≤ 8192) }
+    ensures { IsTrue result ↔ (parameter_words (map parameter_tree export.now.parameters.items) + block_words (block_tree export.now.body.items) ≤ 8192) }
 {
-    let Some(room) = MOST_WORDS.checked_sub(export.parameters.len()) else {
+    let Some(room) = words_after_parameters(&export.parameters, MOST_WORDS) else {
         return false;
     };
     words_after_block(&export.body, room).is_some()
+}
+
+/// How much room for nodes a procedure leaves, where it fits.
+fn nodes_after_procedure(export: &Procedure<'_>) -> Option<u32>
+    ensures { SomeIff result (nodes_of (procedure_tree export.now) ≤ 6000) (6000 - nodes_of (procedure_tree export.now)) }
+{
+    let room = nodes_after_block(&export.body, MOST_NODES)?;
+    match &export.returned {
+        Some(returned) => nodes_after(&returned.value, room.checked_sub(1)?),
+        None => Some(room),
+    }
 }
 
 /// How many nodes a procedure has, where they are no more than allowed.
 fn nodes_within(export: &Procedure<'_>) -> Option<u32>
     ensures { SomeIff result (nodes_of (procedure_tree export.now) ≤ 6000) (nodes_of (procedure_tree export.now)) }
 {
-    let room = nodes_after_block(&export.body, MOST_NODES)?.checked_sub(1)?;
-    Some(MOST_NODES - nodes_after(&export.value, room)?)
+    Some(MOST_NODES - nodes_after_procedure(export)?)
 }
 
 /// How many nodes a procedure has, where it passes no limit; else the first that it passes.
 pub fn measure(export: &Procedure<'_>) -> Result<u32, Refusal>
     ensures nodes { IfOk result (λ nodes. nodes ≡ nodes_of (procedure_tree export.now)) }
     ensures most_nodes { IfOk result (λ nodes. nodes ≤ 6000) }
-    ensures most_words { IfOk result (λ _. length export.now.parameters.items + block_words (block_tree export.now.body.items) ≤ 8192) }
+    ensures most_words { IfOk result (λ _. parameter_words (map parameter_tree export.now.parameters.items) + block_words (block_tree export.now.body.items) ≤ 8192) }
     ensures within { IfOk result (λ _. length (size_violations (procedure_tree export.now)) ≡ 0) }
     ensures refused { IfErr result (λ refusal. IsRefusedFor (size_violations (procedure_tree export.now)) refusal.rule refusal.place) }
 {

@@ -1,2 +1,5 @@
 mod SoonerLemmas
+mod TypeLemmas
+mod RuleLemmas
+mod ClashLemmas
 mod TreeLemmas

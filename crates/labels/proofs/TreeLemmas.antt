@@ -1,18 +1,22 @@
--- The tree of a conditional, by the lists of its arms; and an arm's names are gone after it.
+-- The trees of conditionals and loops, by the lists of their statements; and their names are gone after them.
 use Rattle.std.proofs.lemmas.List.Sums.{fold-append}
-use Rattle.std.proofs.Common.{◌≡◌, Bool, Option, Result, Ok, Err, OnOk, fold, true, false, List, [], ◌∷◌, ◌++◌, Vec, Global, length, take, is_some, refl, sym, ap, ap₂, ◌∙◌}
+use Rattle.std.proofs.Common.{◌≡◌, Bool, Option, Result, Ok, Err, OnOk, fold, true, false, ◌||◌, List, [], ◌∷◌, ◌++◌, Vec, Global, length, take, is_some, refl, sym, ap, ap₂, ◌∙◌}
 use Rattle.std.proofs.lemmas.List.{append_assoc, append-nil}
 use Rattle.std.proofs.Math.Seq.{take-append_seam}
 use mathlib.Core.Former.{Count}
 use Rattle.word.specs.declared.place.Place.{Place}
+use Rattle.syntax.specs.declared.rule.Rule.TheVariants.{NameDeclaredTwice}
+use Rattle.syntax.specs.declared.tree.Counter.{Counter}
 use Rattle.syntax.specs.declared.tree.Expr.{Expr}
-use Rattle.syntax.specs.declared.tree.Statement.{Statement, If, If', Row_of-Statement, end_of-Statement, more_of-Statement, items-the_row-Statement, items_hidden-the_row-Statement-0}
+use Rattle.syntax.specs.declared.tree.Statement.{Statement, If, If', For, For', Row_of-Statement, end_of-Statement, more_of-Statement, items-the_row-Statement, items_hidden-the_row-Statement-0}
 use Rattle.syntax.specs.declared.typing.Declared.{Declared}
-use Rattle.syntax.specs.Tree.{expr_tree, statement_tree, row_tree, block_tree, StatementTree, declaration, assignment, conditional, BlockTree, nothing, first}
+use Rattle.syntax.specs.Tree.{expr_tree, statement_tree, row_tree, block_tree, StatementTree, declaration, array, assignment, element_assignment, call, conditional, loop, BlockTree, nothing, first, ParameterTree, ProcedureTree}
 use Rattle.syntax.specs.declared.signature.Label.{Label}
 use Rattle.syntax.specs.declared.typing.Violation.{Violation}
-use Rattle.syntax.specs.declared.typing.WordType.{WordType}
-use Rattle.syntax.specs.Typing.{Scope, at, block_violations, condition_rules, control_under, declared, declared_as, expr_violations, found, scope_after, scope_after_all, statement_violations, type_of}
+use Rattle.syntax.specs.declared.typing.ValueType.{ValueType}
+use Rattle.syntax.specs.ExprTyping.{expr_violations, type_of}
+use Rattle.syntax.specs.Types.{Scope, at, declared, found, of_one, of_two, when}
+use Rattle.syntax.specs.Typing.{block_assigns, block_violations, bounds_rules, condition_rules, control_under, counter_as, declared_array, declared_as, parameter_as, scope_after, scope_after_all, statement_assigns, statement_violations, with_parameters}
 use Rattle.labels.specs.Sooner.{sooner}
 
 rows : (n : _) (row : Row_of-Statement n) → row_tree row ≡ block_tree (items-the_row-Statement n row)
@@ -21,6 +25,7 @@ rows n (more_of-Statement s rest) = ap (first (statement_tree s)) (rows _ rest)
 
 abbrev arms : Statement → ((n : Count) × Row_of-Statement n) × ((n : Count) × Row_of-Statement n)
 arms (If' place condition shape accepted shape' otherwise) = ((_, accepted), (_, otherwise))
+arms (For' place counter low high shape body) = ((_, body), (_, end_of-Statement))
 arms _ = ((_, end_of-Statement), (_, end_of-Statement))
 
 pub conditional_tree : (place : Place) (condition : Expr) (accepted otherwise : Vec Statement Global) →
@@ -31,8 +36,15 @@ conditional_tree place condition accepted otherwise =
     (rows both.0.0 both.0.1 ∙ ap block_tree (items_hidden-the_row-Statement-0 accepted))
     (rows both.1.0 both.1.1 ∙ ap block_tree (items_hidden-the_row-Statement-0 otherwise))
 
+pub loop_tree : (place : Place) (counter : Counter) (low high : Expr) (body : Vec Statement Global) →
+    statement_tree (For place counter low high body) ≡ loop place counter.place counter.name.now (expr_tree low) (expr_tree high) (block_tree body.items)
+loop_tree place counter low high body =
+    let both = arms (For place counter low high body) in
+    ap (loop place counter.place counter.name.now (expr_tree low) (expr_tree high))
+    (rows both.0.0 both.0.1 ∙ ap block_tree (items_hidden-the_row-Statement-0 body))
+
 -- a declaration only appends
-declared_more : (scope : Scope) (text : List _) (what : Declared) → (more : Scope) × (declared scope text what ≡ scope ++ more)
+pub declared_more : (scope : Scope) (text : List _) (what : Declared) → (more : Scope) × (declared scope text what ≡ scope ++ more)
 declared_more scope text what = by (is_some (found scope text)) refl
   where
     by : (b : Bool) → is_some (found scope text) ≡ b → (more : Scope) × (declared scope text what ≡ scope ++ more)
@@ -40,11 +52,15 @@ declared_more scope text what = by (is_some (found scope text)) refl
     by false is = rw is ((text, what) ∷ [], refl)
 
 after_more : (scope : Scope) (s : StatementTree) → (more : Scope) × (scope_after scope s ≡ scope ++ more)
-after_more scope (declaration place label mutable kind text value) = declared_more scope text (declared_as label mutable kind)
-after_more scope (assignment place target text value) = ([], sym (append-nil scope))
+after_more scope (declaration place label mutable kind text right) = declared_more scope text (declared_as label mutable kind)
+after_more scope (array place label mutable kind size text values) = declared_more scope text (declared_array label mutable kind size)
+after_more scope (assignment place target text right) = ([], sym (append-nil scope))
+after_more scope (element_assignment place bracket target text index right) = ([], sym (append-nil scope))
+after_more scope (call c) = ([], sym (append-nil scope))
 after_more scope (conditional place condition accepted otherwise) = ([], sym (append-nil scope))
+after_more scope (loop place counter text low high body) = ([], sym (append-nil scope))
 
-all_more : (b : BlockTree) (scope : Scope) → (more : Scope) × (scope_after_all scope b ≡ scope ++ more)
+pub all_more : (b : BlockTree) (scope : Scope) → (more : Scope) × (scope_after_all scope b ≡ scope ++ more)
 all_more nothing scope = ([], sym (append-nil scope))
 all_more (first s rest) scope =
     let one = after_more scope s in
@@ -57,31 +73,102 @@ scope_before scope b =
     let after = all_more b scope in
     ap (take (length scope)) after.1 ∙ take-append_seam scope after.0
 
+-- so are those before a loop
+pub scope_before_turns : (scope : Scope) (text : List _) (what : Declared) (b : BlockTree) → take (length scope) (scope_after_all (declared scope text what) b) ≡ scope
+scope_before_turns scope text what b =
+    let one = declared_more scope text what in
+    let others = all_more b (declared scope text what) in
+    ap (take (length scope)) (others.1 ∙ ap (λ front. front ++ others.0) one.1 ∙ append_assoc scope one.0 others.0)
+    ∙ take-append_seam scope (one.0 ++ others.0)
+
+-- parameters only append too
+parameters_more : (ps : List ParameterTree) (scope : Scope) → (more : Scope) × (with_parameters scope ps ≡ scope ++ more)
+parameters_more [] scope = ([], sym (append-nil scope))
+parameters_more (p ∷ ps) scope =
+    let one = declared_more scope p.name (parameter_as p) in
+    let others = parameters_more ps (declared scope p.name (parameter_as p)) in
+    (one.0 ++ others.0, others.1 ∙ ap (λ front. front ++ others.0) one.1 ∙ append_assoc scope one.0 others.0)
+
+-- so the names before the parameters are the earliest of those after the body
+pub scope_before_body : (scope : Scope) (ps : List ParameterTree) (b : BlockTree) → take (length scope) (scope_after_all (with_parameters scope ps) b) ≡ scope
+scope_before_body scope ps b =
+    let one = parameters_more ps scope in
+    let others = all_more b (with_parameters scope ps) in
+    ap (take (length scope)) (others.1 ∙ ap (λ front. front ++ others.0) one.1 ∙ append_assoc scope one.0 others.0)
+    ∙ take-append_seam scope (one.0 ++ others.0)
+
+-- whether a conditional or a loop may assign to something public, by the lists of its statements
+pub conditional_assigns : (scope : Scope) (statement : Statement) (place : Place) (condition : Expr) (accepted otherwise : Vec Statement Global) (ones others : List Statement) → statement ≡ If place condition accepted otherwise → ones ≡ accepted.items → others ≡ otherwise.items →
+    (block_assigns scope (block_tree ones) || block_assigns scope (block_tree others)) ≡ statement_assigns scope (statement_tree statement)
+conditional_assigns scope statement place condition accepted otherwise ones others is first_arm second_arm =
+    ap₂ (λ a b. block_assigns scope (block_tree a) || block_assigns scope (block_tree b)) first_arm second_arm
+    ∙ sym (ap (statement_assigns scope) (ap statement_tree is ∙ conditional_tree place condition accepted otherwise))
+
+pub loop_assigns : (scope : Scope) (statement : Statement) (place : Place) (counter : Counter) (low high : Expr) (body : Vec Statement Global) (ones : List Statement) → statement ≡ For place counter low high body → ones ≡ body.items →
+    block_assigns scope (block_tree ones) ≡ statement_assigns scope (statement_tree statement)
+loop_assigns scope statement place counter low high body ones is items =
+    ap (λ a. block_assigns scope (block_tree a)) items
+    ∙ sym (ap (statement_assigns scope) (ap statement_tree is ∙ loop_tree place counter low high body))
+
+pub first_does : (result one other : Bool) → result ≡ one → result ≡ true → result ≡ (one || other)
+first_does result true other same does = same
+first_does result false other same does = cc
+
+pub second_does : (result none one other : Bool) → none ≡ one → none ≡ false → result ≡ other → result ≡ (one || other)
+second_does result none true other fails does_not same = cc
+second_does result none false other fails does_not same = same
+
 -- what a conditional violates, by the lists of its arms
-pub conditional_violations : (seen : Option Violation) (scope : Scope) (control : Label) (statement : Statement) (place : Place) (condition : Expr) (accepted otherwise : Vec Statement Global) → statement ≡ If place condition accepted otherwise →
-    fold sooner seen (statement_violations scope control (statement_tree statement))
+conditional_violations : (seen : Option Violation) (earlier : List ProcedureTree) (scope : Scope) (control : Label) (statement : Statement) (place : Place) (condition : Expr) (accepted otherwise : Vec Statement Global) → statement ≡ If place condition accepted otherwise →
+    fold sooner seen (statement_violations earlier scope control (statement_tree statement))
     ≡ fold sooner (fold sooner (fold sooner (fold sooner seen (expr_violations scope (expr_tree condition)))
-    (at place (condition_rules (type_of scope (expr_tree condition)))))
-    (block_violations scope (control_under control (type_of scope (expr_tree condition))) (block_tree accepted.items)))
-    (block_violations scope (control_under control (type_of scope (expr_tree condition))) (block_tree otherwise.items))
-conditional_violations seen scope control statement place condition accepted otherwise is =
+    (at place (of_one [] condition_rules (type_of scope (expr_tree condition)))))
+    (block_violations earlier scope (control_under control (type_of scope (expr_tree condition))) (block_tree accepted.items)))
+    (block_violations earlier scope (control_under control (type_of scope (expr_tree condition))) (block_tree otherwise.items))
+conditional_violations seen earlier scope control statement place condition accepted otherwise is =
     let e = expr_violations scope (expr_tree condition) in
-    let r = at place (condition_rules (type_of scope (expr_tree condition))) in
+    let r = at place (of_one [] condition_rules (type_of scope (expr_tree condition))) in
     let under = control_under control (type_of scope (expr_tree condition)) in
-    let a = block_violations scope under (block_tree accepted.items) in
-    let o = block_violations scope under (block_tree otherwise.items) in
-    ap (λ s. fold sooner seen (statement_violations scope control s)) (ap statement_tree is ∙ conditional_tree place condition accepted otherwise)
+    let a = block_violations earlier scope under (block_tree accepted.items) in
+    let o = block_violations earlier scope under (block_tree otherwise.items) in
+    ap (λ s. fold sooner seen (statement_violations earlier scope control s)) (ap statement_tree is ∙ conditional_tree place condition accepted otherwise)
     ∙ (fold-append sooner seen (e ++ r ++ a) o
     ∙ ap (λ first. fold sooner first o) (fold-append sooner seen (e ++ r) a ∙ ap (λ first. fold sooner first a) (fold-append sooner seen e r)))
 
 -- the same, from what each part has noted: the condition, what is asked of it, and both arms
-pub conditional_seen : (seen of_condition noted of_accepted of_both : Option Violation) (scope between : Scope) (control under : Label) (type : Option WordType) (statement : Statement) (place : Place) (condition : Expr) (accepted otherwise : Vec Statement Global) (ones others : List Statement) → statement ≡ If place condition accepted otherwise → ones ≡ accepted.items → others ≡ otherwise.items →
+pub conditional_seen : (seen of_condition noted of_accepted of_both : Option Violation) (earlier : List ProcedureTree) (scope between : Scope) (control under : Label) (type : Option ValueType) (statement : Statement) (place : Place) (condition : Expr) (accepted otherwise : Vec Statement Global) (ones others : List Statement) → statement ≡ If place condition accepted otherwise → ones ≡ accepted.items → others ≡ otherwise.items →
     type ≡ type_of scope (expr_tree condition) → under ≡ control_under control type → between ≡ scope →
-    of_condition ≡ fold sooner seen (expr_violations scope (expr_tree condition)) → noted ≡ fold sooner of_condition (at place (condition_rules type)) →
-    of_accepted ≡ fold sooner noted (block_violations scope under (block_tree ones)) → of_both ≡ fold sooner of_accepted (block_violations between under (block_tree others)) →
-    of_both ≡ fold sooner seen (statement_violations scope control (statement_tree statement))
-conditional_seen seen of_condition noted of_accepted of_both scope between control under type statement place condition accepted otherwise ones others is first_arm second_arm typed label same e n a o =
-    let whole = conditional_violations seen scope control statement place condition accepted otherwise is in cc
+    of_condition ≡ fold sooner seen (expr_violations scope (expr_tree condition)) → noted ≡ fold sooner of_condition (at place (of_one [] condition_rules type)) →
+    of_accepted ≡ fold sooner noted (block_violations earlier scope under (block_tree ones)) → of_both ≡ fold sooner of_accepted (block_violations earlier between under (block_tree others)) →
+    of_both ≡ fold sooner seen (statement_violations earlier scope control (statement_tree statement))
+conditional_seen seen of_condition noted of_accepted of_both earlier scope between control under type statement place condition accepted otherwise ones others is first_arm second_arm typed label same e n a o =
+    let whole = conditional_violations seen earlier scope control statement place condition accepted otherwise is in cc
+
+-- what a loop violates, by the list of its body
+loop_violations : (seen : Option Violation) (earlier : List ProcedureTree) (scope : Scope) (control : Label) (statement : Statement) (place : Place) (counter : Counter) (low high : Expr) (body : Vec Statement Global) → statement ≡ For place counter low high body →
+    fold sooner seen (statement_violations earlier scope control (statement_tree statement))
+    ≡ fold sooner (fold sooner (fold sooner (fold sooner seen (expr_violations scope (expr_tree low))) (expr_violations scope (expr_tree high)))
+    (at place (of_two [] bounds_rules (type_of scope (expr_tree low)) (type_of scope (expr_tree high)))))
+    (at counter.place (when (is_some (found scope counter.name.now)) NameDeclaredTwice) ++ block_violations earlier (declared scope counter.name.now counter_as) control (block_tree body.items))
+loop_violations seen earlier scope control statement place counter low high body is =
+    let l = expr_violations scope (expr_tree low) in
+    let h = expr_violations scope (expr_tree high) in
+    let r = at place (of_two [] bounds_rules (type_of scope (expr_tree low)) (type_of scope (expr_tree high))) in
+    let t = at counter.place (when (is_some (found scope counter.name.now)) NameDeclaredTwice) ++ block_violations earlier (declared scope counter.name.now counter_as) control (block_tree body.items) in
+    ap (λ s. fold sooner seen (statement_violations earlier scope control s)) (ap statement_tree is ∙ loop_tree place counter low high body)
+    ∙ ap (fold sooner seen) (append_assoc (l ++ h ++ r) (at counter.place (when (is_some (found scope counter.name.now)) NameDeclaredTwice)) (block_violations earlier (declared scope counter.name.now counter_as) control (block_tree body.items)))
+    ∙ (fold-append sooner seen (l ++ h ++ r) t
+    ∙ ap (λ first. fold sooner first t) (fold-append sooner seen (l ++ h) r ∙ ap (λ first. fold sooner first r) (fold-append sooner seen l h)))
+
+-- the same, from what each part has noted: the bounds, what is asked of them, and the turns
+pub loop_seen : (seen of_low of_high noted of_turns : Option Violation) (earlier : List ProcedureTree) (scope : Scope) (control : Label) (lower upper : Option ValueType) (statement : Statement) (place : Place) (counter : Counter) (low high : Expr) (body : Vec Statement Global) (ones : List Statement) → statement ≡ For place counter low high body → ones ≡ body.items →
+    lower ≡ type_of scope (expr_tree low) → upper ≡ type_of scope (expr_tree high) →
+    of_low ≡ fold sooner seen (expr_violations scope (expr_tree low)) → of_high ≡ fold sooner of_low (expr_violations scope (expr_tree high)) →
+    noted ≡ fold sooner of_high (at place (of_two [] bounds_rules lower upper)) →
+    of_turns ≡ fold sooner noted (at counter.place (when (is_some (found scope counter.name.now)) NameDeclaredTwice) ++ block_violations earlier (declared scope counter.name.now counter_as) control (block_tree ones)) →
+    of_turns ≡ fold sooner seen (statement_violations earlier scope control (statement_tree statement))
+loop_seen seen of_low of_high noted of_turns earlier scope control lower upper statement place counter low high body ones is items typed typed' l h n t =
+    let whole = loop_violations seen earlier scope control statement place counter low high body is in cc
 
 -- what holds on success follows from what does
 pub on_ok : {T E P Q : Type 0} (result : Result T E) → (P → Q) → OnOk result P → OnOk result Q

@@ -1,1 +1,2 @@
 pub mod Sooner
+pub mod Written

@@ -1,18 +1,14 @@
-ghost use Rattle.std.specs.Prelude.{◌≡◌, None, fold, length, map, IfOk, IfErr, OnOk};
+ghost use Rattle.std.specs.Prelude.{◌≡◌, None, [], fold, length, map, IfOk, IfErr, OnOk};
 ghost use Rattle.syntax.specs.FirstViolation.{IsRefusedFor};
-ghost use Rattle.syntax.specs.Tree.{parameter_tree, procedure_tree, program_tree};
-ghost use Rattle.syntax.specs.Typing.{at, return_rules, parameter_violations, with_parameters, procedure_violations, violations};
+ghost use Rattle.syntax.specs.Tree.{procedure_tree, program_tree};
+ghost use Rattle.syntax.specs.Typing.{export_violations, exports, procedures_violations, violations};
 ghost use Rattle.labels.specs.Sooner.{sooner};
 
-use crate::expressions::expression;
 use crate::first::First;
-use crate::statements::{note_value, statements};
+use crate::procedures::procedure;
 use names::Names;
 use std::alloc::{AllocError, Global};
-use syntax::{
-    Declared, Label, Parameter, Place, Procedure, Program, Refusal, Rule, VariableType, Violation,
-    WordType,
-};
+use syntax::{Place, Procedure, Program, Refusal, Rule, Violation};
 
 /// A program whose every node is well typed.
 #[derive(Drop)]
@@ -31,54 +27,32 @@ impl<'p, 'a> Checked<'p, 'a> {
     }
 }
 
-/// Declares the parameters, and notes the names that are taken.
-fn parameters<'a>(
+/// Notes that no procedure is exported, or which further ones are.
+fn note_exports(first: &mut First, procedures: &[Procedure<'_>])
+    ensures { first.new.seen ≡ fold sooner first.old.seen (export_violations (exports (map procedure_tree procedures.now))) }
+{
+    let mut exported = false;
+    for procedure in procedures {
+        if let Some(place) = procedure.export {
+            first.note_if(exported, place, Rule::NotExactlyOneExport);
+            exported = true;
+        }
+    }
+    first.note_if(!exported, Place::ORIGIN, Rule::NotExactlyOneExport);
+}
+
+/// Notes what the procedures violate.
+fn note_procedures(
+    alloc: Global,
     first: &mut First,
-    names: &mut Names<'a, Declared>,
-    parameters: &[Parameter<'a>],
+    procedures: &[Procedure<'_>],
 ) -> Result<(), AllocError>
-    ensures names { OnOk result (names.new ≡ with_parameters names.old (map parameter_tree parameters.now)) }
-    ensures first { OnOk result (first.new.seen ≡ fold sooner first.old.seen (parameter_violations names.old (map parameter_tree parameters.now))) }
-{
-    for parameter in parameters {
-        let word = WordType {
-            kind: parameter.kind,
-            label: parameter.label,
-        };
-        let variable = VariableType {
-            word,
-            mutable: false,
-        };
-        let taken = names.declare(parameter.name, Declared::Variable(variable))?;
-        first.note_if(taken, parameter.place, Rule::NameDeclaredTwice);
-    }
-    Ok(())
-}
-
-/// Notes what a returned value violates, where it is well typed.
-fn returned(first: &mut First, place: Place, wanted: WordType, value: Option<WordType>)
-    ensures { first.new.seen ≡ fold sooner first.old.seen (at place (return_rules wanted value)) }
-{
-    if let Some(value) = value {
-        note_value(first, place, wanted, value);
-    }
-}
-
-/// Notes what a procedure violates.
-fn procedure(alloc: Global, first: &mut First, procedure: &Procedure<'_>) -> Result<(), AllocError>
-    ensures { OnOk result (first.new.seen ≡ fold sooner first.old.seen (procedure_violations (procedure_tree procedure.now))) }
+    ensures { OnOk result (first.new.seen ≡ fold sooner first.old.seen (procedures_violations [] [] (map procedure_tree procedures.now))) }
 {
     let mut names = Names::new(alloc);
-    names.declare(procedure.name, Declared::Procedure)?;
-    parameters(first, &mut names, procedure.parameters.as_slice())?;
-    let body = procedure.body.as_slice();
-    statements(first, &mut names, Label::Public, body)?;
-    let value = expression(first, &names, &procedure.value);
-    let wanted = WordType {
-        kind: procedure.kind,
-        label: procedure.label,
-    };
-    returned(first, procedure.return_place, wanted, value);
+    for (index, it) in procedures.iter().enumerate() {
+        procedure(alloc, first, &mut names, &procedures[..index], it)?;
+    }
     Ok(())
 }
 
@@ -87,10 +61,9 @@ fn first_violation(alloc: Global, program: &Program<'_>) -> Result<Option<Violat
     ensures { IfOk result (λ first. first ≡ fold sooner None (violations (program_tree program.now))) }
 {
     let mut first = First { seen: None };
-    match &program.export {
-        Some(export) => procedure(alloc, &mut first, export)?,
-        None => first.note_if(true, Place::ORIGIN, Rule::NotExactlyOneExport),
-    }
+    let procedures = program.procedures.as_slice();
+    note_exports(&mut first, procedures);
+    note_procedures(alloc, &mut first, procedures)?;
     Ok(first.seen)
 }
 

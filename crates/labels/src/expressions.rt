@@ -1,64 +1,31 @@
-ghost use Rattle.std.specs.Prelude.{◌≡◌, fold};
+ghost use Rattle.std.specs.Prelude.{◌≡◌, fold, length, map, IfOk, IfSome, OnOk};
+ghost use Rattle.std.specs.Option.{option_map};
+ghost use Rattle.syntax.specs.ExprTyping.{expr_violations, exprs_violations, name_rules, name_type, type_of, types_of};
 ghost use Rattle.syntax.specs.Tree.{expr_tree};
-ghost use Rattle.syntax.specs.Typing.{at, of_two, of_three, binary_rules, select_rules, type_of, type_of_two, type_of_three, expr_violations};
+ghost use Rattle.syntax.specs.Types.{at};
 ghost use Rattle.labels.specs.Sooner.{sooner};
 
 use crate::first::First;
-use crate::kinds::{are_alike, is_number, join, number, truth, variable_type, widths_differ};
+use crate::kinds::variable;
+use crate::nodes::{binary, choice, convert, element, number, prefix, rotate};
+use crate::types::word;
 use names::Names;
-use syntax::{Declared, Expr, Place, Rule, WordType};
+use std::alloc::{AllocError, Global};
+use syntax::{Declared, Expr, Kind, Label, Place, Rule, ValueType};
 
-/// Notes what an operator between two operands violates, and gives its type where it is well typed.
-fn binary(
+/// Notes a name that is no variable's, and gives the type of the variable.
+pub fn name(
     first: &mut First,
+    names: &Names<'_, Declared>,
     place: Place,
-    left: Option<WordType>,
-    right: Option<WordType>,
-) -> Option<WordType>
-    ensures typed { result ≡ type_of_two left right }
-    ensures first { first.new.seen ≡ fold sooner first.old.seen (at place (of_two binary_rules left right)) }
+    text: &str,
+) -> Option<ValueType>
+    ensures typed { result ≡ name_type names.now text.now }
+    ensures first { first.new.seen ≡ fold sooner first.old.seen (at place (name_rules names.now text.now)) }
 {
-    let (Some(left), Some(right)) = (left, right) else {
-        return None;
-    };
-    let uneven = widths_differ(left.kind, right.kind);
-    let wrong = !(is_number(left.kind) && is_number(right.kind));
-    first.note_if(uneven, place, Rule::WidthsDiffer);
-    first.note_if(wrong, place, Rule::WrongKind);
-    if uneven || wrong {
-        return None;
-    }
-    Some(WordType {
-        kind: left.kind,
-        label: join(left.label, right.label),
-    })
-}
-
-/// Notes what a choice between two operands violates, and gives its type where it is well typed.
-fn choice(
-    first: &mut First,
-    place: Place,
-    condition: Option<WordType>,
-    accepted: Option<WordType>,
-    otherwise: Option<WordType>,
-) -> Option<WordType>
-    ensures typed { result ≡ type_of_three condition accepted otherwise }
-    ensures first { first.new.seen ≡ fold sooner first.old.seen (at place (of_three select_rules condition accepted otherwise)) }
-{
-    let (Some(condition), Some(accepted), Some(otherwise)) = (condition, accepted, otherwise) else {
-        return None;
-    };
-    let uneven = widths_differ(accepted.kind, otherwise.kind);
-    let wrong = is_number(condition.kind) || !are_alike(accepted.kind, otherwise.kind);
-    first.note_if(uneven, place, Rule::WidthsDiffer);
-    first.note_if(wrong, place, Rule::WrongKind);
-    if uneven || wrong {
-        return None;
-    }
-    Some(WordType {
-        kind: accepted.kind,
-        label: join(condition.label, join(accepted.label, otherwise.label)),
-    })
+    let variable = variable(names.find(text));
+    first.note_if(variable.is_none(), place, Rule::UndeclaredName);
+    Some(variable?.value)
 }
 
 /// Notes what an expression's nodes violate, and gives its type where it is well typed.
@@ -66,22 +33,30 @@ pub fn expression(
     first: &mut First,
     names: &Names<'_, Declared>,
     expr: &Expr<'_>,
-) -> Option<WordType>
+) -> Option<ValueType>
     ensures typed { result ≡ type_of names.now (expr_tree expr.now) }
     ensures first { first.new.seen ≡ fold sooner first.old.seen (expr_violations names.now (expr_tree expr.now)) }
 {
     match expr {
-        Expr::Number(_, _) => Some(number()),
-        Expr::Truth(_, _) => Some(truth()),
-        Expr::Name(place, text) => {
-            let word = variable_type(names.find(text));
-            first.note_if(word.is_none(), *place, Rule::UndeclaredName);
-            word
+        Expr::Number(place, value, kind) => number(first, *place, *value, *kind),
+        Expr::Truth(_, _) => Some(word(Kind::Boolean, Label::Public)),
+        Expr::Name(place, text) => name(first, names, *place, text),
+        Expr::Prefix(place, operator, operand) => {
+            let operand = expression(first, names, operand);
+            prefix(first, *place, *operator, operand)
         }
-        Expr::Binary(place, _, left, right) => {
+        Expr::Binary(place, operator, left, right) => {
             let left = expression(first, names, left);
             let right = expression(first, names, right);
-            binary(first, *place, left, right)
+            binary(first, *place, *operator, left, right)
+        }
+        Expr::Rotate(place, operand, amount) => {
+            let operand = expression(first, names, operand);
+            rotate(first, *place, *amount, operand)
+        }
+        Expr::Convert(place, kind, operand) => {
+            let operand = expression(first, names, operand);
+            convert(first, *place, *kind, operand)
         }
         Expr::Select(place, condition, accepted, otherwise) => {
             let condition = expression(first, names, condition);
@@ -89,5 +64,32 @@ pub fn expression(
             let otherwise = expression(first, names, otherwise);
             choice(first, *place, condition, accepted, otherwise)
         }
+        Expr::Element(place, target, text, index) => {
+            let array = name(first, names, *target, text);
+            let index = expression(first, names, index);
+            element(first, *place, array, index)
+        }
     }
+}
+
+/// Notes what expressions violate, and gives their types where all are well typed.
+pub fn expressions(
+    alloc: Global,
+    first: &mut First,
+    names: &Names<'_, Declared>,
+    exprs: &[Expr<'_>],
+) -> Result<Option<Vec<ValueType>>, AllocError>
+    ensures count { IfOk result (λ types. IfSome types (λ given. length given.items ≡ length exprs.now)) }
+    ensures typed { IfOk result (λ types. option_map (λ given. given.items) types ≡ types_of names.now (map expr_tree exprs.now)) }
+    ensures first { OnOk result (first.new.seen ≡ fold sooner first.old.seen (exprs_violations names.now (map expr_tree exprs.now))) }
+{
+    let mut types = Vec::new(alloc);
+    let mut typed = true;
+    for expr in exprs {
+        match expression(first, names, expr) {
+            Some(one) => types.push(one)?,
+            None => typed = false,
+        }
+    }
+    if typed { Ok(Some(types)) } else { Ok(None) }
 }

@@ -1,5 +1,5 @@
 ghost use Rattle.std.specs.Prelude.{◌≡◌, ◌==◌, ◌&&◌, ◌||◌, nat_lt, fold};
-ghost use Rattle.syntax.specs.Typing.{at, when};
+ghost use Rattle.syntax.specs.Types.{at, when};
 ghost use Rattle.labels.specs.Sooner.{comes_before, sooner};
 
 use syntax::{Place, Rule, Violation};

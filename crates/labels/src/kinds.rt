@@ -1,7 +1,20 @@
 ghost use Rattle.std.specs.Prelude.{◌≡◌};
-ghost use Rattle.syntax.specs.Typing.{is_number, is_secret, joined, widths_differ, are_alike, variable, variable_type, control_under, number_type, truth_type};
+ghost use Rattle.syntax.specs.Types.{bits_of, callee, is_number, is_secret, joined, same_kind, same_label, variable};
+ghost use Rattle.syntax.specs.Typing.{is_mutable};
 
-use syntax::{Declared, Kind, Label, VariableType, WordType};
+use syntax::{Callee, Declared, Form, Kind, Label, VariableType};
+
+/// How many bits a number has; a bool has one.
+pub fn bits(kind: Kind) -> u32
+    ensures { result ≡ bits_of kind }
+{
+    match kind {
+        Kind::Boolean => 1,
+        Kind::Uint8 => 8,
+        Kind::Uint16 => 16,
+        Kind::Uint32 => 32,
+    }
+}
 
 pub fn is_number(kind: Kind) -> bool
     ensures { result ≡ is_number kind }
@@ -9,10 +22,25 @@ pub fn is_number(kind: Kind) -> bool
     !matches!(kind, Kind::Boolean)
 }
 
+pub fn is_same_kind(one: Kind, other: Kind) -> bool
+    ensures { result ≡ same_kind one other }
+{
+    bits(one) == bits(other)
+}
+
 pub fn is_secret(label: Label) -> bool
     ensures { result ≡ is_secret label }
 {
     matches!(label, Label::Secret)
+}
+
+pub fn is_same_label(one: Label, other: Label) -> bool
+    ensures { result ≡ same_label one other }
+{
+    match one {
+        Label::Public => !is_secret(other),
+        Label::Secret => is_secret(other),
+    }
 }
 
 /// The label of what two operands make.
@@ -22,18 +50,11 @@ pub fn join(one: Label, other: Label) -> Label
     if is_secret(one) { Label::Secret } else { other }
 }
 
-/// Whether these are numbers of unequal width.
-pub fn widths_differ(one: Kind, other: Kind) -> bool
-    ensures { result ≡ widths_differ one other }
+/// Whether a parameter may be assigned to.
+pub fn is_mutable(form: Form) -> bool
+    ensures { result ≡ is_mutable form }
 {
-    is_number(one) && is_number(other) && one != other
-}
-
-/// Whether these are two numbers, or two bools.
-pub fn are_alike(one: Kind, other: Kind) -> bool
-    ensures { result ≡ are_alike one other }
-{
-    is_number(one) == is_number(other)
+    matches!(form, Form::MutableArray)
 }
 
 /// The variable that a name stands for.
@@ -42,46 +63,16 @@ pub fn variable(what: Option<Declared>) -> Option<VariableType>
 {
     match what {
         Some(Declared::Variable(variable)) => Some(variable),
-        Some(Declared::Procedure) | None => None,
+        Some(Declared::Procedure(_)) | None => None,
     }
 }
 
-/// The type of a variable.
-pub fn variable_type(what: Option<Declared>) -> Option<WordType>
-    ensures { result ≡ variable_type what }
+/// The procedure that a name stands for.
+pub fn callee(what: Option<Declared>) -> Option<Callee>
+    ensures { result ≡ callee what }
 {
     match what {
-        Some(Declared::Variable(variable)) => Some(variable.word),
-        Some(Declared::Procedure) | None => None,
-    }
-}
-
-/// The control label in the arms of a conditional, whose condition has this type.
-pub fn control_under(control: Label, condition: Option<WordType>) -> Label
-    ensures { result ≡ control_under control condition }
-{
-    match condition {
-        Some(condition) => join(condition.label, control),
-        None => control,
-    }
-}
-
-/// The type of a number without a suffix.
-pub fn number() -> WordType
-    ensures { result ≡ number_type }
-{
-    WordType {
-        kind: Kind::Uint32,
-        label: Label::Public,
-    }
-}
-
-/// The type of `true` and `false`.
-pub fn truth() -> WordType
-    ensures { result ≡ truth_type }
-{
-    WordType {
-        kind: Kind::Boolean,
-        label: Label::Public,
+        Some(Declared::Procedure(callee)) => Some(callee),
+        Some(Declared::Variable(_)) | None => None,
     }
 }

@@ -2,10 +2,21 @@
 // violation. It stands on the definitions of typing in `syntax`.
 #![tactic(auto)]
 
+mod arguments;
+mod assignments;
+mod calls;
 mod checker;
+mod clashes;
+mod declarations;
+mod effects;
 mod expressions;
 mod first;
 mod kinds;
+mod nodes;
+mod operations;
+mod procedures;
 mod statements;
+mod types;
+mod values;
 
 pub use checker::{Checked, check};

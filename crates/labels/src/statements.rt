@@ -1,150 +1,101 @@
-ghost use Rattle.std.specs.Prelude.{◌≡◌, ◌++◌, fold, is_some, not, OnOk};
-ghost use Rattle.syntax.specs.Tree.{statement_tree, block_tree, expr_tree};
-ghost use Rattle.syntax.specs.Typing.{at, assignment_rules, block_violations, condition_rules, control_under, declaration_rules, declared, declared_as, expr_violations, found, scope_after, scope_after_all, statement_violations, type_of, value_rules, variable, when};
-ghost use Rattle.syntax.specs.declared.rule.Rule.TheVariants.{UndeclaredName};
+ghost use Rattle.std.specs.Prelude.{◌≡◌, ◌++◌, [], fold, is_some, map, OnOk};
+ghost use Rattle.syntax.specs.Tree.{block_tree, procedure_tree, statement_tree};
+ghost use Rattle.syntax.specs.Types.{at, declared, found, of_one, of_two, when};
+ghost use Rattle.syntax.specs.Typing.{block_violations, bounds_rules, condition_rules, control_under, counter_as, scope_after, scope_after_all, statement_violations};
+ghost use Rattle.syntax.specs.declared.rule.Rule.TheVariants.{NameDeclaredTwice};
 ghost use Rattle.labels.specs.Sooner.{sooner};
 
+use crate::assignments::{assignment, element_assignment};
+use crate::calls::call;
+use crate::declarations::{array, declaration};
 use crate::expressions::expression;
 use crate::first::First;
-use crate::kinds::{are_alike, control_under, is_number, is_secret, variable, widths_differ};
+use crate::kinds::join;
+use crate::types::{is_bool, is_hidden, is_narrow, is_numeric, label_of, word};
 use names::Names;
-use std::alloc::AllocError;
+use std::alloc::{AllocError, Global};
 use syntax::{
-    Assignment, Declaration, Declared, Label, Place, Rule, Statement, VariableType, WordType,
+    Counter, Declared, Kind, Label, Place, Procedure, Rule, Statement, ValueType, VariableType,
 };
 
-/// Notes what a value of one type violates where another is wanted.
-pub fn note_value(first: &mut First, place: Place, wanted: WordType, value: WordType)
-    ensures { first.new.seen ≡ fold sooner first.old.seen (at place (value_rules wanted value)) }
-{
-    let leaks = !is_secret(wanted.label) && is_secret(value.label);
-    first.note_if(
-        widths_differ(wanted.kind, value.kind),
-        place,
-        Rule::WidthsDiffer,
-    );
-    first.note_if(!are_alike(wanted.kind, value.kind), place, Rule::WrongKind);
-    first.note_if(leaks, place, Rule::SecretToPublic);
-}
-
-/// Notes what a declaration violates, whose first value has this type.
-fn note_declaration(
-    first: &mut First,
-    place: Place,
-    control: Label,
-    taken: bool,
-    variable: VariableType,
-    value: Option<WordType>,
-)
-    ensures { first.new.seen ≡ fold sooner first.old.seen (at place (declaration_rules control taken variable value)) }
-{
-    let Some(value) = value else {
-        return;
-    };
-    let told = variable.mutable && !is_secret(variable.word.label) && is_secret(control);
-    first.note_if(taken, place, Rule::NameDeclaredTwice);
-    note_value(first, place, variable.word, value);
-    first.note_if(told, place, Rule::PublicAssignedUnderSecretControl);
-}
-
-/// Notes what an assignment violates, whose value has this type.
-fn note_assignment(
-    first: &mut First,
-    place: Place,
-    control: Label,
-    variable: Option<VariableType>,
-    value: Option<WordType>,
-)
-    ensures { first.new.seen ≡ fold sooner first.old.seen (at place (assignment_rules control variable value)) }
-{
-    let (Some(variable), Some(value)) = (variable, value) else {
-        return;
-    };
-    let told = !is_secret(variable.word.label) && is_secret(control);
-    note_value(first, place, variable.word, value);
-    first.note_if(!variable.mutable, place, Rule::NotMutable);
-    first.note_if(told, place, Rule::PublicAssignedUnderSecretControl);
-}
-
 /// Notes what a condition of this type violates.
-fn note_condition(first: &mut First, place: Place, condition: Option<WordType>)
-    ensures { first.new.seen ≡ fold sooner first.old.seen (at place (condition_rules condition)) }
+fn note_condition(first: &mut First, place: Place, condition: Option<ValueType>)
+    ensures { first.new.seen ≡ fold sooner first.old.seen (at place (of_one [] condition_rules condition)) }
 {
     if let Some(condition) = condition {
-        first.note_if(is_number(condition.kind), place, Rule::WrongKind);
+        first.note_if(!is_bool(condition), place, Rule::WrongKind);
     }
 }
 
-/// A declaration: its name is in scope from here on.
-fn declaration<'a>(
-    first: &mut First,
-    names: &mut Names<'a, Declared>,
-    control: Label,
-    declaration: &Declaration<'a>,
-) -> Result<(), AllocError>
-    ensures names { OnOk result (names.new ≡ declared names.old declaration.now.name.now (declared_as declaration.now.label declaration.now.mutable declaration.now.kind)) }
-    ensures first { OnOk result (first.new.seen ≡ fold sooner first.old.seen
-        (expr_violations names.old (expr_tree declaration.now.value)
-        ++ at declaration.now.place (declaration_rules control (is_some (found names.old declaration.now.name.now))
-        (record { word = record { kind = declaration.now.kind; label = declaration.now.label }; mutable = declaration.now.mutable })
-        (type_of names.old (expr_tree declaration.now.value))))) }
+/// The control label in the arms of a conditional, whose condition has this type.
+fn control_under(control: Label, condition: Option<ValueType>) -> Label
+    ensures { result ≡ control_under control condition }
 {
-    let word = WordType {
-        kind: declaration.kind,
-        label: declaration.label,
-    };
-    let variable = VariableType {
-        word,
-        mutable: declaration.mutable,
-    };
-    let value = expression(first, names, &declaration.value);
-    let taken = names.declare(declaration.name, Declared::Variable(variable))?;
-    note_declaration(first, declaration.place, control, taken, variable, value);
-    Ok(())
+    match condition {
+        Some(condition) => join(label_of(condition), control),
+        None => control,
+    }
 }
 
-/// An assignment.
-fn assignment(
-    first: &mut First,
-    names: &Names<'_, Declared>,
-    control: Label,
-    assignment: &Assignment<'_>,
-)
-    ensures { first.new.seen ≡ fold sooner first.old.seen
-        (at assignment.now.target (when (not (is_some (variable (found names.now assignment.now.name.now)))) UndeclaredName)
-        ++ expr_violations names.now (expr_tree assignment.now.value)
-        ++ at assignment.now.place (assignment_rules control (variable (found names.now assignment.now.name.now))
-        (type_of names.now (expr_tree assignment.now.value)))) }
+/// Notes what a loop's bounds of these types violate.
+fn note_bounds(first: &mut First, place: Place, low: Option<ValueType>, high: Option<ValueType>)
+    ensures { first.new.seen ≡ fold sooner first.old.seen (at place (of_two [] bounds_rules low high)) }
 {
-    let variable = variable(names.find(assignment.name));
-    first.note_if(variable.is_none(), assignment.target, Rule::UndeclaredName);
-    let value = expression(first, names, &assignment.value);
-    note_assignment(first, assignment.place, control, variable, value);
+    let (Some(low), Some(high)) = (low, high) else {
+        return;
+    };
+    let uneven = is_narrow(low) || is_narrow(high);
+    let wrong = !(is_numeric(low) && is_numeric(high));
+    let told = is_hidden(low) || is_hidden(high);
+    first.note_if(uneven, place, Rule::WidthsDiffer);
+    first.note_if(wrong, place, Rule::WrongKind);
+    first.note_if(told, place, Rule::SecretBound);
 }
 
 /// A statement under a control label. What it declares is in scope from here on.
 #[cycle(statement)]
 fn statement<'a>(
+    alloc: Global,
     first: &mut First,
     names: &mut Names<'a, Declared>,
+    earlier: &[Procedure<'a>],
     control: Label,
     statement: &Statement<'a>,
 ) -> Result<(), AllocError>
     ensures names { OnOk result (names.new ≡ scope_after names.old (statement_tree statement.now)) }
-    ensures first { OnOk result (first.new.seen ≡ fold sooner first.old.seen (statement_violations names.old control (statement_tree statement.now))) }
+    ensures first { OnOk result (first.new.seen ≡ fold sooner first.old.seen (statement_violations (map procedure_tree earlier.now) names.old control (statement_tree statement.now))) }
 {
     match statement {
-        Statement::Declare(it) => declaration(first, names, control, it),
-        Statement::Assign(it) => {
-            assignment(first, names, control, it);
+        Statement::Declare(it) => declaration(alloc, first, names, earlier, control, it),
+        Statement::DeclareArray(it) => array(alloc, first, names, control, it),
+        Statement::Assign(it) => assignment(alloc, first, names, earlier, control, it),
+        Statement::AssignElement(it) => {
+            element_assignment(alloc, first, names, earlier, control, it)
+        }
+        Statement::Call(it) => {
+            call(alloc, first, names, earlier, control, it)?;
             Ok(())
         }
         Statement::If(place, condition, accepted, otherwise) => {
             let condition = expression(first, names, condition);
             note_condition(first, *place, condition);
             let control = control_under(control, condition);
-            arm(first, names, control, accepted.as_slice())?;
-            arm(first, names, control, otherwise.as_slice())
+            arm(alloc, first, names, earlier, control, accepted.as_slice())?;
+            arm(alloc, first, names, earlier, control, otherwise.as_slice())
+        }
+        Statement::For(place, counter, low, high, body) => {
+            let low = expression(first, names, low);
+            let high = expression(first, names, high);
+            note_bounds(first, *place, low, high);
+            turns(
+                alloc,
+                first,
+                names,
+                earlier,
+                control,
+                counter,
+                body.as_slice(),
+            )
         }
     }
 }
@@ -152,33 +103,65 @@ fn statement<'a>(
 /// An arm of a conditional: the names that it declares are its own.
 #[cycle(statement)]
 fn arm<'a>(
+    alloc: Global,
     first: &mut First,
     names: &mut Names<'a, Declared>,
+    earlier: &[Procedure<'a>],
     control: Label,
     arm: &[Statement<'a>],
 ) -> Result<(), AllocError>
     ensures names { OnOk result (names.new ≡ names.old) }
-    ensures first { OnOk result (first.new.seen ≡ fold sooner first.old.seen (block_violations names.old control (block_tree arm.now))) }
+    ensures first { OnOk result (first.new.seen ≡ fold sooner first.old.seen (block_violations (map procedure_tree earlier.now) names.old control (block_tree arm.now))) }
 {
     let outside = names.len();
-    statements(first, names, control, arm)?;
+    statements(alloc, first, names, earlier, control, arm)?;
     names.truncate(outside);
+    Ok(())
+}
+
+/// The turns of a loop: the counter and the names that they declare are their own.
+#[cycle(statement)]
+fn turns<'a>(
+    alloc: Global,
+    first: &mut First,
+    names: &mut Names<'a, Declared>,
+    earlier: &[Procedure<'a>],
+    control: Label,
+    counter: &Counter<'a>,
+    body: &[Statement<'a>],
+) -> Result<(), AllocError>
+    ensures names { OnOk result (names.new ≡ names.old) }
+    ensures first { OnOk result (first.new.seen ≡ fold sooner first.old.seen
+        (at counter.now.place (when (is_some (found names.old counter.now.name.now)) NameDeclaredTwice)
+        ++ block_violations (map procedure_tree earlier.now) (declared names.old counter.now.name.now counter_as) control (block_tree body.now))) }
+{
+    let before = names.len();
+    let variable = VariableType {
+        value: word(Kind::Uint32, Label::Public),
+        mutable: false,
+    };
+    let taken = names.declare(counter.name, Declared::Variable(variable))?;
+    first.note_if(taken, counter.place, Rule::NameDeclaredTwice);
+    statements(alloc, first, names, earlier, control, body)?;
+    names.truncate(before);
     Ok(())
 }
 
 /// Statements in their order.
 #[cycle(statement)]
 pub fn statements<'a>(
+    alloc: Global,
     first: &mut First,
     names: &mut Names<'a, Declared>,
+    earlier: &[Procedure<'a>],
     control: Label,
     statements: &[Statement<'a>],
 ) -> Result<(), AllocError>
     ensures names { OnOk result (names.new ≡ scope_after_all names.old (block_tree statements.now)) }
-    ensures first { OnOk result (first.new.seen ≡ fold sooner first.old.seen (block_violations names.old control (block_tree statements.now))) }
+    ensures first { OnOk result (first.new.seen ≡ fold sooner first.old.seen (block_violations (map procedure_tree earlier.now) names.old control (block_tree statements.now))) }
 {
     for one in statements {
-        statement(first, names, control, one)?;
+        statement(alloc, first, names, earlier, control, one)?;
     }
     Ok(())
 }

@@ -2,12 +2,12 @@
 use Rattle.std.proofs.Common.{ℕ, ◌+◌, ◌*◌, ◌<◌, ◌≤◌, arith}
 use Rattle.image.specs.Fields.{Fields}
 use Rattle.syntax.specs.Size.{nodes_of}
-use Rattle.syntax.specs.Tree.{ProcedureTree}
+use Rattle.syntax.specs.Tree.{ProcedureTree, ProgramTree}
 use Rattle.simulation.specs.Bases.{code_base, frame_base}
 use Rattle.simulation.specs.Compiled.{AreBases, IsCompiled}
 
-pub standard_bases : (p : ProcedureTree) (image : Fields) (k : ℕ) → IsCompiled p image → nodes_of p ≤ 6000 → k < 8 → AreBases image (code_base + 0x0010_0000 * k) (frame_base + 0x0001_0000 * k)
-standard_bases p image k is small below =
+pub standard_bases : (program : ProgramTree) (p : ProcedureTree) (image : Fields) (k : ℕ) → IsCompiled program p image → nodes_of p ≤ 6000 → k < 8 → AreBases image (code_base + 0x0010_0000 * k) (frame_base + 0x0001_0000 * k)
+standard_bases program p image k is small below =
     let words = is.word_count in
     let size = is.frame_size in
     record { code_aligned = omega arith; frame_aligned = omega arith; code_ends = omega (arith, words, small, below); frame_ends = omega (arith, size, below) }

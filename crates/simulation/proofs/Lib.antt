@@ -4,12 +4,15 @@ pub mod Steps
 pub mod Held
 pub mod Pieces
 pub mod Stores
+pub mod Computing
+pub mod Operators
 pub mod Masks
 pub mod Operations
 pub mod Values
 pub mod Expressions
 pub mod Slots
 pub mod Statements
+pub mod ResultRuns
 pub mod Arguments
 pub mod Placing
 pub mod WholeRuns

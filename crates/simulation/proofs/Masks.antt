@@ -1,17 +1,15 @@
--- What operators, the choice by a mask and control values compute.
+-- What the choice by a mask and control values compute; the values of expressions are words.
 use Rattle.std.proofs.Common.{◌≡◌, ℕ, Bool, true, false, not, ◌&&◌, zero, suc, ◌+◌, ◌%◌, ◌^◌, ◌<◌, ◌≤◌, ◌==◌, if◌then◌else◌, bit_and, bit_xor, refl, sym, ap, ◌∙◌, arith, ne_eqb}
 use Rattle.std.specs.Int.{bit_at}
 use Rattle.std.specs.Int.Bits.{and_zero_r, xor_zero_r}
-use Rattle.std.proofs.lemmas.Nat.{and_mask, and_le_l, xor_of_32}
+use Rattle.std.proofs.lemmas.Nat.{and_mask, xor_of_32}
 use Rattle.std.proofs.lemmas.Nat.Bits.{bit_at_xor, bit_at-lt, same_from_bits}
-use Rattle.rv_machine.specs.Effects.{sum_of, difference_of, register_value}
-use Rattle.codegen.specs.Emitted.{operation_of}
-use Rattle.syntax.specs.declared.tree.BinaryOperator.{BinaryOperator}
-use Rattle.syntax.specs.declared.tree.BinaryOperator.TheVariants.{BitXor, BitAnd, Add, Subtract}
-use Rattle.syntax.specs.Meaning.{bit_of, operated}
+use Rattle.rv_machine.specs.Effects.{sum_of, difference_of}
+use Rattle.syntax.specs.Operators.{width_of}
 use Rattle.branch_removal.specs.Fitness.{IsFit}
-use Rattle.inline.specs.Flat.{TermTree, number, truth, variable, binary, select}
+use Rattle.inline.specs.Flat.{TermTree, number, truth, variable, prefix, binary, rotate, convert, select}
 use Rattle.inline.specs.FlatMeaning.{Values, value_in}
+use Rattle.simulation.proofs.Operators.{truth_fits, prefix_fits, operated_fits, rotated_fits, converted_fits}
 
 -- the choice of a where c is 1, of b where c is 0
 abbrev pub chosen : ℕ → ℕ → ℕ → ℕ
@@ -41,12 +39,6 @@ choice (suc c) a b h p q =
     let e : suc c ≡ 1 = omega arith in
     let first : chosen (suc c) a b ≡ a = ap (λ x. chosen x a b) e ∙ (ap (λ x. bit_xor b x) (all_bits (bit_xor a b) (xor_of_32 a b p q)) ∙ xor_back a b) in
     rw (ne_eqb (suc c) 0 (λ z. omega arith)) first
-
-pub operation : (operator : BinaryOperator) (a b : ℕ) → b < 2 ^ 32 → register_value (operation_of operator) a b ≡ operated operator a b
-operation BitXor a b h = refl
-operation BitAnd a b h = refl
-operation Add a b h = refl
-operation Subtract a b h = omega arith
 
 -- Control values.
 
@@ -94,24 +86,17 @@ merge false old new p q = ap (λ x. bit_xor old x) (and_zero_r (bit_xor new old)
 
 -- Values that are words.
 
-operated-fits : (operator : BinaryOperator) (a b : ℕ) → a < 2 ^ 32 → b < 2 ^ 32 → operated operator a b < 2 ^ 32
-operated-fits BitXor a b p q = xor_of_32 a b p q
-operated-fits BitAnd a b p q = let h = and_le_l a b in omega (arith, h, p)
-operated-fits Add a b p q = omega arith
-operated-fits Subtract a b p q = omega arith
-
 picked : (c a b : ℕ) → a < 2 ^ 32 → b < 2 ^ 32 → (if c == 0 then b else a) < 2 ^ 32
 picked zero a b p q = q
 picked (suc c) a b p q = rw (ne_eqb (suc c) 0 (λ z. omega arith)) p
 
-pub bit-fits : (b : Bool) → bit_of b < 2 ^ 32
-bit-fits true = omega arith
-bit-fits false = omega arith
-
 -- an expression that is fit has a word for its value
 pub value_fits : (m : Values) (e : TermTree) → IsFit m e → value_in m e < 2 ^ 32
-value_fits m (number value) fit = fit
-value_fits m (truth value) fit = bit-fits value
+value_fits m (number value kind) fit = fit
+value_fits m (truth value) fit = truth_fits value
 value_fits m (variable x) fit = fit
-value_fits m (binary operator left right) fit = operated-fits operator (value_in m left) (value_in m right) (value_fits m left fit.0) (value_fits m right fit.1)
+value_fits m (prefix operator width operand) fit = prefix_fits operator width (value_in m operand)
+value_fits m (binary operator width left right) fit = operated_fits operator width (value_in m left) (value_in m right) (value_fits m left fit.1) (value_fits m right fit.2)
+value_fits m (rotate width operand amount) fit = rotated_fits width (value_in m operand) amount
+value_fits m (convert kind operand) fit = converted_fits (width_of kind) (value_in m operand)
 value_fits m (select condition accepted otherwise) fit = picked (value_in m condition) (value_in m accepted) (value_in m otherwise) (value_fits m accepted fit.2) (value_fits m otherwise fit.3)

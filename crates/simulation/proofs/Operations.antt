@@ -1,212 +1,185 @@
--- Numbers, operators and the choice in the value's register.
-use Rattle.std.proofs.Common.{◌≡◌, ℕ, ◌+◌, ◌*◌, ◌%◌, ◌^◌, ◌<◌, Bool, true, false, cond, nat_lt, [], ◌∷◌, refl, ap, ap₂, ◌∙◌, arith, bit_and, bit_xor}
+-- Of each piece of emitted code that only computes: that it does (`plain`), what its instructions give one after the
+-- other (`composed`), and what it makes in the value's register, which is what its node means (`made`).
+use Rattle.std.proofs.Common.{◌≡◌, ℕ, ◌-◌, ◌%◌, ◌^◌, ◌<◌, ◌==◌, Bool, true, false, ◌&&◌, cond, nat_lt, List, [], ◌∷◌, ◌++◌, refl, ap, ap₂, ◌∙◌, arith}
+use Rattle.std.proofs.lemmas.Bool.{true≢false}
 use Rattle.std.proofs.lemmas.Bool.Decides.{nat_tests}
+use Rattle.rv_code.specs.declared.instructions.Instr.{Instr}
 use Rattle.rv_code.specs.declared.instructions.Instr.TheVariants as instr
 use Rattle.rv_code.specs.declared.operations.UpperOperation.TheVariants.{Lui}
 use Rattle.rv_code.specs.declared.operations.ImmediateOperation.TheVariants.{Addi}
-use Rattle.rv_code.specs.declared.operations.RegisterOperation.TheVariants.{Sub, Xor, And}
-use Rattle.rv_machine.specs.Effects.{sum_of, difference_of, sign_extended, register_value}
-use Rattle.rv_machine.specs.Machine.{State, Code}
-use Rattle.branch_removal.specs.StraightMeaning.{StraightState}
-use Rattle.codegen.specs.Emitted.{upper_part, lower_part, constant_code, operation_of, operator_code, choice_code, masks_code, merge_code}
+use Rattle.rv_code.specs.declared.operations.ShiftOperation.TheVariants.{Slli, Srli}
+use Rattle.rv_code.specs.declared.operations.RegisterOperation.TheVariants as register
+use Rattle.rv_machine.specs.Effects.{sum_of, sign_extended, register_value, shift_value}
+use Rattle.codegen.specs.Emitted.{upper_part, lower_part, constant_code, cut_code, operator_code, prefix_code, around_code, rotate_code}
 use Rattle.syntax.specs.declared.tree.BinaryOperator.{BinaryOperator}
-use Rattle.simulation.proofs.Straight.{none, After, Then, Runs, seq, weaken}
+use Rattle.syntax.specs.declared.tree.BinaryOperator.TheVariants.{Either, Both, Equal, Unequal, Less, LessOrEqual, Greater, GreaterOrEqual, BitOr, BitXor, BitAnd, ShiftLeft, ShiftRight, Add, Subtract, Multiply, Divide, Remainder}
+use Rattle.syntax.specs.declared.tree.PrefixOperator.{PrefixOperator}
+use Rattle.syntax.specs.declared.tree.PrefixOperator.TheVariants.{Not, Complement, Negate}
+use Rattle.syntax.specs.Operators.{divides, operated, prefix_value}
+use Rattle.word.specs.declared.width.Width.{Width}
+use Rattle.word.specs.declared.width.Width.TheVariants.{W8, W16, W32}
+use Rattle.word.specs.Operators.{converted, rotated_left}
+use Rattle.word.specs.Widths.{bits}
 use Rattle.simulation.proofs.Arithmetic.{near_field, parts, upper_fits, lower_fits}
-use Rattle.simulation.proofs.Held.{Held}
-use Rattle.simulation.proofs.Masks.{chosen, merged}
-use Rattle.simulation.proofs.Pieces.{Made, held-regs}
-use Rattle.simulation.proofs.Steps.{Always, Moves, computing}
+use Rattle.simulation.proofs.Computing.{registers_after, computes, only_computes, both_left, both_right}
+use Rattle.simulation.proofs.Operators.{cut_value, composed, composed_prefix, around_value, cut_computes, operator_computes, prefix_computes, rotate_computes}
 
--- a register gets a value of the registers
-abbrev Sets : ℕ → ((ℕ → ℕ) → ℕ) → After
-Sets rd f env s t = Moves rd (f s.regs) s t
+is_below : (n most : ℕ) → n < most → nat_lt n most ≡ true
+is_below n most h = grind (arith, nat_tests)
 
--- the masks of the condition in the value, and nothing else
-pub record Masked (frame size : ℕ) (env : StraightState) (s t : State) : Type 0 where
-  pub held : Held frame size env t
-  pub when : t.regs 7 ≡ difference_of 0 (s.regs 5)
-  pub otherwise : t.regs 5 ≡ sum_of (s.regs 5) 4294967295
-  pub same : t.bytes ≡ s.bytes
+-- Numbers.
 
--- both masks joined with the left operand, and nothing else
-pub record Joined (frame size : ℕ) (env : StraightState) (s t : State) : Type 0 where
-  pub held : Held frame size env t
-  pub when : t.regs 7 ≡ bit_and (s.regs 7) (s.regs 6)
-  pub otherwise : t.regs 5 ≡ bit_and (s.regs 5) (s.regs 6)
-  pub same : t.bytes ≡ s.bytes
+module _ (n : ℕ) (fits : n < 2 ^ 32) where
+  near_plain : nat_lt n 2048 ≡ true → only_computes (instr.Immediate Addi 5 0 n ∷ []) ≡ true
+  near_plain h =
+      let near : n < 2048 = grind (arith, nat_tests) in
+      ap (λ b. b && true) (is_below n 4096 (omega (arith, near)))
 
-module _ (code : Code) (frame size : ℕ) (even : frame % 4 ≡ 0) (ends : frame + size < 2 ^ 32) where
-  module _ (n : ℕ) (below : n < 2 ^ 32) where
-    near_constant : n < 2048 → Runs code frame size none (instr.Immediate Addi 5 0 n ∷ []) (Held frame size) (Made frame size (λ regs. n))
-    near_constant near =
-        weaken code frame size none (instr.Immediate Addi 5 0 n ∷ []) Always (Held frame size) (Sets 5 (λ regs. sum_of 0 (sign_extended 12 n))) (Made frame size (λ regs. n))
-        (λ env s held. tt)
-        (λ env s t held moves.
-        let plain : sum_of 0 n ≡ n = omega arith in
-        record {
-          held = held-regs code frame size even ends env s t (moves.others 2 (λ e. omega arith)) moves.same held;
-          there = moves.there ∙ (ap (λ x. sum_of 0 x) (near_field n near) ∙ plain);
-          same = moves.same;
-        })
-        (computing code frame size (instr.Immediate Addi 5 0 n) 5 (λ regs. sum_of 0 (sign_extended 12 n)) (omega arith, omega arith, omega arith) (λ e. omega arith) (λ pc regs. refl))
+  far_plain : only_computes (instr.Upper Lui 5 (upper_part n) ∷ instr.Immediate Addi 5 5 (lower_part n) ∷ []) ≡ true
+  far_plain = ap₂ (λ a b. a && (b && true)) (is_below (upper_part n) 1048576 (upper_fits n)) (is_below (lower_part n) 4096 (lower_fits n))
 
-    far_constant : Runs code frame size none (instr.Upper Lui 5 (upper_part n) ∷ instr.Immediate Addi 5 5 (lower_part n) ∷ []) (Held frame size) (Made frame size (λ regs. n))
-    far_constant =
-        let upper = λ (regs : ℕ → ℕ). upper_part n * 2 ^ 12 in
-        let whole = λ (regs : ℕ → ℕ). sum_of (regs 5) (sign_extended 12 (lower_part n)) in
-        weaken code frame size none _ Always (Held frame size) _ (Made frame size (λ regs. n))
-        (λ env s held. tt)
-        (λ env s t held both.
-        let one = both.first in
-        let two = both.second in
-        let same = two.same ∙ one.same in
-        record {
-          held = held-regs code frame size even ends env s t (two.others 2 (λ e. omega arith) ∙ one.others 2 (λ e. omega arith)) same held;
-          there = two.there ∙ (ap (λ x. sum_of x (sign_extended 12 (lower_part n))) one.there ∙ parts n below);
-          same = same;
-        })
-        (seq code frame size none none (instr.Upper Lui 5 (upper_part n) ∷ []) (instr.Immediate Addi 5 5 (lower_part n) ∷ []) Always Always (Sets 5 (λ regs. upper_part n * 2 ^ 12)) (Sets 5 (λ regs. sum_of (regs 5) (sign_extended 12 (lower_part n))))
-        (computing code frame size (instr.Upper Lui 5 (upper_part n)) 5 (λ regs. upper_part n * 2 ^ 12) (omega arith, upper_fits n) (λ e. omega arith) (λ pc regs. refl))
-        (computing code frame size (instr.Immediate Addi 5 5 (lower_part n)) 5 (λ regs. sum_of (regs 5) (sign_extended 12 (lower_part n))) (omega arith, omega arith, lower_fits n) (λ e. omega arith) (λ pc regs. refl))
-        (λ env s t fit done. tt))
+  plain_by : (b : Bool) → nat_lt n 2048 ≡ b → only_computes (cond b (instr.Immediate Addi 5 0 n ∷ []) (instr.Upper Lui 5 (upper_part n) ∷ instr.Immediate Addi 5 5 (lower_part n) ∷ [])) ≡ true
+  plain_by true h = near_plain h
+  plain_by false h = far_plain
 
-    constant_by : (b : Bool) → nat_lt n 2048 ≡ b → Runs code frame size none (cond b (instr.Immediate Addi 5 0 n ∷ []) (instr.Upper Lui 5 (upper_part n) ∷ instr.Immediate Addi 5 5 (lower_part n) ∷ [])) (Held frame size) (Made frame size (λ regs. n))
-    constant_by true h = near_constant (grind (arith, nat_tests))
-    constant_by false h = far_constant
+  pub constant_plain : only_computes (constant_code 5 n) ≡ true
+  constant_plain = plain_by (nat_lt n 2048) refl
 
-    -- a number into the value
-    pub constant_runs : Runs code frame size none (constant_code 5 n) (Held frame size) (Made frame size (λ regs. n))
-    constant_runs = constant_by (nat_lt n 2048) refl
+  near_value : nat_lt n 2048 ≡ true → sum_of 0 (sign_extended 12 n) ≡ n
+  near_value h =
+      let near : n < 2048 = grind (arith, nat_tests) in
+      let same : sum_of 0 n ≡ n = omega (arith, fits) in
+      ap (λ x. sum_of 0 x) (near_field n near) ∙ same
 
-  -- the left operand and the value into the value
-  pub operator_runs : (operator : BinaryOperator) → Runs code frame size none (operator_code operator) (Held frame size) (Made frame size (λ regs. register_value (operation_of operator) (regs 6) (regs 5)))
-  operator_runs operator =
-      let f = λ (regs : ℕ → ℕ). register_value (operation_of operator) (regs 6) (regs 5) in
-      weaken code frame size none (operator_code operator) Always (Held frame size) (Sets 5 f) (Made frame size f)
-      (λ env s held. tt)
-      (λ env s t held moves. record {
-        held = held-regs code frame size even ends env s t (moves.others 2 (λ e. omega arith)) moves.same held;
-        there = moves.there;
-        same = moves.same;
-      })
-      (computing code frame size (instr.Register (operation_of operator) 5 6 5) 5 f (omega arith, omega arith, omega arith) (λ e. omega arith) (λ pc regs. refl))
+  value_by : (b : Bool) → nat_lt n 2048 ≡ b → (regs : ℕ → ℕ) → registers_after (cond b (instr.Immediate Addi 5 0 n ∷ []) (instr.Upper Lui 5 (upper_part n) ∷ instr.Immediate Addi 5 5 (lower_part n) ∷ [])) regs 5 ≡ n
+  value_by true h regs = near_value h
+  value_by false h regs = parts n fits
 
-  -- one of the left operand and the value into the value
-  pub choice_runs : Runs code frame size none choice_code (Held frame size) (Made frame size (λ regs. chosen (regs 7) (regs 6) (regs 5)))
-  choice_runs =
-      let f1 = λ (regs : ℕ → ℕ). difference_of 0 (regs 7) in
-      let f2 = λ (regs : ℕ → ℕ). bit_xor (regs 6) (regs 5) in
-      let f3 = λ (regs : ℕ → ℕ). bit_and (regs 6) (regs 7) in
-      let f4 = λ (regs : ℕ → ℕ). bit_xor (regs 5) (regs 6) in
-      let i1 = instr.Register Sub 7 0 7 in
-      let i2 = instr.Register Xor 6 6 5 in
-      let i3 = instr.Register And 6 6 7 in
-      let i4 = instr.Register Xor 5 5 6 in
-      let r1 = computing code frame size i1 7 f1 (omega arith, omega arith, omega arith) (λ e. omega arith) (λ pc regs. refl) in
-      let r2 = computing code frame size i2 6 f2 (omega arith, omega arith, omega arith) (λ e. omega arith) (λ pc regs. refl) in
-      let r3 = computing code frame size i3 6 f3 (omega arith, omega arith, omega arith) (λ e. omega arith) (λ pc regs. refl) in
-      let r4 = computing code frame size i4 5 f4 (omega arith, omega arith, omega arith) (λ e. omega arith) (λ pc regs. refl) in
-      let s34 = seq code frame size none none (i3 ∷ []) (i4 ∷ []) Always Always (Sets 6 f3) (Sets 5 f4) r3 r4 (λ env s t fit done. tt) in
-      let s234 = seq code frame size none none (i2 ∷ []) (i3 ∷ i4 ∷ []) Always Always (Sets 6 f2) (Then (Sets 6 f3) (Sets 5 f4)) r2 s34 (λ env s t fit done. tt) in
-      let all = seq code frame size none none (i1 ∷ []) (i2 ∷ i3 ∷ i4 ∷ []) Always Always (Sets 7 f1) (Then (Sets 6 f2) (Then (Sets 6 f3) (Sets 5 f4))) r1 s234 (λ env s t fit done. tt) in
-      weaken code frame size none choice_code Always (Held frame size) (Then (Sets 7 f1) (Then (Sets 6 f2) (Then (Sets 6 f3) (Sets 5 f4)))) (Made frame size (λ regs. chosen (regs 7) (regs 6) (regs 5)))
-      (λ env s held. tt)
-      (λ env s u held done.
-      let a = done.middle in
-      let b = done.second.middle in
-      let c = done.second.second.middle in
-      let one = done.first in
-      let two = done.second.first in
-      let three = done.second.second.first in
-      let four = done.second.second.second in
-      let mask : b.regs 7 ≡ difference_of 0 (s.regs 7) = two.others 7 (λ e. omega arith) ∙ one.there in
-      let value : c.regs 5 ≡ s.regs 5 = three.others 5 (λ e. omega arith) ∙ (two.others 5 (λ e. omega arith) ∙ one.others 5 (λ e. omega arith)) in
-      let mixed : b.regs 6 ≡ bit_xor (s.regs 6) (s.regs 5) = two.there ∙ ap₂ bit_xor (one.others 6 (λ e. omega arith)) (one.others 5 (λ e. omega arith)) in
-      let cut : c.regs 6 ≡ bit_and (bit_xor (s.regs 6) (s.regs 5)) (difference_of 0 (s.regs 7)) = three.there ∙ ap₂ bit_and mixed mask in
-      let same = four.same ∙ (three.same ∙ (two.same ∙ one.same)) in
-      record {
-        held = held-regs code frame size even ends env s u (four.others 2 (λ e. omega arith) ∙ (three.others 2 (λ e. omega arith) ∙ (two.others 2 (λ e. omega arith) ∙ one.others 2 (λ e. omega arith)))) same held;
-        there = four.there ∙ ap₂ bit_xor value cut;
-        same = same;
-      })
-      all
+  pub constant_value : (regs : ℕ → ℕ) → registers_after (constant_code 5 n) regs 5 ≡ n
+  constant_value = value_by (nat_lt n 2048) refl
 
-  -- both masks of the condition in the value
-  pub masks_runs : Runs code frame size none masks_code (Held frame size) (Masked frame size)
-  masks_runs =
-      let f1 = λ (regs : ℕ → ℕ). difference_of 0 (regs 5) in
-      let f2 = λ (regs : ℕ → ℕ). sum_of (regs 5) (sign_extended 12 4095) in
-      let i1 = instr.Register Sub 7 0 5 in
-      let i2 = instr.Immediate Addi 5 5 4095 in
-      let r1 = computing code frame size i1 7 f1 (omega arith, omega arith, omega arith) (λ e. omega arith) (λ pc regs. refl) in
-      let r2 = computing code frame size i2 5 f2 (omega arith, omega arith, omega arith) (λ e. omega arith) (λ pc regs. refl) in
-      weaken code frame size none masks_code Always (Held frame size) (Then (Sets 7 f1) (Sets 5 f2)) (Masked frame size)
-      (λ env s held. tt)
-      (λ env s u held done.
-      let a = done.middle in
-      let one = done.first in
-      let two = done.second in
-      let same = two.same ∙ one.same in
-      record {
-        held = held-regs code frame size even ends env s u (two.others 2 (λ e. omega arith) ∙ one.others 2 (λ e. omega arith)) same held;
-        when = two.others 7 (λ e. omega arith) ∙ one.there;
-        otherwise = two.there ∙ ap (λ x. sum_of x 4294967295) (one.others 5 (λ e. omega arith));
-        same = same;
-      })
-      (seq code frame size none none (i1 ∷ []) (i2 ∷ []) Always Always (Sets 7 f1) (Sets 5 f2) r1 r2 (λ env s t fit done. tt))
+-- Cuts.
 
-  -- both masks joined with the left operand
-  pub joining_runs : Runs code frame size none (instr.Register And 7 7 6 ∷ instr.Register And 5 5 6 ∷ []) (Held frame size) (Joined frame size)
-  joining_runs =
-      let f1 = λ (regs : ℕ → ℕ). bit_and (regs 7) (regs 6) in
-      let f2 = λ (regs : ℕ → ℕ). bit_and (regs 5) (regs 6) in
-      let i1 = instr.Register And 7 7 6 in
-      let i2 = instr.Register And 5 5 6 in
-      let r1 = computing code frame size i1 7 f1 (omega arith, omega arith, omega arith) (λ e. omega arith) (λ pc regs. refl) in
-      let r2 = computing code frame size i2 5 f2 (omega arith, omega arith, omega arith) (λ e. omega arith) (λ pc regs. refl) in
-      weaken code frame size none (i1 ∷ i2 ∷ []) Always (Held frame size) (Then (Sets 7 f1) (Sets 5 f2)) (Joined frame size)
-      (λ env s held. tt)
-      (λ env s u held done.
-      let a = done.middle in
-      let one = done.first in
-      let two = done.second in
-      let same = two.same ∙ one.same in
-      record {
-        held = held-regs code frame size even ends env s u (two.others 2 (λ e. omega arith) ∙ one.others 2 (λ e. omega arith)) same held;
-        when = two.others 7 (λ e. omega arith) ∙ one.there;
-        otherwise = two.there ∙ ap₂ bit_and (one.others 5 (λ e. omega arith)) (one.others 6 (λ e. omega arith));
-        same = same;
-      })
-      (seq code frame size none none (i1 ∷ []) (i2 ∷ []) Always Always (Sets 7 f1) (Sets 5 f2) r1 r2 (λ env s t fit done. tt))
+pub cut_plain : (w : Width) → only_computes (cut_code w) ≡ true
+cut_plain W8 = refl
+cut_plain W16 = refl
+cut_plain W32 = refl
 
-  -- the value under the mask, the left operand elsewhere
-  pub merge_runs : Runs code frame size none merge_code (Held frame size) (Made frame size (λ regs. merged (regs 7) (regs 6) (regs 5)))
-  merge_runs =
-      let f1 = λ (regs : ℕ → ℕ). bit_xor (regs 5) (regs 6) in
-      let f2 = λ (regs : ℕ → ℕ). bit_and (regs 5) (regs 7) in
-      let f3 = λ (regs : ℕ → ℕ). bit_xor (regs 6) (regs 5) in
-      let i1 = instr.Register Xor 5 5 6 in
-      let i2 = instr.Register And 5 5 7 in
-      let i3 = instr.Register Xor 5 6 5 in
-      let r1 = computing code frame size i1 5 f1 (omega arith, omega arith, omega arith) (λ e. omega arith) (λ pc regs. refl) in
-      let r2 = computing code frame size i2 5 f2 (omega arith, omega arith, omega arith) (λ e. omega arith) (λ pc regs. refl) in
-      let r3 = computing code frame size i3 5 f3 (omega arith, omega arith, omega arith) (λ e. omega arith) (λ pc regs. refl) in
-      let s23 = seq code frame size none none (i2 ∷ []) (i3 ∷ []) Always Always (Sets 5 f2) (Sets 5 f3) r2 r3 (λ env s t fit done. tt) in
-      let all = seq code frame size none none (i1 ∷ []) (i2 ∷ i3 ∷ []) Always Always (Sets 5 f1) (Then (Sets 5 f2) (Sets 5 f3)) r1 s23 (λ env s t fit done. tt) in
-      weaken code frame size none merge_code Always (Held frame size) (Then (Sets 5 f1) (Then (Sets 5 f2) (Sets 5 f3))) (Made frame size (λ regs. merged (regs 7) (regs 6) (regs 5)))
-      (λ env s held. tt)
-      (λ env s u held done.
-      let a = done.middle in
-      let b = done.second.middle in
-      let one = done.first in
-      let two = done.second.first in
-      let three = done.second.second in
-      let mixed : b.regs 5 ≡ bit_and (bit_xor (s.regs 5) (s.regs 6)) (s.regs 7) = two.there ∙ ap₂ bit_and one.there (one.others 7 (λ e. omega arith)) in
-      let old : b.regs 6 ≡ s.regs 6 = two.others 6 (λ e. omega arith) ∙ one.others 6 (λ e. omega arith) in
-      let same = three.same ∙ (two.same ∙ one.same) in
-      record {
-        held = held-regs code frame size even ends env s u (three.others 2 (λ e. omega arith) ∙ (two.others 2 (λ e. omega arith) ∙ one.others 2 (λ e. omega arith))) same held;
-        there = three.there ∙ ap₂ bit_xor old mixed;
-        same = same;
-      })
-      all
+cut_composed : (w : Width) (regs : ℕ → ℕ) → registers_after (cut_code w) regs 5 ≡ cut_value w (regs 5)
+cut_composed W8 regs = refl
+cut_composed W16 regs = refl
+cut_composed W32 regs = refl
+
+pub cut_made : (w : Width) (regs : ℕ → ℕ) → regs 5 < 2 ^ 32 → registers_after (cut_code w) regs 5 ≡ converted w (regs 5)
+cut_made w regs fits = cut_composed w regs ∙ cut_computes w (regs 5) fits
+
+-- Operators.
+
+pub operator_plain : (operator : BinaryOperator) (w : Width) → divides operator ≡ false → only_computes (operator_code operator w) ≡ true
+operator_plain Either w h = refl
+operator_plain Both w h = refl
+operator_plain Equal w h = refl
+operator_plain Unequal w h = refl
+operator_plain Less w h = refl
+operator_plain LessOrEqual w h = refl
+operator_plain Greater w h = refl
+operator_plain GreaterOrEqual w h = refl
+operator_plain BitOr w h = refl
+operator_plain BitXor w h = refl
+operator_plain BitAnd w h = refl
+operator_plain ShiftLeft w h = cut_plain w
+operator_plain ShiftRight w h = cut_plain w
+operator_plain Add w h = cut_plain w
+operator_plain Subtract w h = cut_plain w
+operator_plain Multiply w h = cut_plain w
+operator_plain Divide w h = absurd (true≢false h)
+operator_plain Remainder w h = absurd (true≢false h)
+
+operator_composed : (operator : BinaryOperator) (w : Width) → divides operator ≡ false → (regs : ℕ → ℕ) → registers_after (operator_code operator w) regs 5 ≡ composed operator w (regs 6) (regs 5)
+operator_composed Either w h regs = refl
+operator_composed Both w h regs = refl
+operator_composed Equal w h regs = refl
+operator_composed Unequal w h regs = refl
+operator_composed Less w h regs = refl
+operator_composed LessOrEqual w h regs = refl
+operator_composed Greater w h regs = refl
+operator_composed GreaterOrEqual w h regs = refl
+operator_composed BitOr w h regs = refl
+operator_composed BitXor w h regs = refl
+operator_composed BitAnd w h regs = refl
+operator_composed ShiftLeft w h regs = cut_composed w _
+operator_composed ShiftRight w h regs = cut_composed w _
+operator_composed Add w h regs = cut_composed w _
+operator_composed Subtract w h regs = cut_composed w _
+operator_composed Multiply w h regs = cut_composed w _
+operator_composed Divide w h regs = absurd (true≢false h)
+operator_composed Remainder w h regs = absurd (true≢false h)
+
+pub operator_made : (operator : BinaryOperator) (w : Width) → divides operator ≡ false → (regs : ℕ → ℕ) → regs 6 < 2 ^ 32 → regs 5 < 2 ^ 32 → registers_after (operator_code operator w) regs 5 ≡ operated operator w (regs 6) (regs 5)
+operator_made operator w h regs left right = operator_composed operator w h regs ∙ operator_computes operator w (regs 6) (regs 5) h left right
+
+pub prefix_plain : (operator : PrefixOperator) (w : Width) → only_computes (prefix_code operator w) ≡ true
+prefix_plain Not w = refl
+prefix_plain Complement w = cut_plain w
+prefix_plain Negate w = cut_plain w
+
+prefix_composed : (operator : PrefixOperator) (w : Width) (regs : ℕ → ℕ) → registers_after (prefix_code operator w) regs 5 ≡ composed_prefix operator w (regs 5)
+prefix_composed Not w regs = refl
+prefix_composed Complement w regs = cut_composed w _
+prefix_composed Negate w regs = cut_composed w _
+
+pub prefix_made : (operator : PrefixOperator) (w : Width) (regs : ℕ → ℕ) → regs 5 < 2 ^ 32 → registers_after (prefix_code operator w) regs 5 ≡ prefix_value operator w (regs 5)
+prefix_made operator w regs fits = prefix_composed operator w regs ∙ prefix_computes operator w (regs 5) fits
+
+-- Rotations.
+
+plain_append : (xs ys : List Instr) → only_computes xs ≡ true → only_computes ys ≡ true → only_computes (xs ++ ys) ≡ true
+plain_append [] ys one two = two
+plain_append (x ∷ xs) ys one two =
+    ap₂ (λ a b. a && b) (both_left (computes x) (only_computes xs) one) (plain_append xs ys (both_right (computes x) (only_computes xs) one) two)
+
+after_append : (xs ys : List Instr) (regs : ℕ → ℕ) → registers_after (xs ++ ys) regs ≡ registers_after ys (registers_after xs regs)
+after_append [] ys regs = refl
+after_append (x ∷ xs) ys regs = after_append xs ys (registers_after (x ∷ []) regs)
+
+amount_within : (w : Width) (amount : ℕ) → amount % bits w < bits w
+amount_within W8 amount = omega arith
+amount_within W16 amount = omega arith
+amount_within W32 amount = omega arith
+
+amount_up : (w : Width) (amount : ℕ) → amount < bits w → amount < 32
+amount_up W8 amount within = omega (arith, within)
+amount_up W16 amount within = omega (arith, within)
+amount_up W32 amount within = within
+
+amount_down : (w : Width) (amount : ℕ) → 0 < amount → bits w - amount < 32
+amount_down W8 amount some = omega arith
+amount_down W16 amount some = omega arith
+amount_down W32 amount some = omega (arith, some)
+
+-- the instructions of a rotation by an amount other than 0
+abbrev turning_code : Width → ℕ → List Instr
+turning_code w amount =
+    instr.Shift Slli 6 5 amount ∷ instr.Shift Srli 5 5 (bits w - amount) ∷ instr.Register register.Add 5 6 5 ∷ cut_code w
+
+around_plain : (w : Width) (amount : ℕ) → amount < bits w → (b : Bool) → (amount == 0) ≡ b → only_computes (cond b [] (turning_code w amount)) ≡ true
+around_plain w amount within true h = refl
+around_plain w amount within false h =
+    let some : 0 < amount = grind (arith, nat_tests) in
+    ap₂ (λ a b. a && b) (is_below amount 32 (amount_up w amount within)) (ap₂ (λ a b. a && b) (is_below (bits w - amount) 32 (amount_down w amount some)) (cut_plain w))
+
+pub rotate_plain : (w : Width) (amount : ℕ) → only_computes (rotate_code w amount) ≡ true
+rotate_plain w amount =
+    let n = amount % bits w in
+    plain_append (cut_code w) (around_code w n) (cut_plain w) (around_plain w n (amount_within w amount) (n == 0) refl)
+
+around_composed : (w : Width) (amount : ℕ) (regs : ℕ → ℕ) (b : Bool) → registers_after (cond b [] (turning_code w amount)) regs 5 ≡ cond b (regs 5) (cut_value w (register_value register.Add (shift_value Slli (regs 5) amount) (shift_value Srli (regs 5) (bits w - amount))))
+around_composed w amount regs true = refl
+around_composed w amount regs false = cut_composed w _
+
+pub rotate_made : (w : Width) (amount : ℕ) (regs : ℕ → ℕ) → regs 5 < 2 ^ 32 → registers_after (rotate_code w amount) regs 5 ≡ rotated_left w (regs 5) amount
+rotate_made w amount regs fits =
+    let n = amount % bits w in
+    ap (λ (after : ℕ → ℕ). after 5) (after_append (cut_code w) (around_code w n) regs)
+    ∙ (around_composed w n (registers_after (cut_code w) regs) (n == 0)
+    ∙ (ap (λ x. around_value w x n) (cut_composed w regs) ∙ rotate_computes w (regs 5) amount fits))

@@ -1,4 +1,4 @@
--- The pieces of emitted code: slots, numbers, operators and the choice.
+-- The pieces of emitted code that take words from slots.
 use Rattle.std.proofs.Common.{◌≡◌, ◌≢◌, ℕ, ◌+◌, ◌*◌, ◌%◌, ◌^◌, ◌<◌, ◌≤◌, Bool, true, false, cond, nat_lt, [], ◌∷◌, Some, is_some, refl, sym, ap, ◌∙◌, arith, ne_eqb}
 use Rattle.std.proofs.lemmas.Bool.Decides.{nat_tests}
 use Rattle.rv_code.specs.declared.instructions.Instr.TheVariants as instr
@@ -32,12 +32,6 @@ pub record Put (frame size r o : ℕ) (env : StraightState) (s t : State) : Type
   pub held : Held frame size env t
   pub written : t.bytes ≡ with_number s.bytes 4 (frame + o) (s.regs r)
   pub others : (q : ℕ) → q ≢ 28 → t.regs q ≡ s.regs q
-
--- a value of the registers in a register
-pub record Made (frame size : ℕ) (f : (ℕ → ℕ) → ℕ) (env : StraightState) (s t : State) : Type 0 where
-  pub held : Held frame size env t
-  pub there : t.regs 5 ≡ f s.regs
-  pub same : t.bytes ≡ s.bytes
 
 module _ (code : Code) (frame size : ℕ) (even : frame % 4 ≡ 0) (ends : frame + size < 2 ^ 32) where
   pub held-regs : (env : StraightState) (s t : State) → t.regs 2 ≡ s.regs 2 → t.bytes ≡ s.bytes → Held frame size env s → Held frame size env t

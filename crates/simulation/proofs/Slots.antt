@@ -6,12 +6,10 @@ use Rattle.codegen.specs.Layout.{variable_offset, control_offset}
 use Rattle.rv_machine.specs.Bytes.{ByteMap, number_at}
 use Rattle.rv_machine.specs.ByteLaws.{number_at_apart}
 use Rattle.rv_machine.specs.Machine as machine
+use Rattle.simulation.proofs.Computing.{same_number}
 use Rattle.simulation.proofs.Masks.{mask_of, mask_fits}
 use Rattle.simulation.proofs.Pieces.{Put}
 use Rattle.simulation.proofs.Values.{Ready, put_there}
-
-same_number : (y x : ℕ) → (y == x) ≡ true → y ≡ x
-same_number y x h = grind (arith, nat_tests)
 
 -- two numbers that are not the same, as words apart
 sides : (y x : ℕ) → (y == x) ≡ false → (4 * y + 4 ≤ 4 * x) ⊎ (4 * x + 4 ≤ 4 * y)

@@ -1,5 +1,5 @@
 -- The code of a statement makes of the state what the statement makes of it.
-use Rattle.std.proofs.Common.{◌≡◌, ℕ, ◌+◌, ◌*◌, ◌%◌, ◌^◌, ◌<◌, ◌≤◌, ◌==◌, Bool, true, false, not, ◌&&◌, if◌then◌else◌, List, [], ◌∷◌, ◌++◌, Option, None, Some, sym, ap, ap₂, ◌∙◌, subst, arith, bit_and}
+use Rattle.std.proofs.Common.{◌≡◌, ℕ, ◌+◌, ◌*◌, ◌%◌, ◌^◌, ◌<◌, ◌≤◌, ◌==◌, Bool, true, false, not, ◌&&◌, if◌then◌else◌, List, [], ◌∷◌, ◌++◌, Option, None, Some, refl, sym, ap, ap₂, ◌∙◌, subst, arith, bit_and}
 use Rattle.std.proofs.lemmas.Option.{same_Some}
 use Rattle.std.proofs.Math.Nat.{le-max_left, le-max_right}
 use Rattle.std.specs.List.{AllByRecursion}
@@ -19,11 +19,11 @@ use Rattle.rv_machine.specs.Effects.{sum_of, difference_of}
 use Rattle.rv_machine.specs.Machine as machine
 use Rattle.rv_machine.specs.Machine.{Code}
 use Rattle.simulation.proofs.Straight.{none, Steps, After, Then, Runs, seq, quiet, weaken, idle, beside}
+use Rattle.simulation.proofs.Computing.{Computed, computing_runs}
 use Rattle.simulation.proofs.Expressions.{steps_of, expr_runs}
 use Rattle.simulation.proofs.Held.{HeldAt, Held}
 use Rattle.simulation.proofs.Masks.{mask_of, mask_when, mask_otherwise, masks_join, merged, merge, value_fits}
-use Rattle.simulation.proofs.Operations.{Masked, masks_runs, Joined, joining_runs, merge_runs}
-use Rattle.simulation.proofs.Pieces.{Took, Put, Made, load_runs}
+use Rattle.simulation.proofs.Pieces.{Took, Put, load_runs}
 use Rattle.simulation.proofs.Slots.{ready_set, ready_under, ready_taken}
 use Rattle.simulation.proofs.Stores.{store_runs}
 use Rattle.simulation.proofs.Values.{Ready, Fitted, Valued, ready_after}
@@ -75,7 +75,7 @@ module _ (code : Code) (frame size : ℕ) (even : frame % 4 ≡ 0) (ends : frame
       let P = Prepared frame size variables controls f g in
       let H = Held frame size in
       let Q1 = Took frame size 6 o in
-      let Q2 = Joined frame size in
+      let Q2 = Computed frame size ands in
       let load = weaken code frame size none (load_code 6 o) H P Q1 Q1 (λ env s prepared. prepared.ready.held) (λ env s t prepared took. took) (load_runs code frame size even ends 6 o (omega arith) (omega (arith, among, room)) (omega arith) (λ e. omega arith) (λ e. omega arith)) in
       weaken code frame size none (load_code 6 o ++ ands) P P (Then Q1 Q2) (Narrowed frame size (Some d) f g)
       (λ env s prepared. prepared)
@@ -88,11 +88,11 @@ module _ (code : Code) (frame size : ℕ) (even : frame % 4 ≡ 0) (ends : frame
       let x5 : m.regs 5 ≡ mask_of (g env) = one.others 5 (λ e. omega arith) ∙ prepared.otherwise in
       record {
         held = two.held;
-        when = two.when ∙ (ap₂ bit_and x7 x6 ∙ masks_join (env.controls d) (f env));
-        otherwise = two.otherwise ∙ (ap₂ bit_and x5 x6 ∙ masks_join (env.controls d) (g env));
+        when = ap (λ (regs : ℕ → ℕ). regs 7) two.registers ∙ (ap₂ bit_and x7 x6 ∙ masks_join (env.controls d) (f env));
+        otherwise = ap (λ (regs : ℕ → ℕ). regs 5) two.registers ∙ (ap₂ bit_and x5 x6 ∙ masks_join (env.controls d) (g env));
         same = two.same ∙ one.same;
       })
-      (quiet code frame size none (load_code 6 o) ands P H Q1 Q2 load (joining_runs code frame size even ends) (λ env s t prepared took. took.held))
+      (quiet code frame size none (load_code 6 o) ands P H Q1 Q2 load (computing_runs code frame size even ends ands refl) (λ env s t prepared took. took.held))
 
   -- an expression's value, where a statement's parts are words
   value_runs : (statement : StraightTree) (e : TermTree) → ((env : StraightState) → IsFitStatement env statement → IsFit env.variables e) → IsUpTo variables e → temporaries_offset variables controls + 4 * height_of e ≤ size → Runs code frame size (steps_of e) (expr_code (temporaries_offset variables controls) e) (Able frame size variables controls statement) (Valued frame size e (temporaries_offset variables controls))
@@ -143,12 +143,12 @@ module _ (code : Code) (frame size : ℕ) (even : frame % 4 ≡ 0) (ends : frame
       let Q1 = Valued frame size value free in
       let Q2 = Took frame size 6 o in
       let Q3 = Took frame size 7 k in
-      let Q4 = Made frame size (λ regs. merged (regs 7) (regs 6) (regs 5)) in
+      let Q4 = Computed frame size merge_code in
       let Q5 = Put frame size 5 o in
       let r1 = value_runs (set_under c x value) value (λ env fit. fit) known room in
       let r2 = quiet code frame size steps (expr_code free value) (load_code 6 o) P H Q1 Q2 r1 (load_runs code frame size even ends 6 o (omega arith) (omega (arith, below, room)) (omega arith) (λ e. omega arith) (λ e. omega arith)) (λ env s t able done. done.held) in
       let r3 = quiet code frame size steps (expr_code free value ++ load_code 6 o) (load_code 7 k) P H (Then Q1 Q2) Q3 r2 (load_runs code frame size even ends 7 k (omega arith) (omega (arith, among, room)) (omega arith) (λ e. omega arith) (λ e. omega arith)) (λ env s t able done. done.second.held) in
-      let r4 = quiet code frame size steps (expr_code free value ++ load_code 6 o ++ load_code 7 k) merge_code P H (Then (Then Q1 Q2) Q3) Q4 r3 (merge_runs code frame size even ends) (λ env s t able done. done.second.held) in
+      let r4 = quiet code frame size steps (expr_code free value ++ load_code 6 o ++ load_code 7 k) merge_code P H (Then (Then Q1 Q2) Q3) Q4 r3 (computing_runs code frame size even ends merge_code refl) (λ env s t able done. done.second.held) in
       let r5 = quiet code frame size steps (expr_code free value ++ load_code 6 o ++ load_code 7 k ++ merge_code) (store_code 5 o) P H (Then (Then (Then Q1 Q2) Q3) Q4) Q5 r4 (store_runs code frame size even ends 5 (omega arith) (λ e. omega arith) (λ e. omega arith) o (omega arith) (omega (arith, below, room))) (λ env s t able done. done.second.held) in
       weaken code frame size steps (expr_code free value ++ load_code 6 o ++ load_code 7 k ++ merge_code ++ store_code 5 o) P P (Then (Then (Then (Then Q1 Q2) Q3) Q4) Q5) (Done (set_under c x value))
       (λ env s able. able)
@@ -173,7 +173,7 @@ module _ (code : Code) (frame size : ℕ) (even : frame % 4 ≡ 0) (ends : frame
       let mixed : merged (t3.regs 7) (t3.regs 6) (t3.regs 5) ≡ merged (mask_of b) old v = ap (λ m. merged m (t3.regs 6) (t3.regs 5)) x7 ∙ (ap (λ m. merged (mask_of b) m (t3.regs 5)) x6 ∙ ap (λ m. merged (mask_of b) old m) x5) in
       let fits = value_fits env.variables value able.fit in
       let old_fits = able.ready.words x below in
-      let made : t4.regs 5 ≡ (if b then v else old) = four.there ∙ (mixed ∙ merge b old v old_fits fits) in
+      let made : t4.regs 5 ≡ (if b then v else old) = ap (λ (regs : ℕ → ℕ). regs 5) four.registers ∙ (mixed ∙ merge b old v old_fits fits) in
       let ready4 = ready_with env t1 t4 ready1 four.held (four.same ∙ (three.same ∙ two.same)) in
       ready_under frame size variables controls b x v env t
       (ready_set frame size variables controls x (if b then v else old) below (chosen_fits b v old fits old_fits) env t4 t ready4 five made))
@@ -194,7 +194,7 @@ module _ (code : Code) (frame size : ℕ) (even : frame % 4 ≡ 0) (ends : frame
       let P = Able frame size variables controls (take c within condition) in
       let H = Held frame size in
       let Q1 = Valued frame size condition free in
-      let Q2 = Masked frame size in
+      let Q2 = Computed frame size masks_code in
       let Q3 = Narrowed frame size within f g in
       let Q4 = Put frame size 7 o in
       let Q5 = Put frame size 5 k in
@@ -205,11 +205,11 @@ module _ (code : Code) (frame size : ℕ) (even : frame % 4 ≡ 0) (ends : frame
       let truth = able.fit.0 in
       record {
         ready = ready_with env m t (still_ready condition env s m able.ready done.first) done.second.held done.second.same;
-        when = done.second.when ∙ (ap (λ x. difference_of 0 x) done.first.there ∙ mask_when (value_in env.variables condition) truth);
-        otherwise = done.second.otherwise ∙ (ap (λ x. sum_of x 4294967295) done.first.there ∙ mask_otherwise (value_in env.variables condition) truth);
+        when = ap (λ (regs : ℕ → ℕ). regs 7) done.second.registers ∙ (ap (λ x. difference_of 0 x) done.first.there ∙ mask_when (value_in env.variables condition) truth);
+        otherwise = ap (λ (regs : ℕ → ℕ). regs 5) done.second.registers ∙ (ap (λ x. sum_of x 4294967295) done.first.there ∙ mask_otherwise (value_in env.variables condition) truth);
       } in
       let r1 = value_runs (take c within condition) condition (λ env fit. fit.1) known room in
-      let r2 = quiet code frame size steps e masks_code P H Q1 Q2 r1 (masks_runs code frame size even ends) (λ env s t able done. done.held) in
+      let r2 = quiet code frame size steps e masks_code P H Q1 Q2 r1 (computing_runs code frame size even ends masks_code refl) (λ env s t able done. done.held) in
       let r3 = quiet code frame size steps (e ++ masks_code) w P (Prepared frame size variables controls f g) (Then Q1 Q2) Q3 r2 (within_runs within f g among (omega (arith, room))) prepared in
       let r4 = quiet code frame size steps (e ++ masks_code ++ w) (store_code 7 o) P H (Then (Then Q1 Q2) Q3) Q4 r3 (store_runs code frame size even ends 7 (omega arith) (λ e. omega arith) (λ e. omega arith) o (omega arith) (omega (arith, below, room))) (λ env s t able done. done.second.held) in
       let r5 = quiet code frame size steps (e ++ masks_code ++ w ++ store_code 7 o) (store_code 5 k) P H (Then (Then (Then Q1 Q2) Q3) Q4) Q5 r4 (store_runs code frame size even ends 5 (omega arith) (λ e. omega arith) (λ e. omega arith) k (omega arith) (omega (arith, below, room))) (λ env s t able done. done.second.held) in

@@ -1,16 +1,18 @@
 -- The image of straight code, loaded and run.
-use Rattle.std.proofs.Common.{◌≡◌, ℕ, ◌+◌, ◌*◌, ◌≤◌, List, [], ◌∷◌, ◌++◌, length, All, Some, None, unwrap_or, refl, sym, ap, subst, arith, length-append}
+use Rattle.std.proofs.Common.{◌≡◌, ℕ, ◌+◌, ◌*◌, ◌≤◌, List, [], ◌∷◌, ◌++◌, length, All, Option, Some, None, is_some, unwrap_or, refl, sym, ap, subst, arith, length-append}
+use Rattle.std.proofs.lemmas.Bool.{true≢false, false≢true}
 use Rattle.std.proofs.lemmas.List.Elements.{All-append}
+use Rattle.std.specs.Option.{option_map}
 use Rattle.std.proofs.Math.Nat.{le-max_left, le-max_right}
 use Rattle.arguments.specs.Within.{AreWithin}
-use Rattle.branch_removal.specs.Fitness.{IsFit, AreFit, IsFitOn}
-use Rattle.branch_removal.specs.Path.{Path, path_in, path_along, path_of}
+use Rattle.branch_removal.specs.Fitness.{AreFit, IsFitResult, IsFitOn}
+use Rattle.branch_removal.specs.Path.{Path, path_along, path_of}
 use Rattle.branch_removal.specs.Straight.{StraightProgram}
 use Rattle.branch_removal.specs.StraightMeaning.{StraightState, start, after_all, outcome_of}
-use Rattle.codegen.specs.Emitted.{expr_code, store_code, statements_code, height_of, height_in_all}
-use Rattle.codegen.specs.Generated.{program_code, image_of}
-use Rattle.codegen.specs.Layout.{result_offset, temporaries_offset}
+use Rattle.codegen.specs.Emitted.{statements_code, height_in_all}
+use Rattle.codegen.specs.Generated.{program_code, result_code, result_height, result_slot, image_of}
 use Rattle.codegen.specs.Room.{HasRoom}
+use Rattle.inline.specs.Flat.{TermTree}
 use Rattle.inline.specs.FlatMeaning.{value_in}
 use Rattle.rv_code.specs.declared.instructions.Instr.{Instr}
 use Rattle.rv_code.specs.declared.instructions.Instr.TheVariants as instr
@@ -20,21 +22,18 @@ use Rattle.rv_machine.specs.Leakage.{Halts}
 use Rattle.rv_machine.specs.Machine as machine
 use Rattle.rv_machine.specs.RunLaws.{Halts-after}
 use Rattle.rv_machine.specs.TurnLaws.{IsAt, ecall_halts}
+use Rattle.syntax.specs.declared.typing.WordType.{WordType}
 use Rattle.syntax.specs.declared.values.Arg.{Arg}
 use Rattle.simulation.specs.Compiled.{IsInside, AreBases}
-use Rattle.simulation.specs.Followed.{RunsAs, IsFollowed}
+use Rattle.simulation.specs.Followed.{HasResult, RunsAs, IsFollowed}
 use Rattle.simulation.specs.Loaded.{code_at, loaded_at, results_in, word_in}
 use Rattle.simulation.proofs.Arguments.{loaded}
-use Rattle.simulation.proofs.Expressions.{steps_of, expr_runs}
-use Rattle.simulation.proofs.Held.{Held}
-use Rattle.simulation.proofs.Masks.{value_fits}
-use Rattle.simulation.proofs.Pieces.{Put}
 use Rattle.simulation.proofs.Placing.{placed}
+use Rattle.simulation.proofs.ResultRuns.{steps_of_result, ResultFitted, Left, result_runs}
 use Rattle.simulation.proofs.Statements.{AllAble, statements_runs}
 use Rattle.simulation.proofs.Steps.{All-one}
-use Rattle.simulation.proofs.Stores.{store_runs}
-use Rattle.simulation.proofs.Straight.{Placed, Placed-left, Placed-right, Straight, Steps, After, Runs, Then, seq, quiet, weaken, beside}
-use Rattle.simulation.proofs.Values.{Ready, Fitted, Valued, put_there}
+use Rattle.simulation.proofs.Straight.{Placed, Placed-left, Placed-right, Straight, Steps, After, Runs, Then, seq, weaken, beside}
+use Rattle.simulation.proofs.Values.{Ready}
 
 -- the state that the value is taken in
 abbrev last_state : StraightProgram → StraightState → StraightState
@@ -44,24 +43,24 @@ last_state p env = after_all env p.statements
 pub record Begins (p : StraightProgram) (frame size : ℕ) (env : StraightState) (s : machine.State) : Type 0 where
   pub ready : Ready frame size p.variables p.controls env s
   pub fit : AreFit env p.statements
-  pub value : IsFit (last_state p env).variables p.value
+  pub value : IsFitResult (last_state p env).variables p.value
 
-module _ (p : StraightProgram) (room : HasRoom p) (code frame : ℕ) (bases : AreBases (image_of p) code frame) where
+module _ (p : StraightProgram) (room : HasRoom p) (result : HasResult p) (code frame : ℕ) (bases : AreBases (image_of p) code frame) where
   -- all but the end
   body : List Instr
-  body = statements_code p.variables p.controls p.statements ++ expr_code (temporaries_offset p.variables p.controls) p.value ++ store_code 5 (result_offset p.variables)
+  body = statements_code p.variables p.controls p.statements ++ result_code p.variables p.controls p.value
 
   Shown : After
   Shown env s t = Ready frame (image_of p).frame_bytes p.variables p.controls (last_state p env) t
 
   Taken : After
-  Taken env s t = Valued frame (image_of p).frame_bytes p.value (temporaries_offset p.variables p.controls) (last_state p env) s t
+  Taken env s t = Left frame p.variables p.value (last_state p env) t
 
   After_body : After
-  After_body = Then (Then Shown Taken) (Put frame (image_of p).frame_bytes 5 (result_offset p.variables))
+  After_body = Then Shown Taken
 
   steps : Steps
-  steps env = path_along env p.statements ++ path_in (last_state p env).variables p.value
+  steps env = path_along env p.statements ++ steps_of_result p.value (last_state p env)
 
   body_runs : Runs (code_at code (image_of p)) frame (image_of p).frame_bytes steps body (Begins p frame (image_of p).frame_bytes) After_body
   unfolding body Shown Taken After_body steps
@@ -72,24 +71,18 @@ module _ (p : StraightProgram) (room : HasRoom p) (code frame : ℕ) (bases : Ar
       let ends = bases.frame_ends in
       let v = p.variables in
       let k = p.controls in
-      let f = temporaries_offset v k in
       let xs = statements_code v k p.statements in
-      let ys = expr_code f p.value in
-      let zs = store_code 5 (result_offset v) in
-      let l = le-max_left (height_in_all p.statements) (height_of p.value) in
-      let r = le-max_right (height_in_all p.statements) (height_of p.value) in
+      let ys = result_code v k p.value in
+      let l = le-max_left (height_in_all p.statements) (result_height p.value) in
+      let r = le-max_right (height_in_all p.statements) (result_height p.value) in
       let P = Begins p frame n in
       let Q1 = λ (env : StraightState) (s t : machine.State). Ready frame n v k (last_state p env) t in
-      let Q2 = λ (env : StraightState) (s t : machine.State). Valued frame n p.value f (last_state p env) s t in
-      let Q3 = Put frame n 5 (result_offset v) in
+      let Q2 = λ (env : StraightState) (s t : machine.State). Left frame v p.value (last_state p env) t in
       let a : Steps = λ env. path_along env p.statements in
-      let b : Steps = λ env. path_in (last_state p env).variables p.value in
+      let b : Steps = λ env. steps_of_result p.value (last_state p env) in
       let one = weaken c frame n a xs (AllAble frame n v k p.statements) P Q1 Q1 (λ env s begins. record { ready = begins.ready; fit = begins.fit }) (λ env s t begins done. done) (statements_runs c frame n even ends v k p.statements room.statements (omega (arith, l))) in
-      let two = beside c frame n (last_state p) (steps_of p.value) ys (Fitted frame n v k p.value) (Valued frame n p.value f) (expr_runs c frame n even ends v k p.value f room.value (omega arith) (omega arith) (omega (arith, r))) in
-      let both = seq c frame n a b xs ys P (λ env s. Fitted frame n v k p.value (last_state p env) s) Q1 Q2 one two (λ env s t begins done. record { ready = done; fit = begins.value }) in
-      quiet c frame n (λ env. a env ++ b env) (xs ++ ys) zs P (Held frame n) (Then Q1 Q2) Q3 both
-      (store_runs c frame n even ends 5 (omega arith) (λ e. omega arith) (λ e. omega arith) (result_offset v) (omega arith) (omega arith))
-      (λ env s t begins done. done.second.held)
+      let two = beside c frame n (last_state p) (steps_of_result p.value) ys (ResultFitted frame n v k p.value) (λ env s t. Left frame v p.value env t) (result_runs c frame n even ends v k p.value room.value (omega (arith, r))) in
+      seq c frame n a b xs ys P (λ env s. ResultFitted frame n v k p.value (last_state p env) s) Q1 Q2 one two (λ env s t begins done. record { ready = done; fit = begins.value })
 
   all_placed : Placed (code_at code (image_of p)) code (body ++ instr.Ecall ∷ [])
   unfolding body
@@ -133,14 +126,18 @@ module _ (p : StraightProgram) (room : HasRoom p) (code frame : ℕ) (bases : Ar
     value = fit.value;
   }
 
-  outcome : (args : List Arg) → IsFitOn p args → (s t : machine.State) → After_body (start args) s t → results_in frame (image_of p) t.bytes ≡ outcome_of p args
+  -- the outcome, where the result's slot has the result
+  outcome_by : (returned : Option WordType) (value : Option TermTree) → is_some value ≡ is_some returned → (env : StraightState) (t : machine.State) → Left frame p.variables value env t
+      → option_map (λ slot. word_in frame t.bytes slot.offset) (option_map (result_slot p.variables) returned) ≡ option_map (value_in env.variables) value
+  outcome_by None None same env t left = refl
+  outcome_by (Some word) None same env t left = absurd (false≢true same)
+  outcome_by None (Some value) same env t left = absurd (true≢false same)
+  outcome_by (Some word) (Some value) same env t left = ap (λ x. Some (unwrap_or x 0)) left
+
+  outcome : (args : List Arg) (s t : machine.State) → After_body (start args) s t → results_in frame (image_of p) t.bytes ≡ outcome_of p args
   unfolding Shown Taken After_body
-  outcome args fit s t done =
-      let m = (after_all (start args) p.statements).variables in
-      let v = value_in m p.value in
-      let there = put_there frame (image_of p).frame_bytes 5 (result_offset p.variables) v (start args) done.middle t done.second done.first.second.there (value_fits m p.value fit.value) in
-      let word : word_in frame t.bytes (result_offset p.variables) ≡ v = ap (λ x. unwrap_or x 0) there in
-      ap (λ x. record { returned = Some x; arrays = [] }) word
+  outcome args s t done =
+      ap (λ x. record { returned = x; arrays = [] }) (outcome_by p.returned p.value result (last_state p (start args)) t done.second)
 
   runs_as : (args : List Arg) → AreWithin p.parameters args → IsFitOn p args → RunsAs p code frame args ((straight.leak (path_of p args ++ [])).0 ++ end_shown)
   unfolding steps last
@@ -157,7 +154,7 @@ module _ (p : StraightProgram) (room : HasRoom p) (code frame : ℕ) (bases : Ar
         halts = all;
         within_steps = word_count;
         within_frame = inside;
-        outcome = outcome args fit s done.end done.done;
+        outcome = outcome args s done.end done.done;
       })
 
   -- the machine follows the code

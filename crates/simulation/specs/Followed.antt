@@ -1,6 +1,6 @@
 -- What it is for the machine to follow straight code: the outcome is that of the code, and what is shown is decided
 -- by the path of public values.
-use Rattle.std.specs.Prelude.{◌≡◌, ℕ, ◌≤◌, List, All}
+use Rattle.std.specs.Prelude.{◌≡◌, ℕ, ◌≤◌, List, All, is_some}
 use Rattle.arguments.specs.Within.{AreWithin}
 use Rattle.branch_removal.specs.Fitness.{IsFitOn}
 use Rattle.branch_removal.specs.Path.{Path, path_of}
@@ -14,6 +14,10 @@ use Rattle.rv_machine.specs.declared.stops.Stop.TheVariants.{Ecall}
 use Rattle.syntax.specs.declared.values.Arg.{Arg}
 use Rattle.simulation.specs.Compiled.{IsInside}
 use Rattle.simulation.specs.Loaded.{code_at, loaded_at, results_in}
+
+-- a value stands exactly where there is a result
+abbrev pub HasResult : StraightProgram → Type 0
+HasResult p = is_some p.value ≡ is_some p.returned
 
 -- a run on some arguments, which shows this list
 pub record RunsAs (p : StraightProgram) (code frame : ℕ) (args : List Arg) (seen : List Observation) : Type 0 where

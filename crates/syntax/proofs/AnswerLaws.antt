@@ -3,12 +3,13 @@ use Rattle.std.proofs.Common.{◌≡◌, ℕ, ◌<◌, ◌≤◌, Some, Result, 
 use Rattle.std.specs.Prelude.{nat_lt}
 use Rattle.std.specs.Result.{IfOk, IfErr, IsErrAnd}
 use Rattle.syntax.specs.declared.refusal.Refusal.{Refusal}
-use Rattle.syntax.specs.declared.rule.Rule.TheVariants.{TextTooLong, OutOfMemory}
+use Rattle.syntax.specs.declared.rule.Rule.TheVariants.{TextTooLong}
 use Rattle.syntax.specs.declared.tree.Program.{Program}
 use Rattle.syntax.specs.Lexeme.{Lexeme}
 use Rattle.syntax.specs.Reading.{accepted, refused, Answers, Reads, too_long, by_tokens, text_limit, OneAnswer, IsRefusedAs}
 use Rattle.syntax.specs.Tokens.{Ending, Lexes, start}
 use Rattle.syntax.specs.Tree.{program_tree}
+use Rattle.syntax.specs.WantOfMemory.{IsWantOfMemory}
 use Rattle.syntax.proofs.MachineAnswers.{one_answer_for_tokens, lt-true, lt-false}
 use Rattle.syntax.proofs.TokenLaws.{one_list}
 
@@ -42,13 +43,13 @@ not-long n h = go (nat_lt text_limit n) refl
     go false e = lt-false text_limit n e
 
 -- what the lexer refuses
-lexer-refusal : (text : List ℕ) (r : Refusal) → (text_limit < length text → (r.rule ≡ TextTooLong) × (r.place ≡ Some start)) → (length text ≤ text_limit → r.rule ≡ OutOfMemory) → IsRefusedAs (Reads text) r
+lexer-refusal : (text : List ℕ) (r : Refusal) → (text_limit < length text → (r.rule ≡ TextTooLong) × (r.place ≡ Some start)) → (length text ≤ text_limit → IsWantOfMemory r.rule r.place) → IsRefusedAs (Reads text) r
 lexer-refusal text r long memory = go (nat_lt text_limit (length text)) refl
   where
     go : (b : Bool) → nat_lt text_limit (length text) ≡ b → IsRefusedAs (Reads text) r
     go true e = let w = long (lt-true text_limit (length text) e) in inr (start, w.1, subst (λ rule. Reads text (refused rule start)) (sym w.0) (too_long text (lt-true text_limit (length text) e)))
     go false e = inl (memory (lt-false text_limit (length text) e))
 
-pub lexer-refuses : (text : List ℕ) (result : Result Program Refusal) (r : Refusal) → IsErrAnd result (λ x. x ≡ r) → (text_limit < length text → (r.rule ≡ TextTooLong) × (r.place ≡ Some start)) → (length text ≤ text_limit → r.rule ≡ OutOfMemory) → IfErr result (IsRefusedAs (Reads text))
+pub lexer-refuses : (text : List ℕ) (result : Result Program Refusal) (r : Refusal) → IsErrAnd result (λ x. x ≡ r) → (text_limit < length text → (r.rule ≡ TextTooLong) × (r.place ≡ Some start)) → (length text ≤ text_limit → IsWantOfMemory r.rule r.place) → IfErr result (IsRefusedAs (Reads text))
 lexer-refuses text (Ok p) r h long memory = absurd h
 lexer-refuses text (Err x) r h long memory = subst (IsRefusedAs (Reads text)) (sym h) (lexer-refusal text r long memory)

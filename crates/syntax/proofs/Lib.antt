@@ -1,5 +1,7 @@
+pub mod MachineKinds
 pub mod MachineMeaning
 pub mod MachineSound
+pub mod MachineExpressions
 pub mod MachineComplete
 pub mod MachineAnswers
 pub mod ParserSteps
@@ -12,6 +14,5 @@ pub mod TokenNumbers
 pub mod TokenLaws
 pub mod TokenSteps
 pub mod AnswerLaws
-pub mod ProgramSteps
 pub mod StatementSteps
 pub mod GrammarLemmas

@@ -1,335 +1,343 @@
 -- The machine reads each program, to its tree.
-use Rattle.std.proofs.Common.{◌≡◌, ℕ, ◌+◌, ◌<◌, ◌≤◌, Bool, true, false, ◌&&◌, ◌⊎◌, inl, inr, List, [], ◌∷◌, ◌++◌, Option, Some, None, refl, sym, ap, ◌∙◌, arith, if◌then◌else◌, append_assoc}
-use Rattle.std.proofs.lemmas.Bool.Decides.{nat_tests}
+use Rattle.std.proofs.Common.{◌≡◌, ℕ, Bool, true, false, List, [], ◌∷◌, ◌++◌, Option, Some, None, refl, sym, ap, ◌∙◌, if◌then◌else◌, append_assoc}
 use Rattle.std.proofs.lemmas.List.{append-nil}
-use Rattle.std.specs.Prelude.{nat_le}
-use Rattle.std.specs.Option.{option_map, option_and_then}
+use Rattle.std.specs.Option.{option_and_then}
+use Rattle.word.specs.declared.place.Place.{Place}
+use Rattle.syntax.specs.declared.signature.Form.{Form}
+use Rattle.syntax.specs.declared.signature.Form.TheVariants.{SingleWord, FixedArray, MutableArray}
 use Rattle.syntax.specs.declared.signature.Kind.{Kind}
 use Rattle.syntax.specs.declared.signature.Label.{Label}
 use Rattle.syntax.specs.declared.token.TokenKind.{TokenKind}
-use Rattle.syntax.specs.declared.token.TokenKind.TheVariants as token
-use Rattle.syntax.specs.declared.token.Keyword.TheVariants.{Mut, If, Else, Return}
-use Rattle.syntax.specs.declared.token.Sign.TheVariants.{CloseRound, CloseCurly, Comma, Semicolon}
-use Rattle.syntax.specs.declared.token.Suffix.{Suffix}
-use Rattle.syntax.specs.declared.token.Suffix.TheVariants.{U32}
-use Rattle.syntax.specs.declared.tree.BinaryOperator.{BinaryOperator}
-use Rattle.syntax.specs.declared.tree.BinaryOperator.TheVariants.{BitXor, BitAnd, Add, Subtract}
-use Rattle.syntax.specs.Grammar.{operator_of, level_of, label_of, word_of, Where, in_body, in_arm, ExprAt, a_number, a_true, a_false, a_name, in_brackets, a_select, a_binary, Parameter, a_parameter, Parameters, no_parameters, some_parameters, MoreParameters, no_more, one_more, Mutable, no_mut, a_mut, Statement, a_declaration, an_assignment, a_conditional, Statements, no_statement, one_statement, Arm, an_arm, Otherwise, no_else, an_else, Procedure, a_procedure, IsProgram, IsBeginning, no_procedure, an_export}
+use Rattle.syntax.specs.declared.typing.WordType.{WordType}
+use Rattle.syntax.specs.Grammar.{label_of, word_of, length_of, Call, a_call, RightSide, Mutable, no_mut, a_mut, ArrayType, an_array_type, FirstValues, Statement, a_declaration, an_array, an_assignment, an_element_assignment, a_call_statement, a_conditional_statement, a_loop, Conditional, a_conditional, Statements, no_statement, one_statement, Block, a_block, Otherwise, no_else, an_else, an_else_if, Parameter, a_word, a_fixed_array, a_mutable_array, MoreParameters, no_more_parameters, one_more_parameter, Parameters, no_parameters, some_parameters, ResultType, a_void, a_type, BodyEnd, no_return, a_return, Exported, not_exported, an_export, Procedure, a_procedure, Procedures, no_procedure, one_procedure, IsProgram, a_program, IsBeginning}
 use Rattle.syntax.specs.Lexeme.{Lexeme}
-use Rattle.syntax.specs.Tree.{ExprTree, binary, select, StatementTree, declaration, assignment, conditional, BlockTree, nothing, first, ParameterTree, ProcedureTree, ProgramTree}
-use Rattle.syntax.specs.declared.parser.expression.Begins.{Begins}
-use Rattle.syntax.specs.declared.parser.expression.Begins.TheVariants.{Number as by_number, Truth as by_truth, Name as by_name, Bracket as by_bracket, Select as by_select}
+use Rattle.syntax.specs.Tree as tree
+use Rattle.syntax.specs.Tree.{ExprTree, CallTree, RightTree, StatementTree, BlockTree, nothing, first, ParameterTree, ReturnTree, ProcedureTree, ProgramTree}
 use Rattle.syntax.specs.declared.parser.statement.Start.{Start}
-use Rattle.syntax.specs.declared.parser.statement.Start.TheVariants.{Declaration as by_label, Assignment as by_target, Conditional as by_if}
-use Rattle.syntax.specs.Machine.{Wanted, a_word, export_word, mut_word, else_word, return_word, opening_round, closing_round, opening_curly, closing_curly, a_comma, a_semicolon, an_equals, State, ended, one, either, a_label, a_kind, parameters, more_parameters, expr, more, statements, kind_of, fits, begins_of, starts_with, labelled, parameter, operand, within, joined, declared_word, declared, arm, otherwise, statement, started, step, at_end, procedure, program, run}
-use Rattle.syntax.proofs.MachineSound.{fits-kind, and_then_some}
+use Rattle.syntax.specs.declared.parser.statement.Start.TheVariants.{Declaration as by_label, Target as by_target, Conditional as by_if, Loop as by_for}
+use Rattle.syntax.specs.declared.parser.wanted.Wanted.TheVariants as wanted
+use Rattle.syntax.specs.Machine.{State, procedures, one, either, a_label, a_kind, more_parameters, expr, statements, otherwise, kind_of, fits, starts_with, sized, call_of, right_end, first_values, declared_array, declared_word, declared_as, declared, assigned, element_assigned, called_alone, targeted, block, conditioned, after_else, statement, parameter_name, labelled, parameter, parameters, returned, procedure_from, result_type, procedure, program, started, step, at_end, run}
+use Rattle.syntax.proofs.MachineKinds.{fits-kind, label-starts, label-no, word-no-mut}
+use Rattle.syntax.proofs.MachineSound.{and_then_some}
+use Rattle.syntax.proofs.MachineExpressions.{Lacks, one-run, either-run, other-run, label-run, kind-run, length-run, expr-one-run, call-run, right-end-run, values-run}
 
--- what stands next is no sign that binds at the level or stronger
-abbrev pub Stops : ℕ → List Lexeme → Type 0
-Stops level [] = ⊥
-Stops level (t ∷ ts) = (operator : BinaryOperator) → operator_of t.kind ≡ Some operator → level_of operator < level
+mutable-run : (list : List Lexeme) (mutable : Bool) (ts : List Lexeme) → Mutable list mutable ts → Lacks wanted.Mut ts → (label : Label) (k : StatementTree → State) → run (declared label k) list ≡ run (declared_as label mutable k) ts
+mutable-run _ _ _ (no_mut rest) h label k = other-run wanted.Mut (λ _. declared_as label true k) (declared_as label false k) rest h
+mutable-run _ _ _ (a_mut t rest is) h label k = either-run wanted.Mut (λ _. declared_as label true k) (declared_as label false k) t rest is
 
-stops-at : (kind : TokenKind) (level : ℕ) (t : Lexeme) (ts : List Lexeme) → operator_of kind ≡ None → t.kind ≡ kind → Stops level (t ∷ ts)
-stops-at kind level t ts none is operator e = let f = ap operator_of is in cc
+sized-run : (k : ℕ → State) (number closing : Lexeme) (rest : List Lexeme) (n : ℕ) → length_of number.kind ≡ Some n → closing.kind ≡ kind_of wanted.CloseSquare → run (sized k) (number ∷ closing ∷ rest) ≡ run (k n) rest
+sized-run k number closing rest n is closes = length-run (λ n. one wanted.CloseSquare (λ _. k n)) number (closing ∷ rest) n is ∙ one-run wanted.CloseSquare (λ _. k n) closing rest closes
 
-not_le : (level n : ℕ) → n < level → nat_le level n ≡ false
-not_le level n lt = grind (arith, nat_tests)
+array-lacks : (ts : List Lexeme) (kind : Kind) (n : ℕ) (rest : List Lexeme) → ArrayType ts kind n rest → Lacks wanted.Mut ts
+array-lacks _ _ _ _ (an_array_type word opening number closing rest kind n is opens is_length closes) = word-no-mut word.kind kind is
 
-both_le : (level n top : ℕ) → level ≤ n → n ≤ top → (nat_le level n && nat_le n top) ≡ true
-both_le level n top low high = grind (arith, nat_tests)
+array-run : (ts : List Lexeme) (kind : Kind) (n : ℕ) (rest : List Lexeme) → ArrayType ts kind n rest → (label : Label) (mutable : Bool) (k : StatementTree → State) → run (declared_as label mutable k) ts ≡ run (declared_array label mutable kind n k) rest
+array-run _ _ _ _ (an_array_type word opening number closing rest kind n is opens is_length closes) label mutable k =
+    let next = λ (w : Kind) (_ : Lexeme). sized (λ n. declared_array label mutable w n k) in
+    kind-run (λ w. either wanted.OpenSquare (next w) (declared_word label mutable w k)) word (opening ∷ number ∷ closing ∷ rest) kind is
+    ∙ either-run wanted.OpenSquare (next kind) (declared_word label mutable kind k) opening (number ∷ closing ∷ rest) opens
+    ∙ sized-run (λ n. declared_array label mutable kind n k) number closing rest n is_length closes
 
-pub within_none : (level top : ℕ) (o : Option BinaryOperator) → ((operator : BinaryOperator) → o ≡ Some operator → level_of operator < level) → within level top o ≡ None
-within_none level top None h = refl
-within_none level top (Some operator) h = let e = not_le level (level_of operator) (h operator refl) in rw e
+-- what stands next begins no statement, and is no `else`
+abbrev Ends : List Lexeme → Type 0
+Ends [] = ⊥
+Ends (t ∷ ts) = (starts_with t.kind ≡ None) × (fits wanted.Else t.kind ≡ false)
 
-pub within_level : (level top : ℕ) (operator : BinaryOperator) → level ≤ level_of operator → level_of operator ≤ top → within level top (Some operator) ≡ Some operator
-within_level level top operator low high = let e = both_le level (level_of operator) top low high in rw e
+curly-ends : (t : Lexeme) (ts : List Lexeme) → t.kind ≡ kind_of wanted.CloseCurly → Ends (t ∷ ts)
+curly-ends t ts is = (ap starts_with is, ap (fits wanted.Else) is)
 
--- an expression that is complete makes way for what may stand after it
-stops-run : (level top : ℕ) (left : ExprTree) (k : ExprTree → State) (rest : List Lexeme) → Stops level rest → run (more level top left k) rest ≡ run (k left) rest
-stops-run level top left k [] h = absurd h
-stops-run level top left k (t ∷ ts) h = ap (λ o. option_and_then (λ n. run n ts) (joined o t level left k (step (k left) t))) (within_none level top (operator_of t.kind) h)
+return-ends : (t : Lexeme) (ts : List Lexeme) → t.kind ≡ kind_of wanted.Return → Ends (t ∷ ts)
+return-ends t ts is = (ap starts_with is, ap (fits wanted.Else) is)
 
-sign-run : (level top : ℕ) (left : ExprTree) (k : ExprTree → State) (t : Lexeme) (ts : List Lexeme) (operator : BinaryOperator) → operator_of t.kind ≡ Some operator → level ≤ level_of operator → level_of operator ≤ top → run (more level top left k) (t ∷ ts) ≡ run (expr (level_of operator + 1) (λ right. more level (level_of operator) (binary t.place operator left right) k)) ts
-sign-run level top left k t ts operator is low high = ap (λ o. option_and_then (λ n. run n ts) (joined o t level left k (step (k left) t))) (ap (within level top) is ∙ within_level level top operator low high)
+ends-lacks : (ts : List Lexeme) → Ends ts → Lacks wanted.Else ts
+ends-lacks [] h = absurd h
+ends-lacks (t ∷ ts) h = h.1
 
-one-run : (wanted : Wanted) (k : Lexeme → State) (t : Lexeme) (ts : List Lexeme) → t.kind ≡ kind_of wanted → run (one wanted k) (t ∷ ts) ≡ run (k t) ts
-one-run wanted k t ts is = ap (λ b. option_and_then (λ n. run n ts) (if b then Some (k t) else None)) (fits-kind wanted t.kind is)
+call-lacks : (ts : List Lexeme) (c : CallTree) (rest : List Lexeme) → Call ts c rest → Lacks wanted.Else ts
+call-lacks _ _ _ (a_call t opening list rest es is opens in_list) = ap (fits wanted.Else) is
 
-label-run : (k : Label → State) (t : Lexeme) (ts : List Lexeme) (label : Label) → label_of t.kind ≡ Some label → run (a_label k) (t ∷ ts) ≡ run (k label) ts
-label-run k t ts label is = ap (λ o. option_and_then (λ n. run n ts) (option_map k o)) is
+conditional-lacks : (ts : List Lexeme) (s : StatementTree) (rest : List Lexeme) → Conditional ts s rest → Lacks wanted.Else ts
+conditional-lacks _ _ _ (a_conditional t opening closing list arm others rest condition a b is opens in_condition closes in_arm in_other) = ap (fits wanted.Else) is
 
-kind-run : (k : Kind → State) (t : Lexeme) (ts : List Lexeme) (kind : Kind) → word_of t.kind ≡ Some kind → run (a_kind k) (t ∷ ts) ≡ run (k kind) ts
-kind-run k t ts kind is = ap (λ o. option_and_then (λ n. run n ts) (option_map k o)) is
+statement-lacks : (ts : List Lexeme) (s : StatementTree) (rest : List Lexeme) → Statement ts s rest → Lacks wanted.Else ts
+statement-lacks _ _ _ (a_declaration start second t equals semicolon list right' rest label mutable kind r is is_mutable is_kind is_name is_equals in_right ends) = (label-no start.kind label is).0
+statement-lacks _ _ _ (an_array start t semicolon list second values rest label mutable kind n vs is is_mutable in_type is_name in_values ends) = (label-no start.kind label is).0
+statement-lacks _ _ _ (an_assignment t equals semicolon right' rest r is is_equals in_right ends) = ap (fits wanted.Else) is
+statement-lacks _ _ _ (an_element_assignment t opening closing equals semicolon inner right' rest i r is opens in_i closes is_equals in_right ends) = ap (fits wanted.Else) is
+statement-lacks _ _ _ (a_call_statement semicolon list rest c in_call ends) = call-lacks list c (semicolon ∷ rest) in_call
+statement-lacks _ _ _ (a_conditional_statement list rest s h) = conditional-lacks list s rest h
+statement-lacks _ _ _ (a_loop t opening word counter from to closing low high body rest start end b is opens is_word is_name is_from in_low is_to in_high closes in_body) = ap (fits wanted.Else) is
 
-begins-run : (level : ℕ) (k : ExprTree → State) (t : Lexeme) (ts : List Lexeme) (b : Begins) → begins_of t.kind ≡ Some b → run (expr level k) (t ∷ ts) ≡ run (operand b t (λ e. more level 11 e k)) ts
-begins-run level k t ts b is = ap (λ o. option_and_then (λ n. run n ts) (option_map (λ b. operand b t (λ e. more level 11 e k)) o)) is
+statements-lacks : (ts : List Lexeme) (b : BlockTree) (rest : List Lexeme) → Statements ts b rest → Lacks wanted.Else rest → Lacks wanted.Else ts
+statements-lacks _ _ _ (no_statement rest) h = h
+statements-lacks _ _ _ (one_statement list others rest s b in_one in_more) h = statement-lacks list s others in_one
 
-plain_number : (value : ℕ) (suffix : Option Suffix) → (suffix ≡ None) ⊎ (suffix ≡ Some U32) → begins_of (token.Number value suffix) ≡ Some (by_number value)
-plain_number value suffix (inl e) = ap (λ s. begins_of (token.Number value s)) e
-plain_number value suffix (inr e) = ap (λ s. begins_of (token.Number value s)) e
+-- after a statement
+abbrev going_on : (BlockTree → State) → StatementTree → State
+going_on k s = statements (λ b. k (first s b))
 
-weak_level : (operator : BinaryOperator) → level_of operator ≤ 9
-weak_level BitXor = omega arith
-weak_level BitAnd = omega arith
-weak_level Add = omega arith
-weak_level Subtract = omega arith
+start-run : (k : BlockTree → State) (t : Lexeme) (ts : List Lexeme) (start : Start) → starts_with t.kind ≡ Some start → run (statements k) (t ∷ ts) ≡ run (statement start t (going_on k)) ts
+start-run k t ts start is = ap (λ o. option_and_then (λ n. run n ts) (started o t (going_on k) (step (k nothing) t))) is
 
-stops-more : (low high : ℕ) (rest : List Lexeme) → low ≤ high → Stops low rest → Stops high rest
-stops-more low high [] le h = h
-stops-more low high (t ∷ ts) le h = λ operator e. let lt = h operator e in omega arith
+end-run : (k : BlockTree → State) (ts : List Lexeme) → Ends ts → run (statements k) ts ≡ run (k nothing) ts
+end-run k [] h = absurd h
+end-run k (t ∷ ts) h = ap (λ o. option_and_then (λ n. run n ts) (started o t (going_on k) (step (k nothing) t))) h.0
 
-same_level : (operator other : BinaryOperator) (o : Option BinaryOperator) → o ≡ Some operator → o ≡ Some other → level_of other < level_of operator + 1
-same_level operator other o e f = let same : other ≡ operator = cc in rw same (omega arith)
+else-run : (k : BlockTree → State) (t : Lexeme) (ts : List Lexeme) → t.kind ≡ kind_of wanted.Else → run (otherwise k) (t ∷ ts) ≡ run (after_else k) ts
+else-run k t ts is = ap (λ b. option_and_then (λ n. run n ts) (if b then Some (after_else k) else step (k nothing) t)) (fits-kind wanted.Else t.kind is)
 
--- that the machine reads an expression, and with which signs it may go on
-abbrev Read : ℕ → ℕ → (ExprTree → State) → List Lexeme → ExprTree → List Lexeme → Type 0
-Read level low k ts e rest = (top : ℕ) × (level ≤ top) × (run (expr low k) ts ≡ run (more low top e k) rest)
+no-else-run : (k : BlockTree → State) (ts : List Lexeme) → Lacks wanted.Else ts → run (otherwise k) ts ≡ run (k nothing) ts
+no-else-run k [] h = absurd h
+no-else-run k (t ∷ ts) h = ap (λ b. option_and_then (λ n. run n ts) (if b then Some (after_else k) else step (k nothing) t)) h
 
-whole : (k : ExprTree → State) (ts : List Lexeme) (e : ExprTree) (rest : List Lexeme) → Read 1 1 k ts e rest → Stops 1 rest → run (expr 1 k) ts ≡ run (k e) rest
-whole k ts e rest (top, le, is) stops = is ∙ stops-run 1 top e k rest stops
+-- a block's first token is no `if`
+block-lacks : (ts : List Lexeme) (b : BlockTree) (rest : List Lexeme) → Block ts b rest → Lacks wanted.If ts
+block-lacks _ _ _ (a_block opening closing list rest b opens in_list closes) = ap (fits wanted.If) opens
 
-reads-expr : (level : ℕ) (ts : List Lexeme) (e : ExprTree) (rest : List Lexeme) → ExprAt level ts e rest → level ≤ 10 → Stops (level + 1) rest → (low : ℕ) → low ≤ level → (k : ExprTree → State) → Read level low k ts e rest
-reads-expr _ _ _ _ (a_number level t value suffix rest is plain) small stops low le k = (11, omega arith, begins-run low k t rest (by_number value) (ap begins_of is ∙ plain_number value suffix plain))
-reads-expr _ _ _ _ (a_true level t rest is) small stops low le k = (11, omega arith, begins-run low k t rest (by_truth true) (ap begins_of is))
-reads-expr _ _ _ _ (a_false level t rest is) small stops low le k = (11, omega arith, begins-run low k t rest (by_truth false) (ap begins_of is))
-reads-expr _ _ _ _ (a_name level t rest is) small stops low le k = (11, omega arith, begins-run low k t rest by_name (ap begins_of is))
-reads-expr _ _ _ _ (in_brackets level opening closing inner rest tree opens e closes) small stops low le k =
-    let k' = λ (x : ExprTree). one closing_round (λ _. more low 11 x k) in
-    let h = reads-expr 1 inner tree (closing ∷ rest) e (omega arith) (stops-at (token.Sign CloseRound) 2 closing rest refl closes) 1 (omega arith) k' in (
-      11,
-      omega arith,
-      begins-run low k opening inner by_bracket (ap begins_of opens)
-          ∙ whole k' inner tree (closing ∷ rest) h (stops-at (token.Sign CloseRound) 1 closing rest refl closes)
-          ∙ one-run closing_round (λ _. more low 11 tree k) closing rest closes,
-    )
-reads-expr _ _ _ _ (a_select level t opening comma comma' closing one' second third rest a b c is opens in_a is_comma in_b is_comma' in_c closes) small stops low le k =
-    let k₃ = λ (z : ExprTree). one closing_round (λ _. more low 11 (select t.place a b z) k) in
-    let k₂ = λ (y : ExprTree). one a_comma (λ _. expr 1 (λ z. one closing_round (λ _. more low 11 (select t.place a y z) k))) in
-    let k₁ = λ (x : ExprTree). one a_comma (λ _. expr 1 (λ y. one a_comma (λ _. expr 1 (λ z. one closing_round (λ _. more low 11 (select t.place x y z) k))))) in
-    let h₁ = reads-expr 1 one' a (comma ∷ second) in_a (omega arith) (stops-at (token.Sign Comma) 2 comma second refl is_comma) 1 (omega arith) k₁ in
-    let h₂ = reads-expr 1 second b (comma' ∷ third) in_b (omega arith) (stops-at (token.Sign Comma) 2 comma' third refl is_comma') 1 (omega arith) k₂ in
-    let h₃ = reads-expr 1 third c (closing ∷ rest) in_c (omega arith) (stops-at (token.Sign CloseRound) 2 closing rest refl closes) 1 (omega arith) k₃ in (
-      11,
-      omega arith,
-      begins-run low k t (opening ∷ one') by_select (ap begins_of is)
-          ∙ one-run opening_round (λ _. expr 1 k₁) opening one' opens
-          ∙ whole k₁ one' a (comma ∷ second) h₁ (stops-at (token.Sign Comma) 1 comma second refl is_comma)
-          ∙ one-run a_comma (λ _. expr 1 k₂) comma second is_comma
-          ∙ whole k₂ second b (comma' ∷ third) h₂ (stops-at (token.Sign Comma) 1 comma' third refl is_comma')
-          ∙ one-run a_comma (λ _. expr 1 k₃) comma' third is_comma'
-          ∙ whole k₃ third c (closing ∷ rest) h₃ (stops-at (token.Sign CloseRound) 1 closing rest refl closes)
-          ∙ one-run closing_round (λ _. more low 11 (select t.place a b c) k) closing rest closes,
-    )
-reads-expr _ _ _ _ (a_binary level t operator start second rest left right is at in_left in_right) small stops low le k =
-    let high = weak_level operator in
-    let k' = λ (y : ExprTree). more low (level_of operator) (binary t.place operator left y) k in
-    let h = reads-expr (level_of operator) start left (t ∷ second) in_left (omega arith) (λ o e. same_level operator o (operator_of t.kind) is e) low (omega arith) k in
-    let g = reads-expr (level_of operator + 1) second right rest in_right (omega arith) (stops-more (level + 1) (level_of operator + 1 + 1) rest (omega arith) stops) (level_of operator + 1) (omega arith) k' in (
-      level_of operator,
-      at,
-      h.2
-          ∙ sign-run low h.0 left k t second operator is (omega arith) h.1
-          ∙ g.2
-          ∙ stops-run (level_of operator + 1) g.0 right k' rest (stops-more (level + 1) (level_of operator + 1) rest (omega arith) stops),
-    )
+declaration-run : (start second t equals semicolon : Lexeme) (list right' rest : List Lexeme) (label : Label) (mutable : Bool) (kind : Kind) (r : RightTree) → label_of start.kind ≡ Some label → Mutable list mutable (second ∷ t ∷ equals ∷ right') → word_of second.kind ≡ Some kind → t.kind ≡ kind_of wanted.Name → equals.kind ≡ kind_of wanted.Assign → RightSide right' r (semicolon ∷ rest) → semicolon.kind ≡ kind_of wanted.Semicolon → (k : BlockTree → State) → run (statements k) (start ∷ list) ≡ run (going_on k (tree.declaration t.place label mutable kind t.text r)) rest
+declaration-run start second t equals semicolon list right' rest label mutable kind r is is_mutable is_kind is_name is_equals in_right ends k =
+    let k' = going_on k in
+    let valued = λ (w : Kind) (n : Lexeme). right_end (λ r. k' (tree.declaration n.place label mutable w n.text r)) in
+    start-run k start list (by_label label) (label-starts start.kind label is)
+    ∙ mutable-run list mutable (second ∷ t ∷ equals ∷ right') is_mutable (word-no-mut second.kind kind is_kind) label k'
+    ∙ kind-run (λ w. either wanted.OpenSquare (λ _. sized (λ n. declared_array label mutable w n k')) (declared_word label mutable w k')) second (t ∷ equals ∷ right') kind is_kind
+    ∙ other-run wanted.OpenSquare (λ _. sized (λ n. declared_array label mutable kind n k')) (declared_word label mutable kind k') (t ∷ equals ∷ right') (ap (fits wanted.OpenSquare) is_name)
+    ∙ one-run wanted.Name (λ n. one wanted.Assign (λ _. valued kind n)) t (equals ∷ right') is_name
+    ∙ one-run wanted.Assign (λ _. valued kind t) equals right' is_equals
+    ∙ right-end-run right' r semicolon rest in_right ends (λ r. k' (tree.declaration t.place label mutable kind t.text r))
 
-expr-run : (ts : List Lexeme) (e : ExprTree) (rest : List Lexeme) → ExprAt 1 ts e rest → Stops 1 rest → Stops 2 rest → (k : ExprTree → State) → run (expr 1 k) ts ≡ run (k e) rest
-expr-run ts e rest h stops stops' k = whole k ts e rest (reads-expr 1 ts e rest h (omega arith) stops' 1 (omega arith) k) stops
+array-statement-run : (start t semicolon : Lexeme) (list second values rest : List Lexeme) (label : Label) (mutable : Bool) (kind : Kind) (n : ℕ) (vs : Option (List ExprTree)) → label_of start.kind ≡ Some label → Mutable list mutable second → ArrayType second kind n (t ∷ values) → t.kind ≡ kind_of wanted.Name → FirstValues values vs (semicolon ∷ rest) → semicolon.kind ≡ kind_of wanted.Semicolon → (k : BlockTree → State) → run (statements k) (start ∷ list) ≡ run (going_on k (tree.array t.place label mutable kind n t.text vs)) rest
+array-statement-run start t semicolon list second values rest label mutable kind n vs is is_mutable in_type is_name in_values ends k =
+    let k' = going_on k in
+    let made = λ (x : Lexeme) (vs : Option (List ExprTree)). k' (tree.array x.place label mutable kind n x.text vs) in
+    start-run k start list (by_label label) (label-starts start.kind label is)
+    ∙ mutable-run list mutable second is_mutable (array-lacks second kind n (t ∷ values) in_type) label k'
+    ∙ array-run second kind n (t ∷ values) in_type label mutable k'
+    ∙ one-run wanted.Name (λ x. first_values (λ vs. one wanted.Semicolon (λ _. made x vs))) t values is_name
+    ∙ values-run values vs semicolon rest in_values ends (made t)
 
-parameter-run : (ts : List Lexeme) (tree : ParameterTree) (rest : List Lexeme) → Parameter ts tree rest → (k : ParameterTree → State) → run (parameter k) ts ≡ run (k tree) rest
-parameter-run _ _ _ (a_parameter start second t rest label kind is_label is_kind is_name) k =
-    label-run (λ l. labelled l k) start (second ∷ t ∷ rest) label is_label
-    ∙ kind-run (λ w. one a_word (λ x. k (record { label = label; kind = w; place = x.place; name = x.text }))) second (t ∷ rest) kind is_kind
-    ∙ one-run a_word (λ x. k (record { label = label; kind = kind; place = x.place; name = x.text })) t rest is_name
+-- a statement that begins with a name
+target-run : (k : BlockTree → State) (t : Lexeme) (ts : List Lexeme) → t.kind ≡ kind_of wanted.Name → run (statements k) (t ∷ ts) ≡ run (targeted t (going_on k)) ts
+target-run k t ts is = start-run k t ts by_target (ap starts_with is)
+
+mutual
+  statement-run : (ts : List Lexeme) (s : StatementTree) (rest : List Lexeme) → Statement ts s rest → Lacks wanted.Else rest → (k : BlockTree → State) → run (statements k) ts ≡ run (going_on k s) rest
+  statement-run _ _ _ (a_declaration start second t equals semicolon list right' rest label mutable kind r is is_mutable is_kind is_name is_equals in_right ends) lacks k =
+      declaration-run start second t equals semicolon list right' rest label mutable kind r is is_mutable is_kind is_name is_equals in_right ends k
+  statement-run _ _ _ (an_array start t semicolon list second values rest label mutable kind n vs is is_mutable in_type is_name in_values ends) lacks k =
+      array-statement-run start t semicolon list second values rest label mutable kind n vs is is_mutable in_type is_name in_values ends k
+  statement-run _ _ _ (an_assignment t equals semicolon right' rest r is is_equals in_right ends) lacks k =
+      let k' = going_on k in
+      target-run k t (equals ∷ right') is
+      ∙ either-run wanted.Assign (λ q. assigned t q.place k') (either wanted.OpenSquare (λ q. element_assigned t q.place k') (called_alone t k')) equals right' is_equals
+      ∙ right-end-run right' r semicolon rest in_right ends (λ r. k' (tree.assignment equals.place t.place t.text r))
+  statement-run _ _ _ (an_element_assignment t opening closing equals semicolon inner right' rest i r is opens in_i closes is_equals in_right ends) lacks k =
+      let k' = going_on k in
+      let valued = λ (x : ExprTree). one wanted.Assign (λ q. right_end (λ r. k' (tree.element_assignment q.place opening.place t.place t.text x r))) in
+      target-run k t (opening ∷ inner) is
+      ∙ other-run wanted.Assign (λ q. assigned t q.place k') (either wanted.OpenSquare (λ q. element_assigned t q.place k') (called_alone t k')) (opening ∷ inner) (ap (fits wanted.Assign) opens)
+      ∙ either-run wanted.OpenSquare (λ q. element_assigned t q.place k') (called_alone t k') opening inner opens
+      ∙ expr-one-run wanted.CloseSquare ((refl, refl), refl) inner i closing (equals ∷ right') in_i closes valued
+      ∙ one-run wanted.Assign (λ q. right_end (λ r. k' (tree.element_assignment q.place opening.place t.place t.text i r))) equals right' is_equals
+      ∙ right-end-run right' r semicolon rest in_right ends (λ r. k' (tree.element_assignment equals.place opening.place t.place t.text i r))
+  statement-run _ _ _ (a_call_statement semicolon _ rest _ (a_call t opening list _ es is opens in_list) ends) lacks k =
+      let k' = going_on k in
+      let made = λ (c : CallTree). one wanted.Semicolon (λ _. k' (tree.call c)) in
+      target-run k t (opening ∷ list) is
+      ∙ other-run wanted.Assign (λ q. assigned t q.place k') (either wanted.OpenSquare (λ q. element_assigned t q.place k') (called_alone t k')) (opening ∷ list) (ap (fits wanted.Assign) opens)
+      ∙ other-run wanted.OpenSquare (λ q. element_assigned t q.place k') (called_alone t k') (opening ∷ list) (ap (fits wanted.OpenSquare) opens)
+      ∙ one-run wanted.OpenRound (λ _. call_of t made) opening list opens
+      ∙ call-run t list (semicolon ∷ rest) es in_list made
+      ∙ one-run wanted.Semicolon (λ _. k' (tree.call (record { place = t.place; name = t.text; arguments = es }))) semicolon rest ends
+  statement-run _ _ _ (a_conditional_statement list rest s h) lacks k =
+      let w = conditional-run list s rest h lacks in
+      ap (run (statements k)) w.2 ∙ start-run k w.0 w.1 by_if (ap starts_with w.3) ∙ w.4 (going_on k)
+  statement-run _ _ _ (a_loop t opening word counter from to closing low high body rest start end b is opens is_word is_name is_from in_low is_to in_high closes in_body) lacks k =
+      let k' = going_on k in
+      let made = λ (x : Lexeme) (l h : ExprTree) (b : BlockTree). k' (tree.loop t.place x.place x.text l h b) in
+      let k₂ = λ (x : Lexeme) (l : ExprTree). expr 1 (λ h. one wanted.CloseRound (λ _. block (made x l h))) in
+      let k₁ = λ (x : Lexeme). one wanted.From (λ _. expr 1 (λ l. one wanted.To (λ _. k₂ x l))) in
+      start-run k t (opening ∷ word ∷ counter ∷ from ∷ low) by_for (ap starts_with is)
+      ∙ one-run wanted.OpenRound (λ _. one wanted.Uint32 (λ _. one wanted.Name k₁)) opening (word ∷ counter ∷ from ∷ low) opens
+      ∙ one-run wanted.Uint32 (λ _. one wanted.Name k₁) word (counter ∷ from ∷ low) is_word
+      ∙ one-run wanted.Name k₁ counter (from ∷ low) is_name
+      ∙ one-run wanted.From (λ _. expr 1 (λ l. one wanted.To (λ _. k₂ counter l))) from low is_from
+      ∙ expr-one-run wanted.To ((refl, refl), refl) low start to high in_low is_to (k₂ counter)
+      ∙ expr-one-run wanted.CloseRound ((refl, refl), refl) high end closing body in_high closes (λ h. block (made counter start h))
+      ∙ block-run body b rest in_body (made counter start end)
+
+  -- a conditional begins with its keyword, and this is how the machine reads on
+  conditional-run : (ts : List Lexeme) (s : StatementTree) (rest : List Lexeme) → Conditional ts s rest → Lacks wanted.Else rest → (t : Lexeme) × (others : List Lexeme) × (ts ≡ t ∷ others) × (t.kind ≡ kind_of wanted.If) × ((k : StatementTree → State) → run (conditioned t.place k) others ≡ run (k s) rest)
+  conditional-run _ _ _ (a_conditional t opening closing list arm others rest condition a b is opens in_condition closes in_arm in_other) lacks = (
+    t,
+    opening ∷ list,
+    refl,
+    is,
+    λ k.
+        let k₂ = λ (e : ExprTree) (a : BlockTree). otherwise (λ b. k (tree.conditional t.place e a b)) in
+        one-run wanted.OpenRound (λ _. expr 1 (λ e. one wanted.CloseRound (λ _. block (k₂ e)))) opening list opens
+        ∙ expr-one-run wanted.CloseRound ((refl, refl), refl) list condition closing arm in_condition closes (λ e. block (k₂ e))
+        ∙ block-run arm a others in_arm (k₂ condition)
+        ∙ otherwise-run others b rest in_other lacks (λ b. k (tree.conditional t.place condition a b)),
+  )
+
+  statements-run : (ts : List Lexeme) (b : BlockTree) (rest : List Lexeme) → Statements ts b rest → Ends rest → (k : BlockTree → State) → run (statements k) ts ≡ run (k b) rest
+  statements-run _ _ _ (no_statement rest) h k = end-run k rest h
+  statements-run _ _ _ (one_statement list others rest s b in_one in_more) h k =
+      statement-run list s others in_one (statements-lacks others b rest in_more (ends-lacks rest h)) k
+      ∙ statements-run others b rest in_more h (λ b. k (first s b))
+
+  block-run : (ts : List Lexeme) (b : BlockTree) (rest : List Lexeme) → Block ts b rest → (k : BlockTree → State) → run (block k) ts ≡ run (k b) rest
+  block-run _ _ _ (a_block opening closing list rest b opens in_list closes) k =
+      one-run wanted.OpenCurly (λ _. statements (λ b. one wanted.CloseCurly (λ _. k b))) opening list opens
+      ∙ statements-run list b (closing ∷ rest) in_list (curly-ends closing rest closes) (λ b. one wanted.CloseCurly (λ _. k b))
+      ∙ one-run wanted.CloseCurly (λ _. k b) closing rest closes
+
+  otherwise-run : (ts : List Lexeme) (b : BlockTree) (rest : List Lexeme) → Otherwise ts b rest → Lacks wanted.Else rest → (k : BlockTree → State) → run (otherwise k) ts ≡ run (k b) rest
+  otherwise-run _ _ _ (no_else rest) lacks k = no-else-run k rest lacks
+  otherwise-run _ _ _ (an_else t arm rest b is in_arm) lacks k =
+      else-run k t arm is
+      ∙ other-run wanted.If (λ word. conditioned word.place (λ s. k (first s nothing))) (block k) arm (block-lacks arm b rest in_arm)
+      ∙ block-run arm b rest in_arm k
+  otherwise-run _ _ _ (an_else_if t list rest s is h) lacks k =
+      let w = conditional-run list s rest h lacks in
+      else-run k t list is
+      ∙ ap (run (after_else k)) w.2
+      ∙ either-run wanted.If (λ word. conditioned word.place (λ s. k (first s nothing))) (block k) w.0 w.1 w.3
+      ∙ w.4 (λ s. k (first s nothing))
+
+-- parameters
+name-run : (label : Label) (kind : Kind) (form : Form) (n : ℕ) (k : ParameterTree → State) (t : Lexeme) (rest : List Lexeme) → t.kind ≡ kind_of wanted.Name → run (parameter_name label kind form n k) (t ∷ rest) ≡ run (k (record { label = label; kind = kind; form = form; length = n; place = t.place; name = t.text })) rest
+name-run label kind form n k t rest is = one-run wanted.Name (λ t. k (record { label = label; kind = kind; form = form; length = n; place = t.place; name = t.text })) t rest is
+
+-- a parameter's type, without and with `mut`
+abbrev fixed : Label → (ParameterTree → State) → State
+fixed label k = a_kind (λ kind. either wanted.OpenSquare (λ _. sized (λ n. parameter_name label kind FixedArray n k)) (parameter_name label kind SingleWord 1 k))
+
+abbrev mutable_array : Label → (ParameterTree → State) → Lexeme → State
+mutable_array label k _ = a_kind (λ kind. one wanted.OpenSquare (λ _. sized (λ n. parameter_name label kind MutableArray n k)))
+
+parameter-run : (ts : List Lexeme) (q : ParameterTree) (rest : List Lexeme) → Parameter ts q rest → (k : ParameterTree → State) → run (parameter k) ts ≡ run (k q) rest
+parameter-run _ _ _ (a_word start second t rest label kind is is_kind is_name) k =
+    label-run (λ l. labelled l k) start (second ∷ t ∷ rest) label is
+    ∙ other-run wanted.Mut (mutable_array label k) (fixed label k) (second ∷ t ∷ rest) (word-no-mut second.kind kind is_kind)
+    ∙ kind-run (λ w. either wanted.OpenSquare (λ _. sized (λ n. parameter_name label w FixedArray n k)) (parameter_name label w SingleWord 1 k)) second (t ∷ rest) kind is_kind
+    ∙ other-run wanted.OpenSquare (λ _. sized (λ n. parameter_name label kind FixedArray n k)) (parameter_name label kind SingleWord 1 k) (t ∷ rest) (ap (fits wanted.OpenSquare) is_name)
+    ∙ name-run label kind SingleWord 1 k t rest is_name
+parameter-run _ _ _ (a_fixed_array start t _ rest label kind n is (an_array_type word opening number closing _ _ _ is_kind opens is_length closes) is_name) k =
+    label-run (λ l. labelled l k) start (word ∷ opening ∷ number ∷ closing ∷ t ∷ rest) label is
+    ∙ other-run wanted.Mut (mutable_array label k) (fixed label k) (word ∷ opening ∷ number ∷ closing ∷ t ∷ rest) (word-no-mut word.kind kind is_kind)
+    ∙ kind-run (λ w. either wanted.OpenSquare (λ _. sized (λ n. parameter_name label w FixedArray n k)) (parameter_name label w SingleWord 1 k)) word (opening ∷ number ∷ closing ∷ t ∷ rest) kind is_kind
+    ∙ either-run wanted.OpenSquare (λ _. sized (λ n. parameter_name label kind FixedArray n k)) (parameter_name label kind SingleWord 1 k) opening (number ∷ closing ∷ t ∷ rest) opens
+    ∙ sized-run (λ n. parameter_name label kind FixedArray n k) number closing (t ∷ rest) n is_length closes
+    ∙ name-run label kind FixedArray n k t rest is_name
+parameter-run _ _ _ (a_mutable_array start m t _ rest label kind n is is_mut (an_array_type word opening number closing _ _ _ is_kind opens is_length closes) is_name) k =
+    label-run (λ l. labelled l k) start (m ∷ word ∷ opening ∷ number ∷ closing ∷ t ∷ rest) label is
+    ∙ either-run wanted.Mut (mutable_array label k) (fixed label k) m (word ∷ opening ∷ number ∷ closing ∷ t ∷ rest) is_mut
+    ∙ kind-run (λ w. one wanted.OpenSquare (λ _. sized (λ n. parameter_name label w MutableArray n k))) word (opening ∷ number ∷ closing ∷ t ∷ rest) kind is_kind
+    ∙ one-run wanted.OpenSquare (λ _. sized (λ n. parameter_name label kind MutableArray n k)) opening (number ∷ closing ∷ t ∷ rest) opens
+    ∙ sized-run (λ n. parameter_name label kind MutableArray n k) number closing (t ∷ rest) n is_length closes
+    ∙ name-run label kind MutableArray n k t rest is_name
 
 -- after a parameter, by the kind of the next token
 abbrev after_parameter : TokenKind → List ParameterTree → (List ParameterTree → State) → Option State
-after_parameter kind ps k = if fits a_comma kind then Some (parameter (λ p. more_parameters (ps ++ p ∷ []) k)) else (if fits closing_round kind then Some (k ps) else None)
+after_parameter kind ps k = if fits wanted.Comma kind then Some (parameter (λ p. more_parameters (ps ++ p ∷ []) k)) else (if fits wanted.CloseRound kind then Some (k ps) else None)
 
-more-run : (ts : List Lexeme) (qs : List ParameterTree) (rest : List Lexeme) → MoreParameters ts qs rest → (ps : List ParameterTree) (k : List ParameterTree → State) → run (more_parameters ps k) ts ≡ run (k (ps ++ qs)) rest
-more-run _ _ _ (no_more closing rest closes) ps k =
+more-parameters-run : (ts : List Lexeme) (qs : List ParameterTree) (rest : List Lexeme) → MoreParameters ts qs rest → (ps : List ParameterTree) (k : List ParameterTree → State) → run (more_parameters ps k) ts ≡ run (k (ps ++ qs)) rest
+more-parameters-run _ _ _ (no_more_parameters closing rest closes) ps k =
     ap (λ kind. option_and_then (λ n. run n rest) (after_parameter kind ps k)) closes ∙ ap (λ qs. run (k qs) rest) (sym (append-nil ps))
-more-run _ _ _ (one_more comma list second rest tree trees is_comma p others) ps k =
-    ap (λ kind. option_and_then (λ n. run n list) (after_parameter kind ps k)) is_comma
-    ∙ parameter-run list tree second p (λ q. more_parameters (ps ++ q ∷ []) k)
-    ∙ more-run second trees rest others (ps ++ tree ∷ []) k
-    ∙ ap (λ qs. run (k qs) rest) (append_assoc ps (tree ∷ []) trees)
+more-parameters-run _ _ _ (one_more_parameter comma list second rest q qs is in_one in_more) ps k =
+    ap (λ kind. option_and_then (λ n. run n list) (after_parameter kind ps k)) is
+    ∙ parameter-run list q second in_one (λ q. more_parameters (ps ++ q ∷ []) k)
+    ∙ more-parameters-run second qs rest in_more (ps ++ q ∷ []) k
+    ∙ ap (λ qs. run (k qs) rest) (append_assoc ps (q ∷ []) qs)
 
-label_opens : (kind : TokenKind) (label : Label) → label_of kind ≡ Some label → fits closing_round kind ≡ false
-label_opens (token.Sign CloseRound) label e = cc
-label_opens (token.Sign _) label e = refl
-label_opens (token.Keyword _) label e = refl
-label_opens token.Name label e = refl
-label_opens (token.Number _ _) label e = refl
+parameter-lacks : (ts : List Lexeme) (q : ParameterTree) (rest : List Lexeme) → Parameter ts q rest → Lacks wanted.CloseRound ts
+parameter-lacks _ _ _ (a_word start second t rest label kind is is_kind is_name) = (label-no start.kind label is).1
+parameter-lacks _ _ _ (a_fixed_array start t list rest label kind n is in_type is_name) = (label-no start.kind label is).1
+parameter-lacks _ _ _ (a_mutable_array start m t list rest label kind n is is_mut in_type is_name) = (label-no start.kind label is).1
 
 parameters-run : (ts : List Lexeme) (qs : List ParameterTree) (rest : List Lexeme) → Parameters ts qs rest → (k : List ParameterTree → State) → run (parameters k) ts ≡ run (k qs) rest
-parameters-run _ _ _ (no_parameters closing rest closes) k =
-    ap (λ b. option_and_then (λ n. run n rest) (if b then Some (k []) else option_map (λ label. labelled label (λ p. more_parameters (p ∷ []) k)) (label_of closing.kind))) (fits-kind closing_round closing.kind closes)
-parameters-run _ _ _ (some_parameters _ second rest tree trees (a_parameter first' second' t _ label kind is_label is_kind is_name) others) k =
-    ap (λ b. option_and_then (λ n. run n (second' ∷ t ∷ second)) (if b then Some (k []) else option_map (λ label. labelled label (λ p. more_parameters (p ∷ []) k)) (label_of first'.kind))) (label_opens first'.kind label is_label)
-    ∙ parameter-run (first' ∷ second' ∷ t ∷ second) tree second (a_parameter first' second' t second label kind is_label is_kind is_name) (λ p. more_parameters (p ∷ []) k)
-    ∙ more-run second trees rest others (tree ∷ []) k
+parameters-run _ _ _ (no_parameters closing rest closes) k = either-run wanted.CloseRound (λ _. k []) (parameter (λ p. more_parameters (p ∷ []) k)) closing rest closes
+parameters-run _ _ _ (some_parameters list second rest q qs in_one in_more) k =
+    other-run wanted.CloseRound (λ _. k []) (parameter (λ p. more_parameters (p ∷ []) k)) list (parameter-lacks list q second in_one)
+    ∙ parameter-run list q second in_one (λ p. more_parameters (p ∷ []) k)
+    ∙ more-parameters-run second qs rest in_more (q ∷ []) k
 
--- such a token stands next, but not of this kind
-abbrev pub Lacks : Wanted → List Lexeme → Type 0
-Lacks wanted [] = ⊥
-Lacks wanted (t ∷ ts) = fits wanted t.kind ≡ false
+end-ends : (ts : List Lexeme) (r : Option ReturnTree) (rest : List Lexeme) → BodyEnd ts r rest → Ends ts
+end-ends _ _ _ (no_return closing rest closes) = curly-ends closing rest closes
+end-ends _ _ _ (a_return t semicolon closing list rest e is in_e ends closes) = return-ends t list is
 
-either-run : (wanted : Wanted) (next other : State) (t : Lexeme) (ts : List Lexeme) → t.kind ≡ kind_of wanted → run (either wanted next other) (t ∷ ts) ≡ run next ts
-either-run wanted next other t ts is = ap (λ b. option_and_then (λ n. run n ts) (if b then Some next else step other t)) (fits-kind wanted t.kind is)
+returned-run : (ts : List Lexeme) (r : Option ReturnTree) (rest : List Lexeme) → BodyEnd ts r rest → (k : Option ReturnTree → State) → run (returned k) ts ≡ run (k r) rest
+returned-run _ _ _ (no_return closing rest closes) k =
+    other-run wanted.Return (λ t. expr 1 (λ e. one wanted.Semicolon (λ _. one wanted.CloseCurly (λ _. k (Some (record { place = t.place; value = e })))))) (one wanted.CloseCurly (λ _. k None)) (closing ∷ rest) (ap (fits wanted.Return) closes)
+    ∙ one-run wanted.CloseCurly (λ _. k None) closing rest closes
+returned-run _ _ _ (a_return t semicolon closing list rest e is in_e ends closes) k =
+    let made = λ (t : Lexeme) (e : ExprTree). one wanted.CloseCurly (λ _. k (Some (record { place = t.place; value = e }))) in
+    either-run wanted.Return (λ t. expr 1 (λ e. one wanted.Semicolon (λ _. made t e))) (one wanted.CloseCurly (λ _. k None)) t list is
+    ∙ expr-one-run wanted.Semicolon ((refl, refl), refl) list e semicolon (closing ∷ rest) in_e ends (made t)
+    ∙ one-run wanted.CloseCurly (λ _. k (Some (record { place = t.place; value = e }))) closing rest closes
 
-other-run : (wanted : Wanted) (next other : State) (ts : List Lexeme) → Lacks wanted ts → run (either wanted next other) ts ≡ run other ts
-other-run wanted next other [] h = absurd h
-other-run wanted next other (t ∷ ts) h = ap (λ b. option_and_then (λ n. run n ts) (if b then Some next else step other t)) h
+result-lacks : (ts : List Lexeme) (r : Option WordType) (rest : List Lexeme) → ResultType ts r rest → Lacks wanted.Export ts
+result-lacks _ _ _ (a_void t rest is) = ap (fits wanted.Export) is
+result-lacks _ _ _ (a_type start second rest label kind is is_kind) = (label-no start.kind label is).3
 
--- what stands next begins no statement, and is no `else`
-abbrev Ends : Where → List Lexeme → Type 0
-Ends inside [] = ⊥
-Ends inside (t ∷ ts) = (starts_with inside t.kind ≡ None) × (fits else_word t.kind ≡ false)
+result-run : (ts : List Lexeme) (r : Option WordType) (rest : List Lexeme) → ResultType ts r rest → (k : Option WordType → State) → run (result_type k) ts ≡ run (k r) rest
+result-run _ _ _ (a_void t rest is) k = either-run wanted.Void (λ _. k None) (a_label (λ label. a_kind (λ kind. k (Some (record { kind = kind; label = label }))))) t rest is
+result-run _ _ _ (a_type start second rest label kind is is_kind) k =
+    other-run wanted.Void (λ _. k None) (a_label (λ label. a_kind (λ kind. k (Some (record { kind = kind; label = label }))))) (start ∷ second ∷ rest) (label-no start.kind label is).2
+    ∙ label-run (λ label. a_kind (λ kind. k (Some (record { kind = kind; label = label })))) start (second ∷ rest) label is
+    ∙ kind-run (λ kind. k (Some (record { kind = kind; label = label }))) second rest kind is_kind
 
-curly-ends : (t : Lexeme) (ts : List Lexeme) → t.kind ≡ token.Sign CloseCurly → Ends in_arm (t ∷ ts)
-curly-ends t ts is = (ap (starts_with in_arm) is, ap (fits else_word) is)
+exported-run : (ts : List Lexeme) (export : Option Place) (signature : List Lexeme) → Exported ts export signature → Lacks wanted.Export signature → (k : Option Place → State) → run (either wanted.Export (λ t. k (Some t.place)) (k None)) ts ≡ run (k export) signature
+exported-run _ _ _ (not_exported rest) lacks k = other-run wanted.Export (λ t. k (Some t.place)) (k None) rest lacks
+exported-run _ _ _ (an_export t rest is) lacks k = either-run wanted.Export (λ t. k (Some t.place)) (k None) t rest is
 
-return-ends : (t : Lexeme) (ts : List Lexeme) → t.kind ≡ token.Keyword Return → Ends in_body (t ∷ ts)
-return-ends t ts is = (ap (starts_with in_body) is, ap (fits else_word) is)
+procedure-run : (ts : List Lexeme) (q : ProcedureTree) (rest : List Lexeme) → Procedure ts q rest → (k : ProcedureTree → State) → run (procedure k) ts ≡ run (k q) rest
+procedure-run _ _ _ (a_procedure t opening opening' list signature inside body end rest export result ps b r is_export is_result is_name opens in_list opens' in_block in_end) k =
+    let made = λ (x : Lexeme) (ps : List ParameterTree) (b : BlockTree) (r : Option ReturnTree). k (record { export = export; result = result; place = x.place; name = x.text; parameters = ps; body = b; returned = r }) in
+    let k₃ = λ (x : Lexeme) (ps : List ParameterTree). one wanted.OpenCurly (λ _. statements (λ b. returned (made x ps b))) in
+    exported-run list export signature is_export (result-lacks signature result (t ∷ opening ∷ inside) is_result) (λ export. result_type (λ result. procedure_from export result k))
+    ∙ result-run signature result (t ∷ opening ∷ inside) is_result (λ result. procedure_from export result k)
+    ∙ one-run wanted.Name (λ x. one wanted.OpenRound (λ _. parameters (k₃ x))) t (opening ∷ inside) is_name
+    ∙ one-run wanted.OpenRound (λ _. parameters (k₃ t)) opening inside opens
+    ∙ parameters-run inside ps (opening' ∷ body) in_list (k₃ t)
+    ∙ one-run wanted.OpenCurly (λ _. statements (λ b. returned (made t ps b))) opening' body opens'
+    ∙ statements-run body b end in_block (end-ends end r rest in_end) (λ b. returned (made t ps b))
+    ∙ returned-run end r rest in_end (made t ps b)
 
-ends-lacks : (inside : Where) (ts : List Lexeme) → Ends inside ts → Lacks else_word ts
-ends-lacks inside [] h = absurd h
-ends-lacks inside (t ∷ ts) h = h.1
+-- some token stands there
+abbrev IsSome : List Lexeme → Type 0
+IsSome [] = ⊥
+IsSome (t ∷ ts) = Unit {0}
 
-label-starts : (inside : Where) (kind : TokenKind) (label : Label) → label_of kind ≡ Some label → starts_with inside kind ≡ Some (by_label label)
-label-starts in_body token.Name label e = cc
-label-starts in_arm token.Name label e = cc
-label-starts in_body (token.Keyword If) label e = cc
-label-starts in_arm (token.Keyword If) label e = cc
-label-starts in_body (token.Keyword _) label e = ap (option_map by_label) e
-label-starts in_arm (token.Keyword _) label e = ap (option_map by_label) e
-label-starts in_body (token.Number _ _) label e = cc
-label-starts in_arm (token.Number _ _) label e = cc
-label-starts in_body (token.Sign _) label e = cc
-label-starts in_arm (token.Sign _) label e = cc
+result-some : (ts : List Lexeme) (r : Option WordType) (rest : List Lexeme) → ResultType ts r rest → IsSome ts
+result-some _ _ _ (a_void t rest is) = tt
+result-some _ _ _ (a_type start second rest label kind is is_kind) = tt
 
-name-starts : (inside : Where) → starts_with inside token.Name ≡ Some by_target
-name-starts in_body = refl
-name-starts in_arm = refl
+exported-some : (ts : List Lexeme) (export : Option Place) (rest : List Lexeme) → Exported ts export rest → IsSome rest → IsSome ts
+exported-some _ _ _ (not_exported rest) h = h
+exported-some _ _ _ (an_export t rest is) h = tt
 
-label-no-else : (kind : TokenKind) (label : Label) → label_of kind ≡ Some label → fits else_word kind ≡ false
-label-no-else (token.Keyword Else) label e = cc
-label-no-else (token.Keyword _) label e = refl
-label-no-else (token.Sign _) label e = refl
-label-no-else token.Name label e = refl
-label-no-else (token.Number _ _) label e = refl
+procedure-some : (ts : List Lexeme) (q : ProcedureTree) (rest : List Lexeme) → Procedure ts q rest → IsSome ts
+procedure-some _ _ _ (a_procedure t opening opening' list signature inside body end rest export result ps b r is_export is_result is_name opens in_list opens' in_block in_end) =
+    exported-some list export signature is_export (result-some signature result (t ∷ opening ∷ inside) is_result)
 
-kind-no-mut : (which : TokenKind) (kind : Kind) → word_of which ≡ Some kind → fits mut_word which ≡ false
-kind-no-mut (token.Keyword Mut) kind e = cc
-kind-no-mut (token.Keyword _) kind e = refl
-kind-no-mut (token.Sign _) kind e = refl
-kind-no-mut token.Name kind e = refl
-kind-no-mut (token.Number _ _) kind e = refl
+begins-procedure : (ps : List ProcedureTree) (ts : List Lexeme) → IsSome ts → run (procedures ps) ts ≡ run (procedure (λ q. procedures (ps ++ q ∷ []))) ts
+begins-procedure ps [] h = absurd h
+begins-procedure ps (t ∷ ts) h = refl
 
-statement-lacks : (inside : Where) (ts : List Lexeme) (tree : StatementTree) (rest : List Lexeme) → Statement inside ts tree rest → Lacks else_word ts
-statement-lacks _ _ _ _ (a_declaration inside start second t equals semicolon list value rest label mutable kind tree is_label is_mutable is_kind is_name is_equals in_value ends) = label-no-else start.kind label is_label
-statement-lacks _ _ _ _ (an_assignment inside t equals semicolon value rest tree is_name is_equals in_value ends) = ap (fits else_word) is_name
-statement-lacks _ _ _ _ (a_conditional t opening closing list arm' others rest condition taken other is_if opens in_condition closes in_arm' in_other) = ap (fits else_word) is_if
-
-statements-lacks : (inside : Where) (ts : List Lexeme) (trees : BlockTree) (rest : List Lexeme) → Statements inside ts trees rest → Lacks else_word rest → Lacks else_word ts
-statements-lacks _ _ _ _ (no_statement inside rest) h = h
-statements-lacks _ _ _ _ (one_statement inside list others rest tree trees in_one in_more) h = statement-lacks inside list tree others in_one
-
--- after a statement
-abbrev going_on : Where → (BlockTree → State) → StatementTree → State
-going_on inside k s = statements inside (λ b. k (first s b))
-
-start-run : (inside : Where) (k : BlockTree → State) (t : Lexeme) (ts : List Lexeme) (start : Start) → starts_with inside t.kind ≡ Some start → run (statements inside k) (t ∷ ts) ≡ run (statement start t (going_on inside k)) ts
-start-run inside k t ts start is = ap (λ o. option_and_then (λ n. run n ts) (started o t (going_on inside k) (step (k nothing) t))) is
-
-end-run : (inside : Where) (k : BlockTree → State) (ts : List Lexeme) → Ends inside ts → run (statements inside k) ts ≡ run (k nothing) ts
-end-run inside k [] h = absurd h
-end-run inside k (t ∷ ts) h = ap (λ o. option_and_then (λ n. run n ts) (started o t (going_on inside k) (step (k nothing) t))) h.0
-
-mutable-run : (list : List Lexeme) (mutable : Bool) (ts : List Lexeme) → Mutable list mutable ts → Lacks mut_word ts → (label : Label) (k : StatementTree → State) → run (declared label k) list ≡ run (declared_word label mutable k) ts
-mutable-run _ _ _ (no_mut rest) h label k = other-run mut_word (declared_word label true k) (declared_word label false k) rest h
-mutable-run _ _ _ (a_mut t rest is) h label k = either-run mut_word (declared_word label true k) (declared_word label false k) t rest is
-
--- the value of a declaration or an assignment, and what ends it
-value-run : (value : List Lexeme) (tree : ExprTree) (semicolon : Lexeme) (rest : List Lexeme) → ExprAt 1 value tree (semicolon ∷ rest) → semicolon.kind ≡ token.Sign Semicolon → (k : ExprTree → State) → run (expr 1 (λ e. one a_semicolon (λ _. k e))) value ≡ run (k tree) rest
-value-run value tree semicolon rest in_value ends k =
-    let stops = stops-at (token.Sign Semicolon) in
-    expr-run value tree (semicolon ∷ rest) in_value (stops 1 semicolon rest refl ends) (stops 2 semicolon rest refl ends) (λ e. one a_semicolon (λ _. k e))
-    ∙ one-run a_semicolon (λ _. k tree) semicolon rest ends
-
-mutual
-  statement-run : (inside : Where) (ts : List Lexeme) (tree : StatementTree) (rest : List Lexeme) → Statement inside ts tree rest → Lacks else_word rest → (k : BlockTree → State) → run (statements inside k) ts ≡ run (going_on inside k tree) rest
-  statement-run _ _ _ _ (a_declaration inside start second t equals semicolon list value rest label mutable kind tree is_label is_mutable is_kind is_name is_equals in_value ends) h k =
-      let k' = going_on inside k in
-      let made = λ (w : Kind) (n : Lexeme) (e : ExprTree). k' (declaration n.place label mutable w n.text e) in
-      let valued = λ (w : Kind) (n : Lexeme). expr 1 (λ e. one a_semicolon (λ _. made w n e)) in
-      start-run inside k start list (by_label label) (label-starts inside start.kind label is_label)
-      ∙ mutable-run list mutable (second ∷ t ∷ equals ∷ value) is_mutable (kind-no-mut second.kind kind is_kind) label k'
-      ∙ kind-run (λ w. one a_word (λ n. one an_equals (λ _. valued w n))) second (t ∷ equals ∷ value) kind is_kind
-      ∙ one-run a_word (λ n. one an_equals (λ _. valued kind n)) t (equals ∷ value) is_name
-      ∙ one-run an_equals (λ _. valued kind t) equals value is_equals
-      ∙ value-run value tree semicolon rest in_value ends (made kind t)
-  statement-run _ _ _ _ (an_assignment inside t equals semicolon value rest tree is_name is_equals in_value ends) h k =
-      let k' = going_on inside k in
-      let made = λ (q : Lexeme) (e : ExprTree). k' (assignment q.place t.place t.text e) in
-      start-run inside k t (equals ∷ value) by_target (ap (starts_with inside) is_name ∙ name-starts inside)
-      ∙ one-run an_equals (λ q. expr 1 (λ e. one a_semicolon (λ _. made q e))) equals value is_equals
-      ∙ value-run value tree semicolon rest in_value ends (made equals)
-  statement-run _ _ _ _ (a_conditional t opening closing list arm' others rest condition taken other is_if opens in_condition closes in_taken in_other) h k =
-      let k' = going_on in_body k in
-      let k₂ = λ (e : ExprTree) (a : BlockTree). otherwise (λ b. k' (conditional t.place e a b)) in
-      let k₁ = λ (e : ExprTree). one closing_round (λ _. arm (k₂ e)) in
-      let stops = stops-at (token.Sign CloseRound) in
-      start-run in_body k t (opening ∷ list) by_if (ap (starts_with in_body) is_if)
-      ∙ one-run opening_round (λ _. expr 1 k₁) opening list opens
-      ∙ expr-run list condition (closing ∷ arm') in_condition (stops 1 closing arm' refl closes) (stops 2 closing arm' refl closes) k₁
-      ∙ one-run closing_round (λ _. arm (k₂ condition)) closing arm' closes
-      ∙ arm-run arm' taken others in_taken (k₂ condition)
-      ∙ otherwise-run others other rest in_other h (λ b. k' (conditional t.place condition taken b))
-
-  statements-run : (inside : Where) (ts : List Lexeme) (trees : BlockTree) (rest : List Lexeme) → Statements inside ts trees rest → Ends inside rest → (k : BlockTree → State) → run (statements inside k) ts ≡ run (k trees) rest
-  statements-run _ _ _ _ (no_statement inside rest) h k = end-run inside k rest h
-  statements-run _ _ _ _ (one_statement inside list others rest tree trees in_one in_more) h k =
-      statement-run inside list tree others in_one (statements-lacks inside others trees rest in_more (ends-lacks inside rest h)) k
-      ∙ statements-run inside others trees rest in_more h (λ b. k (first tree b))
-
-  arm-run : (ts : List Lexeme) (trees : BlockTree) (rest : List Lexeme) → Arm ts trees rest → (k : BlockTree → State) → run (arm k) ts ≡ run (k trees) rest
-  arm-run _ _ _ (an_arm opening closing list rest trees opens in_list closes) k =
-      one-run opening_curly (λ _. statements in_arm (λ b. one closing_curly (λ _. k b))) opening list opens
-      ∙ statements-run in_arm list trees (closing ∷ rest) in_list (curly-ends closing rest closes) (λ b. one closing_curly (λ _. k b))
-      ∙ one-run closing_curly (λ _. k trees) closing rest closes
-
-  otherwise-run : (ts : List Lexeme) (trees : BlockTree) (rest : List Lexeme) → Otherwise ts trees rest → Lacks else_word rest → (k : BlockTree → State) → run (otherwise k) ts ≡ run (k trees) rest
-  otherwise-run _ _ _ (no_else rest) h k = other-run else_word (arm k) (k nothing) rest h
-  otherwise-run _ _ _ (an_else t list rest trees is_else in_list) h k =
-      either-run else_word (arm k) (k nothing) t list is_else ∙ arm-run list trees rest in_list k
-
-procedure-run : (ts : List Lexeme) (tree : ProcedureTree) (rest : List Lexeme) → Procedure ts tree rest → (k : ProcedureTree → State) → run (procedure k) ts ≡ run (k tree) rest
-procedure-run _ _ _ (a_procedure start second t opening opening' return semicolon closing list body value rest label kind ps trees tree is_label is_kind is_name opens in_list opens' in_block returns in_value ends closes) k =
-    let made = λ (l : Label) (w : Kind) (n : Lexeme) (qs : List ParameterTree) (b : BlockTree) (r : Lexeme) (e : ExprTree). k (record { label = l; kind = w; place = n.place; name = n.text; parameters = qs; body = b; return_place = r.place; value = e }) in
-    let k₆ = λ (l : Label) (w : Kind) (n : Lexeme) (qs : List ParameterTree) (b : BlockTree). one return_word (λ r. expr 1 (λ e. one a_semicolon (λ _. one closing_curly (λ _. made l w n qs b r e)))) in
-    let k₅ = λ (l : Label) (w : Kind) (n : Lexeme) (qs : List ParameterTree). one opening_curly (λ _. statements in_body (k₆ l w n qs)) in
-    label-run (λ l. a_kind (λ w. one a_word (λ n. one opening_round (λ _. parameters (k₅ l w n))))) start (second ∷ t ∷ opening ∷ list) label is_label
-    ∙ kind-run (λ w. one a_word (λ n. one opening_round (λ _. parameters (k₅ label w n)))) second (t ∷ opening ∷ list) kind is_kind
-    ∙ one-run a_word (λ n. one opening_round (λ _. parameters (k₅ label kind n))) t (opening ∷ list) is_name
-    ∙ one-run opening_round (λ _. parameters (k₅ label kind t)) opening list opens
-    ∙ parameters-run list ps (opening' ∷ body) in_list (k₅ label kind t)
-    ∙ one-run opening_curly (λ _. statements in_body (k₆ label kind t ps)) opening' body opens'
-    ∙ statements-run in_body body trees (return ∷ value) in_block (return-ends return value returns) (k₆ label kind t ps)
-    ∙ one-run return_word (λ r. expr 1 (λ e. one a_semicolon (λ _. one closing_curly (λ _. made label kind t ps trees r e)))) return value returns
-    ∙ value-run value tree semicolon (closing ∷ rest) in_value ends (λ e. one closing_curly (λ _. made label kind t ps trees return e))
-    ∙ one-run closing_curly (λ _. made label kind t ps trees return tree) closing rest closes
+procedures-run : (ts : List Lexeme) (qs : List ProcedureTree) → Procedures ts qs → (ps : List ProcedureTree) → run (procedures ps) ts ≡ Some (procedures (ps ++ qs))
+procedures-run _ _ no_procedure ps = ap (λ xs. Some (procedures xs)) (sym (append-nil ps))
+procedures-run _ _ (one_procedure list others q qs in_one in_more) ps =
+    begins-procedure ps list (procedure-some list q others in_one)
+    ∙ procedure-run list q others in_one (λ q. procedures (ps ++ q ∷ []))
+    ∙ procedures-run others qs in_more (ps ++ q ∷ [])
+    ∙ ap (λ xs. Some (procedures xs)) (append_assoc ps (q ∷ []) qs)
 
 -- the machine takes each program to its tree
 pub run_program : (ts : List Lexeme) (p : ProgramTree) → IsProgram ts p → (s : State) × (run program ts ≡ Some s) × (at_end s ≡ Some p)
-run_program _ _ no_procedure = (program, refl, refl)
-run_program _ _ (an_export t rest tree exports h) = (
-  ended (record { export = Some tree }),
-  either-run export_word (procedure (λ p. ended (record { export = Some p }))) (ended (record { export = None })) t rest exports ∙ procedure-run rest tree [] h (λ p. ended (record { export = Some p })),
-  refl,
-)
+run_program _ _ (a_program list qs h) = (procedures qs, procedures-run list qs h [], refl)
 
 pub run_front : (front ts : List Lexeme) (s last : State) → run s (front ++ ts) ≡ Some last → (next : State) × (run s front ≡ Some next)
 run_front [] ts s last e = (s, refl)

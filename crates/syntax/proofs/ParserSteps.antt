@@ -1,27 +1,29 @@
 -- What the parser's functions share: faults passed on, and single steps of the machine.
-use Rattle.std.proofs.Common.{◌≡◌, ℕ, ◌+◌, ◌≤◌, true, false, List, [], ◌∷◌, ◌++◌, map, Some, None, Result, Ok, Err, refl, sym, subst, ap, ◌∙◌, if◌then◌else◌}
+use Rattle.std.proofs.Common.{◌≡◌, ℕ, ◌≤◌, true, false, List, [], ◌∷◌, ◌++◌, map, length, nat_eq, Option, Some, None, Result, Ok, Err, MatchResult, refl, sym, subst, ap, ◌∙◌, if◌then◌else◌}
 use Rattle.std.specs.Result.{IsErrAnd, IfOk, IfErr}
+use Rattle.std.specs.Prelude.{is_some}
 use Rattle.std.specs.Option.{option_map}
 use Rattle.syntax.specs.declared.signature.Kind.{Kind}
 use Rattle.syntax.specs.declared.signature.Label.{Label}
 use Rattle.syntax.specs.declared.parser.Fault.{Fault}
 use Rattle.syntax.specs.declared.parser.Fault.TheVariants.{Memory}
 use Rattle.syntax.specs.declared.parser.Parser.{Parser}
-use Rattle.syntax.specs.declared.parser.expression.Begins.{Begins}
+use Rattle.syntax.specs.declared.parser.operator.Begins.{Begins}
+use Rattle.syntax.specs.declared.parser.operator.Link.{Link}
 use Rattle.syntax.specs.declared.parser.statement.Start.{Start}
-use Rattle.syntax.specs.declared.tree.BinaryOperator.{BinaryOperator}
-use Rattle.syntax.specs.Grammar.{label_of, word_of, operator_of, level_of, Where}
-use Rattle.syntax.specs.Lexeme.{Lexeme, lexemes}
+use Rattle.syntax.specs.declared.parser.wanted.Wanted.{Wanted}
+use Rattle.syntax.specs.declared.parser.wanted.Wanted.TheVariants as wanted
+use Rattle.syntax.specs.declared.token.Token.{Token}
+use Rattle.syntax.specs.declared.tree.Expr.{Expr}
+use Rattle.syntax.specs.Grammar.{label_of, word_of, amount_of, length_of}
+use Rattle.syntax.specs.Lexeme.{Lexeme, lexeme, lexemes}
 use Rattle.syntax.specs.Nesting.{Nest, after}
 use Rattle.syntax.specs.Tokens.{Ending, ending}
-use Rattle.syntax.specs.declared.tree.Parameter.{Parameter as ParameterOf}
-use Rattle.syntax.specs.Machine.{State, Wanted, kind_of, fits, one, either, statements, starts_with, statement, started, a_label, a_kind, expr, more, begins_of, operand, within, joined, step, parameters, more_parameters, parameter, labelled, closing_round, a_comma, verdict, token_answer}
-use Rattle.syntax.specs.ParserViews.{Leads, FaultIs, ahead, stands, nest}
+use Rattle.syntax.specs.Machine.{State, procedures, fits, one, either, statements, starts_with, statement, started, a_label, a_kind, a_length, an_amount, expr, more, more_exprs, more_parameters, otherwise, after_else, begins_of, operand, link_of, link_level, link_left_level, linked, within, joined, step, at_end, parameter, procedure, verdict, ending_answer, token_answer}
+use Rattle.syntax.specs.ParserViews.{Leads, FaultIs, ahead, nest, taken}
 use Rattle.syntax.specs.Reading.{Answer}
-use Rattle.syntax.specs.declared.tree.Expr.{Expr}
-use Rattle.syntax.specs.Tree.{ExprTree, StatementTree, BlockTree, nothing, first, ParameterTree, binary, expr_tree, parameter_tree}
-use Rattle.syntax.proofs.MachineSound.{fits-kind}
-use Rattle.syntax.proofs.MachineComplete.{within_level}
+use Rattle.syntax.specs.Tree.{ExprTree, StatementTree, BlockTree, nothing, first, ParameterTree, ProcedureTree, expr_tree}
+use Rattle.syntax.proofs.MachineExpressions.{within_level}
 
 -- a fault of one answer is one of an equal answer
 pub fault-back : (f : Fault) (a b : Answer) → a ≡ b → FaultIs f b → FaultIs f a
@@ -32,31 +34,9 @@ pub passed : {T : Type 0} (s : State) (next : T → State) (r : Result T Fault) 
 passed s next (Ok x) f old new h g = absurd h
 passed s next (Err e) f old new h g = subst (λ x. FaultIs x (ahead s old)) (sym h) g
 
-pub one-step : (wanted : Wanted) (k : Lexeme → State) (t : Lexeme) → t.kind ≡ kind_of wanted → step (one wanted k) t ≡ Some (k t)
-one-step wanted k t is = ap (λ b. if b then Some (k t) else None) (fits-kind wanted t.kind is)
-
-pub label-step : (k : Label → State) (t : Lexeme) (label : Label) → label_of t.kind ≡ Some label → step (a_label k) t ≡ Some (k label)
-label-step k t label is = ap (option_map k) is
-
-pub kind-step : (k : Kind → State) (t : Lexeme) (kind : Kind) → word_of t.kind ≡ Some kind → step (a_kind k) t ≡ Some (k kind)
-kind-step k t kind is = ap (option_map k) is
-
--- the state in which the right operand follows
-abbrev pub right_of : ℕ → Lexeme → BinaryOperator → ExprTree → (ExprTree → State) → State
-right_of level t operator left k = expr (level_of operator + 1) (λ right. more level (level_of operator) (binary t.place operator left right) k)
-
-pub sign-step : (level top : ℕ) (left : ExprTree) (k : ExprTree → State) (t : Lexeme) (operator : BinaryOperator) → operator_of t.kind ≡ Some operator → level ≤ level_of operator → level_of operator ≤ top → step (more level top left k) t ≡ Some (right_of level t operator left k)
-sign-step level top left k t operator is low high = ap (λ o. joined o t level left k (step (k left) t)) (ap (within level top) is ∙ within_level level top operator low high)
-
-pub operand-step : (level : ℕ) (k : ExprTree → State) (t : Lexeme) (b : Begins) → begins_of t.kind ≡ Some b → step (expr level k) t ≡ Some (operand b t (λ e. more level 11 e k))
-operand-step level k t b is = ap (option_map (λ b. operand b t (λ e. more level 11 e k))) is
-
--- after a statement
-abbrev pub more_statements : Where → (BlockTree → State) → StatementTree → State
-more_statements inside k s = statements inside (λ b. k (first s b))
-
-pub start-step : (inside : Where) (k : BlockTree → State) (t : Lexeme) (start : Start) → starts_with inside t.kind ≡ Some start → step (statements inside k) t ≡ Some (statement start t (more_statements inside k))
-start-step inside k t start is = ap (λ o. started o t (more_statements inside k) (step (k nothing) t)) is
+-- a fault that is passed on, after steps that lead there
+pub passed-after : {T : Type 0} (s s' : State) (next : T → State) (r : Result T Fault) (f : Fault) (old mid new : Parser) → IsErrAnd r (λ e. e ≡ f) → ahead s old ≡ ahead s' mid → FaultIs f (ahead s' mid) → Leads s next r old new
+passed-after s s' next r f old mid new h e g = passed s next r f old new h (fault-back f (ahead s old) (ahead s' mid) e g)
 
 -- a call at the end, after steps that lead there
 pub leads-after : {T : Type 0} (s s' : State) (next : T → State) (r : Result T Fault) (old mid new : Parser) → ahead s old ≡ ahead s' mid → Leads s' next r mid new → Leads s next r old new
@@ -68,58 +48,91 @@ pub leads-made : (s : State) (k : ExprTree → State) (r : Result Expr Fault) (t
 leads-made s k (Ok x) tree old new e is memory = e ∙ ap (λ y. ahead (k y) new) (sym is)
 leads-made s k (Err f) tree old new e is memory = subst (λ x. FaultIs x (ahead s old)) (sym memory) tt
 
-verdict-closes : (k : List ParameterTree → State) (nest : Nest) (ts : List Lexeme) (e : Ending) → stands closing_round ts ≡ true → verdict (parameters k) nest ts e ≡ verdict (one closing_round (λ _. k [])) nest ts e
-verdict-closes k nest [] e h = refl
-verdict-closes k nest (t ∷ ts) e h =
-    let n = after t.kind nest in
-    let go = λ (next : State). verdict next n ts e in
-    ap (λ b. token_answer (if b then Some (k []) else option_map (λ label. labelled label (λ p. more_parameters (p ∷ []) k)) (label_of t.kind)) t n go) h
-    ∙ sym (ap (λ b. token_answer (if b then Some (k []) else None) t n go) h)
+-- a token that was taken, and one that was not there
+pub after-taken : (s : State) (next : Lexeme → State) (other : State) (o : Option Token) (t : Token) (old new : Parser) → ahead s old ≡ ahead (taken next other o) new → o ≡ Some t → ahead s old ≡ ahead (next (lexeme t)) new
+after-taken s next other o t old new e is = subst (λ x. ahead s old ≡ ahead (taken next other x) new) is e
 
-verdict-opens : (k : List ParameterTree → State) (nest : Nest) (ts : List Lexeme) (e : Ending) → stands closing_round ts ≡ false → verdict (parameters k) nest ts e ≡ verdict (parameter (λ p. more_parameters (p ∷ []) k)) nest ts e
-verdict-opens k nest [] e h = refl
-verdict-opens k nest (t ∷ ts) e h =
-    let n = after t.kind nest in
-    ap (λ b. token_answer (if b then Some (k []) else option_map (λ label. labelled label (λ p. more_parameters (p ∷ []) k)) (label_of t.kind)) t n (λ next. verdict next n ts e)) h
+pub after-none : (s : State) (next : Lexeme → State) (other : State) (o : Option Token) (old new : Parser) → ahead s old ≡ ahead (taken next other o) new → o ≡ None → ahead s old ≡ ahead other new
+after-none s next other o old new e is = subst (λ x. ahead s old ≡ ahead (taken next other x) new) is e
 
-verdict-comma : (ps : List ParameterTree) (k : List ParameterTree → State) (nest : Nest) (ts : List Lexeme) (e : Ending) → stands a_comma ts ≡ true → verdict (more_parameters ps k) nest ts e ≡ verdict (one a_comma (λ _. parameter (λ q. more_parameters (ps ++ q ∷ []) k))) nest ts e
-verdict-comma ps k nest [] e h = refl
-verdict-comma ps k nest (t ∷ ts) e h =
-    let n = after t.kind nest in
-    let go = λ (next : State). verdict next n ts e in
-    let on = parameter (λ q. more_parameters (ps ++ q ∷ []) k) in
-    ap (λ b. token_answer (if b then Some on else (if fits closing_round t.kind then Some (k ps) else None)) t n go) h
-    ∙ sym (ap (λ b. token_answer (if b then Some on else None) t n go) h)
+-- the same, where only whether it was there is known
+pub some-taken : (s n other : State) (o : Option Token) (old new : Parser) → ahead s old ≡ ahead (taken (λ _. n) other o) new → is_some o ≡ true → ahead s old ≡ ahead n new
+some-taken s n other (Some t) old new e is = e
+some-taken s n other None old new e is = cc
 
-verdict-last : (ps : List ParameterTree) (k : List ParameterTree → State) (nest : Nest) (ts : List Lexeme) (e : Ending) → stands a_comma ts ≡ false → verdict (more_parameters ps k) nest ts e ≡ verdict (one closing_round (λ _. k ps)) nest ts e
-verdict-last ps k nest [] e h = refl
-verdict-last ps k nest (t ∷ ts) e h =
-    let n = after t.kind nest in
-    ap (λ b. token_answer (if b then Some (parameter (λ q. more_parameters (ps ++ q ∷ []) k)) else (if fits closing_round t.kind then Some (k ps) else None)) t n (λ next. verdict next n ts e)) h
+pub none-taken : (s n other : State) (o : Option Token) (old new : Parser) → ahead s old ≡ ahead (taken (λ _. n) other o) new → is_some o ≡ false → ahead s old ≡ ahead other new
+none-taken s n other (Some t) old new e is = cc
+none-taken s n other None old new e is = e
 
-pub ahead-closes : (k : List ParameterTree → State) (p : Parser) → stands closing_round (lexemes p.rest.now) ≡ true → ahead (parameters k) p ≡ ahead (one closing_round (λ _. k [])) p
-ahead-closes k p h = verdict-closes k (nest p.nesting) (lexemes p.rest.now) (ending p.end) h
+-- single steps
+pub one-step : (what : Wanted) (k : Lexeme → State) (t : Lexeme) → fits what t.kind ≡ true → step (one what k) t ≡ Some (k t)
+one-step what k t is = ap (λ b. if b then Some (k t) else None) is
 
-pub ahead-opens : (k : List ParameterTree → State) (p : Parser) → stands closing_round (lexemes p.rest.now) ≡ false → ahead (parameters k) p ≡ ahead (parameter (λ q. more_parameters (q ∷ []) k)) p
-ahead-opens k p h = verdict-opens k (nest p.nesting) (lexemes p.rest.now) (ending p.end) h
+pub either-step : (what : Wanted) (next : Lexeme → State) (other : State) (t : Lexeme) → fits what t.kind ≡ true → step (either what next other) t ≡ Some (next t)
+either-step what next other t is = ap (λ b. if b then Some (next t) else step other t) is
 
-pub ahead-comma : (ps : List ParameterTree) (k : List ParameterTree → State) (p : Parser) → stands a_comma (lexemes p.rest.now) ≡ true → ahead (more_parameters ps k) p ≡ ahead (one a_comma (λ _. parameter (λ q. more_parameters (ps ++ q ∷ []) k))) p
-ahead-comma ps k p h = verdict-comma ps k (nest p.nesting) (lexemes p.rest.now) (ending p.end) h
+pub label-step : (k : Label → State) (t : Lexeme) (label : Label) → label_of t.kind ≡ Some label → step (a_label k) t ≡ Some (k label)
+label-step k t label is = ap (option_map k) is
 
-pub ahead-last : (ps : List ParameterTree) (k : List ParameterTree → State) (p : Parser) → stands a_comma (lexemes p.rest.now) ≡ false → ahead (more_parameters ps k) p ≡ ahead (one closing_round (λ _. k ps)) p
-ahead-last ps k p h = verdict-last ps k (nest p.nesting) (lexemes p.rest.now) (ending p.end) h
+pub kind-step : (k : Kind → State) (t : Lexeme) (kind : Kind) → word_of t.kind ≡ Some kind → step (a_kind k) t ≡ Some (k kind)
+kind-step k t kind is = ap (option_map k) is
 
-verdict-takes : (wanted : Wanted) (next other : State) (n : Nest) (ts : List Lexeme) (e : Ending) → stands wanted ts ≡ true → verdict (either wanted next other) n ts e ≡ verdict (one wanted (λ _. next)) n ts e
-verdict-takes wanted next other n [] e h = cc
-verdict-takes wanted next other n (t ∷ ts) e h =
+pub length-step : (k : ℕ → State) (t : Lexeme) (n : ℕ) → length_of t.kind ≡ Some n → step (a_length k) t ≡ Some (k n)
+length-step k t n is = ap (option_map k) is
+
+pub amount-step : (k : ℕ → State) (t : Lexeme) (n : ℕ) → amount_of t.kind ≡ Some n → step (an_amount k) t ≡ Some (k n)
+amount-step k t n is = ap (option_map k) is
+
+pub sign-step : (level top : ℕ) (left : ExprTree) (k : ExprTree → State) (t : Lexeme) (link : Link) → link_of t.kind ≡ Some link → level ≤ link_level link → link_left_level link ≤ top → step (more level top left k) t ≡ Some (linked link t.place level left k)
+sign-step level top left k t link is low high = ap (λ o. joined o t.place level left k (step (k left) t)) (ap (within level top) is ∙ within_level level top link low high)
+
+pub operand-step : (level : ℕ) (k : ExprTree → State) (t : Lexeme) (b : Begins) → begins_of t.kind ≡ Some b → step (expr level k) t ≡ Some (operand b t (λ e. more level 11 e k))
+operand-step level k t b is = ap (option_map (λ b. operand b t (λ e. more level 11 e k))) is
+
+-- after a statement
+abbrev pub more_statements : (BlockTree → State) → StatementTree → State
+more_statements k s = statements (λ b. k (first s b))
+
+pub start-step : (k : BlockTree → State) (t : Lexeme) (start : Start) → starts_with t.kind ≡ Some start → step (statements k) t ≡ Some (statement start t (more_statements k))
+start-step k t start is = ap (λ o. started o t (more_statements k) (step (k nothing) t)) is
+
+-- states between which no token can tell
+same-verdict : (s s' : State) (n : Nest) (ts : List Lexeme) (e : Ending) → at_end s ≡ at_end s' → ((t : Lexeme) → step s t ≡ step s' t) → verdict s n ts e ≡ verdict s' n ts e
+same-verdict s s' n [] e last h = ap (ending_answer e) last
+same-verdict s s' n (t ∷ ts) e last h =
     let n' = after t.kind n in
-    let go = λ (s : State). verdict s n' ts e in
-    ap (λ b. token_answer (if b then Some next else step other t) t n' go) h
-    ∙ sym (ap (λ b. token_answer (if b then Some next else None) t n' go) h)
+    ap (λ o. token_answer o t n' (λ next. verdict next n' ts e)) (h t)
 
-pub ahead-takes : (wanted : Wanted) (next other : State) (p : Parser) → stands wanted (lexemes p.rest.now) ≡ true → ahead (either wanted next other) p ≡ ahead (one wanted (λ _. next)) p
-ahead-takes wanted next other p h = verdict-takes wanted next other (nest p.nesting) (lexemes p.rest.now) (ending p.end) h
+-- expressions of a list: a comma and a further one, or the end
+abbrev pub after_exprs : Wanted → List ExprTree → (List ExprTree → State) → State
+after_exprs end es k = either wanted.Comma (λ _. expr 1 (λ e. more_exprs end (es ++ e ∷ []) k)) (one end (λ _. k es))
 
-pub map-push : (ps : List ParameterOf) (p : ParameterOf) → map parameter_tree (ps ++ p ∷ []) ≡ map parameter_tree ps ++ parameter_tree p ∷ []
-map-push [] p = refl
-map-push (q ∷ ps) p = ap (λ xs. parameter_tree q ∷ xs) (map-push ps p)
+pub ahead-exprs : (end : Wanted) (es : List ExprTree) (k : List ExprTree → State) (p : Parser) → ahead (more_exprs end es k) p ≡ ahead (after_exprs end es k) p
+ahead-exprs end es k p = same-verdict (more_exprs end es k) (after_exprs end es k) (nest p.nesting) (lexemes p.rest.now) (ending p.end) refl (λ t. refl)
+
+abbrev pub after_parameters : List ParameterTree → (List ParameterTree → State) → State
+after_parameters ps k = either wanted.Comma (λ _. parameter (λ p. more_parameters (ps ++ p ∷ []) k)) (one wanted.CloseRound (λ _. k ps))
+
+pub ahead-parameters : (ps : List ParameterTree) (k : List ParameterTree → State) (p : Parser) → ahead (more_parameters ps k) p ≡ ahead (after_parameters ps k) p
+ahead-parameters ps k p = same-verdict (more_parameters ps k) (after_parameters ps k) (nest p.nesting) (lexemes p.rest.now) (ending p.end) refl (λ t. refl)
+
+pub ahead-otherwise : (k : BlockTree → State) (p : Parser) → ahead (otherwise k) p ≡ ahead (either wanted.Else (λ _. after_else k) (k nothing)) p
+ahead-otherwise k p = same-verdict (otherwise k) (either wanted.Else (λ _. after_else k) (k nothing)) (nest p.nesting) (lexemes p.rest.now) (ending p.end) refl (λ t. refl)
+
+-- procedures: where a token is left, a further one
+ahead-procedure-at : (ps : List ProcedureTree) (n : Nest) (xs : List Token) (e : Ending) → nat_eq (length xs) 0 ≡ false → verdict (procedures ps) n (lexemes xs) e ≡ verdict (procedure (λ q. procedures (ps ++ q ∷ []))) n (lexemes xs) e
+ahead-procedure-at ps n [] e h = cc
+ahead-procedure-at ps n (x ∷ xs) e h = refl
+
+pub ahead-procedure : (ps : List ProcedureTree) (p : Parser) → nat_eq (length p.rest.now) 0 ≡ false → ahead (procedures ps) p ≡ ahead (procedure (λ q. procedures (ps ++ q ∷ []))) p
+ahead-procedure ps p h = ahead-procedure-at ps (nest p.nesting) p.rest.now (ending p.end) h
+
+-- a fault that is passed on as the answer
+pub passed-answer : {T : Type 0} (r : Result T Fault) (f : Fault) (P : T → Type 0) (a b : Answer) → IsErrAnd r (λ e. e ≡ f) → a ≡ b → FaultIs f b → MatchResult r P (λ g. FaultIs g a)
+passed-answer (Ok x) f P a b h e g = absurd h
+passed-answer (Err x) f P a b h e g = subst (λ y. FaultIs y a) (sym h) (fault-back f a b e g)
+
+-- one element more
+pub map-push : {A B : Type 0} (f : A → B) (xs : List A) (x : A) → map f (xs ++ x ∷ []) ≡ map f xs ++ f x ∷ []
+map-push f [] x = refl
+map-push f (y ∷ xs) x = ap (λ ys. f y ∷ ys) (map-push f xs x)

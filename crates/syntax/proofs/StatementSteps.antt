@@ -1,15 +1,13 @@
 -- Statements in a row, and how a block grows.
-use Rattle.std.proofs.Common.{◌≡◌, Bool, true, false, if◌then◌else◌, List, [], ◌∷◌, ◌++◌, refl, ap, ap₂, sym, ◌∙◌}
+use Rattle.std.proofs.Common.{◌≡◌, List, [], ◌∷◌, ◌++◌, refl, ap, ap₂, sym, ◌∙◌}
 use Rattle.std.proofs.Math.Path.{fun_ext}
 use mathlib.Core.Former.{Count}
 use Rattle.syntax.specs.declared.parser.Parser.{Parser}
-use Rattle.syntax.specs.declared.signature.Label.{Label}
-use Rattle.syntax.specs.declared.tree.Statement.{Statement, If, If', Row_of-Statement, end_of-Statement, more_of-Statement, items-the_row-Statement, items_hidden-the_row-Statement-0}
-use Rattle.syntax.specs.Grammar.{Where}
+use Rattle.syntax.specs.declared.tree.Statement.{Statement, If, If', For, For', Row_of-Statement, end_of-Statement, more_of-Statement, items-the_row-Statement, items_hidden-the_row-Statement-0}
 use Rattle.syntax.specs.Blocks.{RowsAreBlocks}
-use Rattle.syntax.specs.Machine.{State, statements, declared_word}
+use Rattle.syntax.specs.Machine.{State, statements}
 use Rattle.syntax.specs.ParserViews.{ahead}
-use Rattle.syntax.specs.Tree.{StatementTree, conditional, BlockTree, nothing, first, expr_tree, statement_tree, row_tree, block_tree}
+use Rattle.syntax.specs.Tree.{conditional, loop, BlockTree, nothing, first, expr_tree, statement_tree, row_tree, block_tree}
 
 rows : (n : _) (row : Row_of-Statement n) → row_tree row ≡ block_tree (items-the_row-Statement n row)
 rows n end_of-Statement = refl
@@ -17,15 +15,21 @@ rows n (more_of-Statement s rest) = ap (first (statement_tree s)) (rows _ rest)
 
 abbrev arms : Statement → ((n : Count) × Row_of-Statement n) × ((n : Count) × Row_of-Statement n)
 arms (If' place condition shape accepted shape' otherwise) = ((_, accepted), (_, otherwise))
+arms (For' place counter low high shape body) = ((_, body), (_, end_of-Statement))
 arms _ = ((_, end_of-Statement), (_, end_of-Statement))
 
--- the tree of a conditional, by the lists of its arms
-pub conditional_tree : RowsAreBlocks
-conditional_tree place condition accepted otherwise =
-    let both = arms (If place condition accepted otherwise) in
-    ap₂ (conditional place (expr_tree condition))
-    (rows both.0.0 both.0.1 ∙ ap block_tree (items_hidden-the_row-Statement-0 accepted))
-    (rows both.1.0 both.1.1 ∙ ap block_tree (items_hidden-the_row-Statement-0 otherwise))
+-- the trees of conditionals and loops, by the lists of what they run
+pub row_trees : RowsAreBlocks
+row_trees = record {
+  arms = λ place condition accepted otherwise.
+      let both = arms (If place condition accepted otherwise) in
+      ap₂ (conditional place (expr_tree condition))
+      (rows both.0.0 both.0.1 ∙ ap block_tree (items_hidden-the_row-Statement-0 accepted))
+      (rows both.1.0 both.1.1 ∙ ap block_tree (items_hidden-the_row-Statement-0 otherwise));
+  bodies = λ place counter low high body.
+      let both = arms (For place counter low high body) in
+      ap (loop place counter.place counter.name.now (expr_tree low) (expr_tree high)) (rows both.0.0 both.0.1 ∙ ap block_tree (items_hidden-the_row-Statement-0 body));
+}
 
 -- some statements, and then a block
 abbrev pub followed_by : List Statement → BlockTree → BlockTree
@@ -41,9 +45,5 @@ followed-nothing [] = refl
 followed-nothing (x ∷ ss) = ap (first (statement_tree x)) (followed-nothing ss)
 
 -- the machine after one statement more
-pub ahead-push : (inside : Where) (k : BlockTree → State) (ss : List Statement) (s : Statement) (p : Parser) → ahead (statements inside (λ b. k (followed_by ss (first (statement_tree s) b)))) p ≡ ahead (statements inside (λ b. k (followed_by (ss ++ s ∷ []) b))) p
-ahead-push inside k ss s p = ap (λ (f : BlockTree → BlockTree). ahead (statements inside (λ b. k (f b))) p) (fun_ext (λ b. sym (followed-push ss s b)))
-
-pub chosen : (label : Label) (k : StatementTree → State) (mutable : Bool) → (if mutable then declared_word label true k else declared_word label false k) ≡ declared_word label mutable k
-chosen label k true = refl
-chosen label k false = refl
+pub ahead-push : (k : BlockTree → State) (ss : List Statement) (s : Statement) (p : Parser) → ahead (statements (λ b. k (followed_by ss (first (statement_tree s) b)))) p ≡ ahead (statements (λ b. k (followed_by (ss ++ s ∷ []) b))) p
+ahead-push k ss s p = ap (λ (f : BlockTree → BlockTree). ahead (statements (λ b. k (f b))) p) (fun_ext (λ b. sym (followed-push ss s b)))

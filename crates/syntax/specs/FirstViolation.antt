@@ -1,10 +1,10 @@
 -- Which of several violations is named: that of least place, and of those at one place the rule that comes first.
-use Rattle.std.specs.Prelude.{◌≡◌, ℕ, ◌<◌, ◌≤◌, ◌⊎◌, List, Option, Some, Contains, All}
+use Rattle.std.specs.Prelude.{◌≡◌, ◌<◌, ◌≤◌, ◌⊎◌, List, Option, Some, Contains, All}
 use Rattle.word.specs.declared.place.Place.{Place}
 use Rattle.syntax.specs.declared.rule.Rule.{Rule}
-use Rattle.syntax.specs.declared.rule.Rule.TheVariants.{OutOfMemory}
 use Rattle.syntax.specs.declared.typing.Violation.{Violation}
 use Rattle.syntax.specs.RuleOrder.{rank_of}
+use Rattle.syntax.specs.WantOfMemory.{IsWantOfMemory}
 
 -- u is named rather than v
 abbrev pub IsNoLaterThan : Violation → Violation → Type 0
@@ -16,7 +16,7 @@ pub record IsFirst (all : List Violation) (first : Violation) : Type 0 where
   pub there : Contains all first
   pub least : All (IsNoLaterThan first) all
 
--- the rule and the place of a refusal are those of the first of the violations, unless memory ran out
+-- the refusal is want of memory, which has no place, or its rule and place are those of the first of the violations
 abbrev pub IsRefusedFor : List Violation → Rule → Option Place → Type 0
 IsRefusedFor all rule place =
-    (rule ≡ OutOfMemory) ⊎ ((first : Violation) × IsFirst all first × (rule ≡ first.rule) × (place ≡ Some first.place))
+    IsWantOfMemory rule place ⊎ ((first : Violation) × IsFirst all first × (rule ≡ first.rule) × (place ≡ Some first.place))

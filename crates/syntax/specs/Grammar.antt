@@ -1,39 +1,102 @@
 -- The grammar. `F tokens tree rest` says that some first tokens are the form F, with this tree, and that the rest stands after them.
 -- One constructor is one rule.
-use Rattle.std.specs.Prelude.{◌≡◌, ℕ, ◌+◌, ◌≤◌, Bool, true, false, List, [], ◌∷◌, ◌++◌, Option, Some, None, ◌⊎◌}
+use Rattle.std.specs.Prelude.{◌≡◌, ℕ, ◌+◌, ◌≤◌, Bool, true, false, ◌&&◌, if◌then◌else◌, List, [], ◌∷◌, ◌++◌, Option, Some, None}
+use Rattle.std.specs.Prelude.{nat_le}
+use Rattle.word.specs.declared.place.Place.{Place}
+use Rattle.syntax.specs.declared.signature.Form.TheVariants.{SingleWord, FixedArray, MutableArray}
 use Rattle.syntax.specs.declared.signature.Kind.{Kind}
-use Rattle.syntax.specs.declared.signature.Kind.TheVariants.{Boolean, Uint32 as Uint32Kind}
+use Rattle.syntax.specs.declared.signature.Kind.TheVariants.{Boolean, Uint8 as Uint8Kind, Uint16 as Uint16Kind, Uint32 as Uint32Kind}
 use Rattle.syntax.specs.declared.signature.Label.{Label}
 use Rattle.syntax.specs.declared.signature.Label.TheVariants.{Public as PublicLabel, Secret as SecretLabel}
 use Rattle.syntax.specs.declared.token.TokenKind.{TokenKind}
 use Rattle.syntax.specs.declared.token.TokenKind.TheVariants as token
-use Rattle.syntax.specs.declared.token.Keyword.TheVariants.{Export, Public, Secret, Mut, Bool as BoolWord, Uint32, True, False, If, Else, Return, Select}
-use Rattle.syntax.specs.declared.token.Sign.TheVariants.{OpenRound, CloseRound, OpenCurly, CloseCurly, Comma, Semicolon, Assign, Plus, Minus, Ampersand, Caret}
+use Rattle.syntax.specs.declared.token.Keyword.TheVariants.{Export, Void, Public, Secret, Mut, Bool as BoolWord, Uint8, Uint16, Uint32, True, False, If, Else, For, From, To, Return, Select}
+use Rattle.syntax.specs.declared.token.Sign.{Sign}
+use Rattle.syntax.specs.declared.token.Sign.TheVariants.{RotateLeft, ShiftLeft, ShiftRight, AtMost, AtLeast, Equals, Differs, AndAlso, OrElse, OpenRound, CloseRound, OpenCurly, CloseCurly, OpenSquare, CloseSquare, Comma, Semicolon, Assign, Plus, Minus, Star, Slash, Percent, Ampersand, Bar, Caret, Tilde, Bang, Below, Above}
 use Rattle.syntax.specs.declared.token.Suffix.{Suffix}
-use Rattle.syntax.specs.declared.token.Suffix.TheVariants.{U32}
+use Rattle.syntax.specs.declared.token.Suffix.TheVariants.{U8, U16, U32}
 use Rattle.syntax.specs.declared.tree.BinaryOperator.{BinaryOperator}
-use Rattle.syntax.specs.declared.tree.BinaryOperator.TheVariants.{BitXor, BitAnd, Add, Subtract}
+use Rattle.syntax.specs.declared.tree.BinaryOperator.TheVariants.{Either, Both, Equal, Unequal, Less, LessOrEqual, Greater, GreaterOrEqual, BitOr, BitXor, BitAnd, ShiftLeft as ShiftedLeft, ShiftRight as ShiftedRight, Add, Subtract, Multiply, Divide, Remainder}
+use Rattle.syntax.specs.declared.tree.PrefixOperator.{PrefixOperator}
+use Rattle.syntax.specs.declared.tree.PrefixOperator.TheVariants.{Not, Complement, Negate}
+use Rattle.syntax.specs.declared.typing.WordType.{WordType}
 use Rattle.syntax.specs.Lexeme.{Lexeme}
-use Rattle.syntax.specs.Tree.{ExprTree, number, truth, name, binary, select, StatementTree, declaration, assignment, conditional, BlockTree, nothing, first, ParameterTree, ProcedureTree, ProgramTree}
+use Rattle.syntax.specs.Tree.{ExprTree, number, truth, name, prefix, binary, rotate, convert, select, element, CallTree, RightTree, called, computed, StatementTree, declaration, array, assignment, element_assignment, call, conditional, loop, BlockTree, nothing, first, ParameterTree, ReturnTree, ProcedureTree, ProgramTree}
 
 -- the token is of this kind
 abbrev pub Is : TokenKind → Lexeme → Type 0
-Is kind token = token.kind ≡ kind
+Is kind t = t.kind ≡ kind
+
+-- the token is this sign
+abbrev pub IsSign : Sign → Lexeme → Type 0
+IsSign sign t = t.kind ≡ token.Sign sign
+
+-- the operator that a sign before an operand is
+abbrev pub prefix_of : TokenKind → Option PrefixOperator
+prefix_of (token.Sign Bang) = Some Not
+prefix_of (token.Sign Tilde) = Some Complement
+prefix_of (token.Sign Minus) = Some Negate
+prefix_of _ = None
 
 -- the operator that a sign between two operands is
 abbrev pub operator_of : TokenKind → Option BinaryOperator
+operator_of (token.Sign OrElse) = Some Either
+operator_of (token.Sign AndAlso) = Some Both
+operator_of (token.Sign Equals) = Some Equal
+operator_of (token.Sign Differs) = Some Unequal
+operator_of (token.Sign Below) = Some Less
+operator_of (token.Sign AtMost) = Some LessOrEqual
+operator_of (token.Sign Above) = Some Greater
+operator_of (token.Sign AtLeast) = Some GreaterOrEqual
+operator_of (token.Sign Bar) = Some BitOr
 operator_of (token.Sign Caret) = Some BitXor
 operator_of (token.Sign Ampersand) = Some BitAnd
+operator_of (token.Sign ShiftLeft) = Some ShiftedLeft
+operator_of (token.Sign ShiftRight) = Some ShiftedRight
 operator_of (token.Sign Plus) = Some Add
 operator_of (token.Sign Minus) = Some Subtract
+operator_of (token.Sign Star) = Some Multiply
+operator_of (token.Sign Slash) = Some Divide
+operator_of (token.Sign Percent) = Some Remainder
 operator_of _ = None
 
--- how strongly an operator binds; the strongest of the language binds at 9
+-- how strongly an operator binds, from 1 to 9; signs before an operand bind at 10
 abbrev pub level_of : BinaryOperator → ℕ
+level_of Either = 1
+level_of Both = 2
+level_of Equal = 3
+level_of Unequal = 3
+level_of Less = 3
+level_of LessOrEqual = 3
+level_of Greater = 3
+level_of GreaterOrEqual = 3
+level_of BitOr = 4
 level_of BitXor = 5
 level_of BitAnd = 6
+level_of ShiftedLeft = 7
+level_of ShiftedRight = 7
 level_of Add = 8
 level_of Subtract = 8
+level_of Multiply = 9
+level_of Divide = 9
+level_of Remainder = 9
+
+-- a rotation binds as the shifts do
+abbrev pub rotation_level : ℕ
+rotation_level = 7
+
+abbrev pub prefix_level : ℕ
+prefix_level = 10
+
+-- how strongly the left operand has to bind: operators of one level group to the left, but comparisons do not group
+abbrev pub left_level_of : BinaryOperator → ℕ
+left_level_of Equal = 4
+left_level_of Unequal = 4
+left_level_of Less = 4
+left_level_of LessOrEqual = 4
+left_level_of Greater = 4
+left_level_of GreaterOrEqual = 4
+left_level_of operator = level_of operator
 
 -- the label that a keyword names
 abbrev pub label_of : TokenKind → Option Label
@@ -44,77 +107,167 @@ label_of _ = None
 -- the kind of word that a keyword names
 abbrev pub word_of : TokenKind → Option Kind
 word_of (token.Keyword BoolWord) = Some Boolean
+word_of (token.Keyword Uint8) = Some Uint8Kind
+word_of (token.Keyword Uint16) = Some Uint16Kind
 word_of (token.Keyword Uint32) = Some Uint32Kind
 word_of _ = None
 
--- an expression in which no sign outside all brackets binds below the level
+-- the kind of number that a keyword converts to
+abbrev pub conversion_of : TokenKind → Option Kind
+conversion_of (token.Keyword Uint8) = Some Uint8Kind
+conversion_of (token.Keyword Uint16) = Some Uint16Kind
+conversion_of (token.Keyword Uint32) = Some Uint32Kind
+conversion_of _ = None
+
+-- the kind of number that a suffix names
+abbrev pub suffix_kind : Option Suffix → Kind
+suffix_kind (Some U8) = Uint8Kind
+suffix_kind (Some U16) = Uint16Kind
+suffix_kind (Some U32) = Uint32Kind
+suffix_kind None = Uint32Kind
+
+-- the number that a token without a suffix writes
+abbrev pub amount_of : TokenKind → Option ℕ
+amount_of (token.Number value None) = Some value
+amount_of _ = None
+
+-- an array has 1 to 4096 elements
+abbrev pub is_length : ℕ → Bool
+is_length length = nat_le 1 length && nat_le length 4096
+
+-- the length that a token without a suffix writes
+abbrev pub length_of : TokenKind → Option ℕ
+length_of (token.Number value None) = if is_length value then Some value else None
+length_of _ = None
+
+-- an expression in which no sign between operands, outside all brackets, binds below the level
 pub data ExprAt : ℕ → List Lexeme → ExprTree → List Lexeme → Type 0 where
-  a_number : (level : ℕ) (t : Lexeme) (value : ℕ) (suffix : Option Suffix) (rest : List Lexeme) → Is (token.Number value suffix) t → (suffix ≡ None) ⊎ (suffix ≡ Some U32) → ExprAt level (t ∷ rest) (number t.place value) rest
+  a_number : (level : ℕ) (t : Lexeme) (value : ℕ) (suffix : Option Suffix) (rest : List Lexeme) → Is (token.Number value suffix) t → ExprAt level (t ∷ rest) (number t.place value (suffix_kind suffix)) rest
   a_true : (level : ℕ) (t : Lexeme) (rest : List Lexeme) → Is (token.Keyword True) t → ExprAt level (t ∷ rest) (truth t.place true) rest
   a_false : (level : ℕ) (t : Lexeme) (rest : List Lexeme) → Is (token.Keyword False) t → ExprAt level (t ∷ rest) (truth t.place false) rest
   a_name : (level : ℕ) (t : Lexeme) (rest : List Lexeme) → Is token.Name t → ExprAt level (t ∷ rest) (name t.place t.text) rest
-  in_brackets : (level : ℕ) (opening closing : Lexeme) (inner rest : List Lexeme) (tree : ExprTree) → Is (token.Sign OpenRound) opening → ExprAt 1 inner tree (closing ∷ rest) → Is (token.Sign CloseRound) closing → ExprAt level (opening ∷ inner) tree rest
-  a_select : (level : ℕ) (t opening comma comma' closing : Lexeme) (one second third rest : List Lexeme) (condition accepted otherwise : ExprTree) → Is (token.Keyword Select) t → Is (token.Sign OpenRound) opening → ExprAt 1 one condition (comma ∷ second) → Is (token.Sign Comma) comma → ExprAt 1 second accepted (comma' ∷ third) → Is (token.Sign Comma) comma' → ExprAt 1 third otherwise (closing ∷ rest) → Is (token.Sign CloseRound) closing → ExprAt level (t ∷ opening ∷ one) (select t.place condition accepted otherwise) rest
-  -- signs of one level group to the left
-  a_binary : (level : ℕ) (t : Lexeme) (operator : BinaryOperator) (start second rest : List Lexeme) (left right : ExprTree) → operator_of t.kind ≡ Some operator → level ≤ level_of operator → ExprAt (level_of operator) start left (t ∷ second) → ExprAt (level_of operator + 1) second right rest → ExprAt level start (binary t.place operator left right) rest
+  an_element : (level : ℕ) (t opening closing : Lexeme) (inner rest : List Lexeme) (index : ExprTree) → Is token.Name t → IsSign OpenSquare opening → ExprAt 1 inner index (closing ∷ rest) → IsSign CloseSquare closing → ExprAt level (t ∷ opening ∷ inner) (element opening.place t.place t.text index) rest
+  in_brackets : (level : ℕ) (opening closing : Lexeme) (inner rest : List Lexeme) (tree : ExprTree) → IsSign OpenRound opening → ExprAt 1 inner tree (closing ∷ rest) → IsSign CloseRound closing → ExprAt level (opening ∷ inner) tree rest
+  a_conversion : (level : ℕ) (t opening closing : Lexeme) (inner rest : List Lexeme) (kind : Kind) (tree : ExprTree) → conversion_of t.kind ≡ Some kind → IsSign OpenRound opening → ExprAt 1 inner tree (closing ∷ rest) → IsSign CloseRound closing → ExprAt level (t ∷ opening ∷ inner) (convert t.place kind tree) rest
+  a_select : (level : ℕ) (t opening comma comma' closing : Lexeme) (start second third rest : List Lexeme) (condition accepted otherwise : ExprTree) → Is (token.Keyword Select) t → IsSign OpenRound opening → ExprAt 1 start condition (comma ∷ second) → IsSign Comma comma → ExprAt 1 second accepted (comma' ∷ third) → IsSign Comma comma' → ExprAt 1 third otherwise (closing ∷ rest) → IsSign CloseRound closing → ExprAt level (t ∷ opening ∷ start) (select t.place condition accepted otherwise) rest
+  a_prefix : (level : ℕ) (t : Lexeme) (operator : PrefixOperator) (inner rest : List Lexeme) (operand : ExprTree) → prefix_of t.kind ≡ Some operator → ExprAt prefix_level inner operand rest → ExprAt level (t ∷ inner) (prefix t.place operator operand) rest
+  a_rotation : (level : ℕ) (t number : Lexeme) (amount : ℕ) (start rest : List Lexeme) (operand : ExprTree) → IsSign RotateLeft t → level ≤ rotation_level → ExprAt rotation_level start operand (t ∷ number ∷ rest) → amount_of number.kind ≡ Some amount → ExprAt level start (rotate t.place operand amount) rest
+  a_binary : (level : ℕ) (t : Lexeme) (operator : BinaryOperator) (start second rest : List Lexeme) (left right : ExprTree) → operator_of t.kind ≡ Some operator → level ≤ level_of operator → ExprAt (left_level_of operator) start left (t ∷ second) → ExprAt (level_of operator + 1) second right rest → ExprAt level start (binary t.place operator left right) rest
 
 -- an expression
 abbrev pub Expr : List Lexeme → ExprTree → List Lexeme → Type 0
 Expr = ExprAt 1
 
--- a parameter
-pub data Parameter : List Lexeme → ParameterTree → List Lexeme → Type 0 where
-  a_parameter : (start second t : Lexeme) (rest : List Lexeme) (label : Label) (kind : Kind) → label_of start.kind ≡ Some label → word_of second.kind ≡ Some kind → Is token.Name t → Parameter (start ∷ second ∷ t ∷ rest) (record { label = label; kind = kind; place = t.place; name = t.text }) rest
+-- what stands after an expression of a list: further ones, each after a comma, and the token that ends the list
+pub data MoreExprs (end : TokenKind) : List Lexeme → List ExprTree → List Lexeme → Type 0 where
+  no_more : (closing : Lexeme) (rest : List Lexeme) → Is end closing → MoreExprs end (closing ∷ rest) [] rest
+  one_more : (comma : Lexeme) (list second rest : List Lexeme) (tree : ExprTree) (trees : List ExprTree) → IsSign Comma comma → Expr list tree second → MoreExprs end second trees rest → MoreExprs end (comma ∷ list) (tree ∷ trees) rest
 
--- what stands after a parameter: further ones, each after a comma, and the closing bracket
-pub data MoreParameters : List Lexeme → List ParameterTree → List Lexeme → Type 0 where
-  no_more : (closing : Lexeme) (rest : List Lexeme) → Is (token.Sign CloseRound) closing → MoreParameters (closing ∷ rest) [] rest
-  one_more : (comma : Lexeme) (list second rest : List Lexeme) (tree : ParameterTree) (trees : List ParameterTree) → Is (token.Sign Comma) comma → Parameter list tree second → MoreParameters second trees rest → MoreParameters (comma ∷ list) (tree ∷ trees) rest
+-- expressions and the token that ends them
+pub data SomeExprs (end : TokenKind) : List Lexeme → List ExprTree → List Lexeme → Type 0 where
+  some_exprs : (list second rest : List Lexeme) (tree : ExprTree) (trees : List ExprTree) → Expr list tree second → MoreExprs end second trees rest → SomeExprs end list (tree ∷ trees) rest
 
--- parameters and the closing bracket
-pub data Parameters : List Lexeme → List ParameterTree → List Lexeme → Type 0 where
-  no_parameters : (closing : Lexeme) (rest : List Lexeme) → Is (token.Sign CloseRound) closing → Parameters (closing ∷ rest) [] rest
-  some_parameters : (list second rest : List Lexeme) (tree : ParameterTree) (trees : List ParameterTree) → Parameter list tree second → MoreParameters second trees rest → Parameters list (tree ∷ trees) rest
+-- arguments and the closing bracket
+pub data Arguments : List Lexeme → List ExprTree → List Lexeme → Type 0 where
+  no_arguments : (closing : Lexeme) (rest : List Lexeme) → IsSign CloseRound closing → Arguments (closing ∷ rest) [] rest
+  some_arguments : (list rest : List Lexeme) (trees : List ExprTree) → SomeExprs (token.Sign CloseRound) list trees rest → Arguments list trees rest
 
--- where a statement stands: in the body of a procedure, or in an arm of a conditional
-pub data Where : Type 0 where
-  in_body : Where
-  in_arm : Where
+-- a call
+pub data Call : List Lexeme → CallTree → List Lexeme → Type 0 where
+  a_call : (t opening : Lexeme) (list rest : List Lexeme) (trees : List ExprTree) → Is token.Name t → IsSign OpenRound opening → Arguments list trees rest → Call (t ∷ opening ∷ list) (record { place = t.place; name = t.text; arguments = trees }) rest
 
--- `mut`, or nothing
+-- a right side
+pub data RightSide : List Lexeme → RightTree → List Lexeme → Type 0 where
+  a_call_value : (list rest : List Lexeme) (tree : CallTree) → Call list tree rest → RightSide list (called tree) rest
+  a_value : (list rest : List Lexeme) (tree : ExprTree) → Expr list tree rest → RightSide list (computed tree) rest
+
+-- `mut`, where it stands
 pub data Mutable : List Lexeme → Bool → List Lexeme → Type 0 where
   no_mut : (rest : List Lexeme) → Mutable rest false rest
   a_mut : (t : Lexeme) (rest : List Lexeme) → Is (token.Keyword Mut) t → Mutable (t ∷ rest) true rest
 
+-- an array's kind and length, as `uint32[8]`
+pub data ArrayType : List Lexeme → Kind → ℕ → List Lexeme → Type 0 where
+  an_array_type : (word opening number closing : Lexeme) (rest : List Lexeme) (kind : Kind) (length : ℕ) → word_of word.kind ≡ Some kind → IsSign OpenSquare opening → length_of number.kind ≡ Some length → IsSign CloseSquare closing → ArrayType (word ∷ opening ∷ number ∷ closing ∷ rest) kind length rest
+
+-- an array's first values, where they are written
+pub data FirstValues : List Lexeme → Option (List ExprTree) → List Lexeme → Type 0 where
+  no_values : (rest : List Lexeme) → FirstValues rest None rest
+  some_values : (equals opening : Lexeme) (list rest : List Lexeme) (trees : List ExprTree) → IsSign Assign equals → IsSign OpenCurly opening → SomeExprs (token.Sign CloseCurly) list trees rest → FirstValues (equals ∷ opening ∷ list) (Some trees) rest
+
 mutual
-  -- a statement; a conditional stands in a body alone
-  pub data Statement : Where → List Lexeme → StatementTree → List Lexeme → Type 0 where
-    a_declaration : (inside : Where) (start second t equals semicolon : Lexeme) (list value rest : List Lexeme) (label : Label) (mutable : Bool) (kind : Kind) (tree : ExprTree) → label_of start.kind ≡ Some label → Mutable list mutable (second ∷ t ∷ equals ∷ value) → word_of second.kind ≡ Some kind → Is token.Name t → Is (token.Sign Assign) equals → Expr value tree (semicolon ∷ rest) → Is (token.Sign Semicolon) semicolon → Statement inside (start ∷ list) (declaration t.place label mutable kind t.text tree) rest
-    an_assignment : (inside : Where) (t equals semicolon : Lexeme) (value rest : List Lexeme) (tree : ExprTree) → Is token.Name t → Is (token.Sign Assign) equals → Expr value tree (semicolon ∷ rest) → Is (token.Sign Semicolon) semicolon → Statement inside (t ∷ equals ∷ value) (assignment equals.place t.place t.text tree) rest
-    a_conditional : (t opening closing : Lexeme) (list arm others rest : List Lexeme) (condition : ExprTree) (accepted otherwise : BlockTree) → Is (token.Keyword If) t → Is (token.Sign OpenRound) opening → Expr list condition (closing ∷ arm) → Is (token.Sign CloseRound) closing → Arm arm accepted others → Otherwise others otherwise rest → Statement in_body (t ∷ opening ∷ list) (conditional t.place condition accepted otherwise) rest
+  -- a statement
+  pub data Statement : List Lexeme → StatementTree → List Lexeme → Type 0 where
+    a_declaration : (start second t equals semicolon : Lexeme) (list right rest : List Lexeme) (label : Label) (mutable : Bool) (kind : Kind) (tree : RightTree) → label_of start.kind ≡ Some label → Mutable list mutable (second ∷ t ∷ equals ∷ right) → word_of second.kind ≡ Some kind → Is token.Name t → IsSign Assign equals → RightSide right tree (semicolon ∷ rest) → IsSign Semicolon semicolon → Statement (start ∷ list) (declaration t.place label mutable kind t.text tree) rest
+    an_array : (start t semicolon : Lexeme) (list second values rest : List Lexeme) (label : Label) (mutable : Bool) (kind : Kind) (length : ℕ) (trees : Option (List ExprTree)) → label_of start.kind ≡ Some label → Mutable list mutable second → ArrayType second kind length (t ∷ values) → Is token.Name t → FirstValues values trees (semicolon ∷ rest) → IsSign Semicolon semicolon → Statement (start ∷ list) (array t.place label mutable kind length t.text trees) rest
+    an_assignment : (t equals semicolon : Lexeme) (right rest : List Lexeme) (tree : RightTree) → Is token.Name t → IsSign Assign equals → RightSide right tree (semicolon ∷ rest) → IsSign Semicolon semicolon → Statement (t ∷ equals ∷ right) (assignment equals.place t.place t.text tree) rest
+    an_element_assignment : (t opening closing equals semicolon : Lexeme) (inner right rest : List Lexeme) (index : ExprTree) (tree : RightTree) → Is token.Name t → IsSign OpenSquare opening → Expr inner index (closing ∷ equals ∷ right) → IsSign CloseSquare closing → IsSign Assign equals → RightSide right tree (semicolon ∷ rest) → IsSign Semicolon semicolon → Statement (t ∷ opening ∷ inner) (element_assignment equals.place opening.place t.place t.text index tree) rest
+    a_call_statement : (semicolon : Lexeme) (list rest : List Lexeme) (tree : CallTree) → Call list tree (semicolon ∷ rest) → IsSign Semicolon semicolon → Statement list (call tree) rest
+    a_conditional_statement : (list rest : List Lexeme) (tree : StatementTree) → Conditional list tree rest → Statement list tree rest
+    a_loop : (t opening word counter from to closing : Lexeme) (low high body rest : List Lexeme) (start end : ExprTree) (trees : BlockTree) → Is (token.Keyword For) t → IsSign OpenRound opening → Is (token.Keyword Uint32) word → Is token.Name counter → Is (token.Keyword From) from → Expr low start (to ∷ high) → Is (token.Keyword To) to → Expr high end (closing ∷ body) → IsSign CloseRound closing → Block body trees rest → Statement (t ∷ opening ∷ word ∷ counter ∷ from ∷ low) (loop t.place counter.place counter.text start end trees) rest
+
+  -- a conditional
+  pub data Conditional : List Lexeme → StatementTree → List Lexeme → Type 0 where
+    a_conditional : (t opening closing : Lexeme) (list arm others rest : List Lexeme) (condition : ExprTree) (accepted otherwise : BlockTree) → Is (token.Keyword If) t → IsSign OpenRound opening → Expr list condition (closing ∷ arm) → IsSign CloseRound closing → Block arm accepted others → Otherwise others otherwise rest → Conditional (t ∷ opening ∷ list) (conditional t.place condition accepted otherwise) rest
 
   -- statements in their order
-  pub data Statements : Where → List Lexeme → BlockTree → List Lexeme → Type 0 where
-    no_statement : (inside : Where) (rest : List Lexeme) → Statements inside rest nothing rest
-    one_statement : (inside : Where) (list others rest : List Lexeme) (tree : StatementTree) (trees : BlockTree) → Statement inside list tree others → Statements inside others trees rest → Statements inside list (first tree trees) rest
+  pub data Statements : List Lexeme → BlockTree → List Lexeme → Type 0 where
+    no_statement : (rest : List Lexeme) → Statements rest nothing rest
+    one_statement : (list others rest : List Lexeme) (tree : StatementTree) (trees : BlockTree) → Statement list tree others → Statements others trees rest → Statements list (first tree trees) rest
 
-  -- what a conditional may run
-  pub data Arm : List Lexeme → BlockTree → List Lexeme → Type 0 where
-    an_arm : (opening closing : Lexeme) (list rest : List Lexeme) (trees : BlockTree) → Is (token.Sign OpenCurly) opening → Statements in_arm list trees (closing ∷ rest) → Is (token.Sign CloseCurly) closing → Arm (opening ∷ list) trees rest
+  -- statements in curly brackets
+  pub data Block : List Lexeme → BlockTree → List Lexeme → Type 0 where
+    a_block : (opening closing : Lexeme) (list rest : List Lexeme) (trees : BlockTree) → IsSign OpenCurly opening → Statements list trees (closing ∷ rest) → IsSign CloseCurly closing → Block (opening ∷ list) trees rest
 
-  -- the second arm, where there is one
+  -- the second arm, where there is one: a block, or one more conditional
   pub data Otherwise : List Lexeme → BlockTree → List Lexeme → Type 0 where
     no_else : (rest : List Lexeme) → Otherwise rest nothing rest
-    an_else : (t : Lexeme) (arm rest : List Lexeme) (trees : BlockTree) → Is (token.Keyword Else) t → Arm arm trees rest → Otherwise (t ∷ arm) trees rest
+    an_else : (t : Lexeme) (arm rest : List Lexeme) (trees : BlockTree) → Is (token.Keyword Else) t → Block arm trees rest → Otherwise (t ∷ arm) trees rest
+    an_else_if : (t : Lexeme) (list rest : List Lexeme) (tree : StatementTree) → Is (token.Keyword Else) t → Conditional list tree rest → Otherwise (t ∷ list) (first tree nothing) rest
 
--- a procedure, from the label of its result on
+-- a parameter
+pub data Parameter : List Lexeme → ParameterTree → List Lexeme → Type 0 where
+  a_word : (start second t : Lexeme) (rest : List Lexeme) (label : Label) (kind : Kind) → label_of start.kind ≡ Some label → word_of second.kind ≡ Some kind → Is token.Name t → Parameter (start ∷ second ∷ t ∷ rest) (record { label = label; kind = kind; form = SingleWord; length = 1; place = t.place; name = t.text }) rest
+  a_fixed_array : (start t : Lexeme) (list rest : List Lexeme) (label : Label) (kind : Kind) (length : ℕ) → label_of start.kind ≡ Some label → ArrayType list kind length (t ∷ rest) → Is token.Name t → Parameter (start ∷ list) (record { label = label; kind = kind; form = FixedArray; length = length; place = t.place; name = t.text }) rest
+  a_mutable_array : (start word t : Lexeme) (list rest : List Lexeme) (label : Label) (kind : Kind) (length : ℕ) → label_of start.kind ≡ Some label → Is (token.Keyword Mut) word → ArrayType list kind length (t ∷ rest) → Is token.Name t → Parameter (start ∷ word ∷ list) (record { label = label; kind = kind; form = MutableArray; length = length; place = t.place; name = t.text }) rest
+
+-- what stands after a parameter: further ones, each after a comma, and the closing bracket
+pub data MoreParameters : List Lexeme → List ParameterTree → List Lexeme → Type 0 where
+  no_more_parameters : (closing : Lexeme) (rest : List Lexeme) → IsSign CloseRound closing → MoreParameters (closing ∷ rest) [] rest
+  one_more_parameter : (comma : Lexeme) (list second rest : List Lexeme) (tree : ParameterTree) (trees : List ParameterTree) → IsSign Comma comma → Parameter list tree second → MoreParameters second trees rest → MoreParameters (comma ∷ list) (tree ∷ trees) rest
+
+-- parameters and the closing bracket
+pub data Parameters : List Lexeme → List ParameterTree → List Lexeme → Type 0 where
+  no_parameters : (closing : Lexeme) (rest : List Lexeme) → IsSign CloseRound closing → Parameters (closing ∷ rest) [] rest
+  some_parameters : (list second rest : List Lexeme) (tree : ParameterTree) (trees : List ParameterTree) → Parameter list tree second → MoreParameters second trees rest → Parameters list (tree ∷ trees) rest
+
+-- the type of a result, where there is one
+pub data ResultType : List Lexeme → Option WordType → List Lexeme → Type 0 where
+  a_void : (t : Lexeme) (rest : List Lexeme) → Is (token.Keyword Void) t → ResultType (t ∷ rest) None rest
+  a_type : (start second : Lexeme) (rest : List Lexeme) (label : Label) (kind : Kind) → label_of start.kind ≡ Some label → word_of second.kind ≡ Some kind → ResultType (start ∷ second ∷ rest) (Some (record { kind = kind; label = label })) rest
+
+-- `return` and the closing bracket of a body
+pub data BodyEnd : List Lexeme → Option ReturnTree → List Lexeme → Type 0 where
+  no_return : (closing : Lexeme) (rest : List Lexeme) → IsSign CloseCurly closing → BodyEnd (closing ∷ rest) None rest
+  a_return : (t semicolon closing : Lexeme) (list rest : List Lexeme) (tree : ExprTree) → Is (token.Keyword Return) t → Expr list tree (semicolon ∷ closing ∷ rest) → IsSign Semicolon semicolon → IsSign CloseCurly closing → BodyEnd (t ∷ list) (Some (record { place = t.place; value = tree })) rest
+
+-- `export`, where it stands
+pub data Exported : List Lexeme → Option Place → List Lexeme → Type 0 where
+  not_exported : (rest : List Lexeme) → Exported rest None rest
+  an_export : (t : Lexeme) (rest : List Lexeme) → Is (token.Keyword Export) t → Exported (t ∷ rest) (Some t.place) rest
+
+-- a procedure
 pub data Procedure : List Lexeme → ProcedureTree → List Lexeme → Type 0 where
-  a_procedure : (start second t opening opening' return semicolon closing : Lexeme) (list body value rest : List Lexeme) (label : Label) (kind : Kind) (parameters : List ParameterTree) (trees : BlockTree) (tree : ExprTree) → label_of start.kind ≡ Some label → word_of second.kind ≡ Some kind → Is token.Name t → Is (token.Sign OpenRound) opening → Parameters list parameters (opening' ∷ body) → Is (token.Sign OpenCurly) opening' → Statements in_body body trees (return ∷ value) → Is (token.Keyword Return) return → Expr value tree (semicolon ∷ closing ∷ rest) → Is (token.Sign Semicolon) semicolon → Is (token.Sign CloseCurly) closing → Procedure (start ∷ second ∷ t ∷ opening ∷ list) (record { label = label; kind = kind; place = t.place; name = t.text; parameters = parameters; body = trees; return_place = return.place; value = tree }) rest
+  a_procedure : (t opening opening' : Lexeme) (list signature parameters body end rest : List Lexeme) (export : Option Place) (result : Option WordType) (own : List ParameterTree) (trees : BlockTree) (returned : Option ReturnTree) → Exported list export signature → ResultType signature result (t ∷ opening ∷ parameters) → Is token.Name t → IsSign OpenRound opening → Parameters parameters own (opening' ∷ body) → IsSign OpenCurly opening' → Statements body trees end → BodyEnd end returned rest → Procedure list (record { export = export; result = result; place = t.place; name = t.text; parameters = own; body = trees; returned = returned }) rest
+
+-- procedures in their order
+pub data Procedures : List Lexeme → List ProcedureTree → Type 0 where
+  no_procedure : Procedures [] []
+  one_procedure : (list others : List Lexeme) (tree : ProcedureTree) (trees : List ProcedureTree) → Procedure list tree others → Procedures others trees → Procedures list (tree ∷ trees)
 
 -- the tokens are a program
 pub data IsProgram : List Lexeme → ProgramTree → Type 0 where
-  no_procedure : IsProgram [] (record { export = None })
-  an_export : (t : Lexeme) (rest : List Lexeme) (tree : ProcedureTree) → Is (token.Keyword Export) t → Procedure rest tree [] → IsProgram (t ∷ rest) (record { export = Some tree })
+  a_program : (list : List Lexeme) (trees : List ProcedureTree) → Procedures list trees → IsProgram list (record { procedures = trees })
 
 -- some program begins with the tokens
 abbrev pub IsBeginning : List Lexeme → Type 0

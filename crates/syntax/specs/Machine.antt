@@ -3,195 +3,331 @@
 use Rattle.std.specs.Prelude.{ℕ, ◌+◌, Bool, true, false, ◌&&◌, List, [], ◌∷◌, ◌++◌, Option, Some, None, if◌then◌else◌}
 use Rattle.std.specs.Prelude.{nat_le, nat_lt}
 use Rattle.std.specs.Option.{option_map, option_and_then}
-use Rattle.syntax.specs.declared.parser.expression.Begins.{Begins}
-use Rattle.syntax.specs.declared.parser.expression.Begins.TheVariants.{Number as by_number, Truth as by_truth, Name as by_name, Bracket as by_bracket, Select as by_select}
+use Rattle.syntax.specs.declared.parser.operator.Begins.{Begins}
+use Rattle.syntax.specs.declared.parser.operator.Begins.TheVariants.{Number as by_number, Truth as by_truth, Name as by_name, Bracket as by_bracket, Prefix as by_prefix, Conversion as by_conversion, Select as by_select}
+use Rattle.syntax.specs.declared.parser.operator.Link.{Link}
+use Rattle.syntax.specs.declared.parser.operator.Link.TheVariants.{Operator as by_operator, Rotation as by_rotation}
 use Rattle.syntax.specs.declared.parser.statement.Start.{Start}
-use Rattle.syntax.specs.declared.parser.statement.Start.TheVariants.{Declaration as by_label, Assignment as by_target, Conditional as by_if}
+use Rattle.syntax.specs.declared.parser.statement.Start.TheVariants.{Declaration as by_label, Target as by_target, Conditional as by_if, Loop as by_for}
+use Rattle.syntax.specs.declared.parser.wanted.Wanted.{Wanted}
+use Rattle.syntax.specs.declared.parser.wanted.Wanted.TheVariants as wanted
 use Rattle.word.specs.declared.place.Place.{Place}
+use Rattle.syntax.specs.declared.signature.Form.{Form}
+use Rattle.syntax.specs.declared.signature.Form.TheVariants.{SingleWord, FixedArray, MutableArray}
 use Rattle.syntax.specs.declared.signature.Kind.{Kind}
 use Rattle.syntax.specs.declared.signature.Label.{Label}
 use Rattle.syntax.specs.declared.rule.Rule.TheVariants.{UnexpectedToken, Nesting}
 use Rattle.syntax.specs.declared.token.TokenKind.{TokenKind}
 use Rattle.syntax.specs.declared.token.TokenKind.TheVariants as token
-use Rattle.syntax.specs.declared.token.Keyword.TheVariants.{Export, Mut, If, Else, Return, Select, True, False}
-use Rattle.syntax.specs.declared.token.Sign.TheVariants.{OpenRound, CloseRound, OpenCurly, CloseCurly, Comma, Semicolon, Assign}
-use Rattle.syntax.specs.declared.token.Suffix.TheVariants.{U32}
-use Rattle.syntax.specs.declared.tree.BinaryOperator.{BinaryOperator}
-use Rattle.syntax.specs.Grammar.{operator_of, level_of, label_of, word_of, Where, in_body, in_arm}
+use Rattle.syntax.specs.declared.token.Keyword.TheVariants.{Export, Void, Mut, Uint32, If, Else, For, From, To, Return, Select, True, False}
+use Rattle.syntax.specs.declared.token.Sign.TheVariants.{RotateLeft, OpenRound, CloseRound, OpenCurly, CloseCurly, OpenSquare, CloseSquare, Comma, Semicolon, Assign}
+use Rattle.syntax.specs.declared.typing.WordType.{WordType}
+use Rattle.syntax.specs.Grammar.{prefix_of, operator_of, level_of, left_level_of, rotation_level, prefix_level, label_of, word_of, conversion_of, suffix_kind, amount_of, length_of}
 use Rattle.syntax.specs.Lexeme.{Lexeme}
 use Rattle.syntax.specs.Nesting.{Nest, after, nesting_limit}
 use Rattle.syntax.specs.Reading.{Answer, accepted, refused}
 use Rattle.syntax.specs.Tokens.{Ending, ends_at, stops}
-use Rattle.syntax.specs.Tree.{ExprTree, number, truth, name, binary, select, StatementTree, declaration, assignment, conditional, BlockTree, nothing, first, ParameterTree, ProcedureTree, ProgramTree}
+use Rattle.syntax.specs.Tree.{ExprTree, number, truth, name, prefix, binary, rotate, convert, select, element, CallTree, RightTree, called, computed, StatementTree, declaration, array, assignment, element_assignment, call, conditional, loop, BlockTree, nothing, first, ParameterTree, ReturnTree, ProcedureTree, ProgramTree}
 
--- a kind of token that a rule names
-pub data Wanted : Type 0 where
-  a_word : Wanted
-  export_word : Wanted
-  mut_word : Wanted
-  else_word : Wanted
-  return_word : Wanted
-  opening_round : Wanted
-  closing_round : Wanted
-  opening_curly : Wanted
-  closing_curly : Wanted
-  a_comma : Wanted
-  a_semicolon : Wanted
-  an_equals : Wanted
-
+-- the kind of token that a rule names
 abbrev pub kind_of : Wanted → TokenKind
-kind_of a_word = token.Name
-kind_of export_word = token.Keyword Export
-kind_of mut_word = token.Keyword Mut
-kind_of else_word = token.Keyword Else
-kind_of return_word = token.Keyword Return
-kind_of opening_round = token.Sign OpenRound
-kind_of closing_round = token.Sign CloseRound
-kind_of opening_curly = token.Sign OpenCurly
-kind_of closing_curly = token.Sign CloseCurly
-kind_of a_comma = token.Sign Comma
-kind_of a_semicolon = token.Sign Semicolon
-kind_of an_equals = token.Sign Assign
+kind_of wanted.Name = token.Name
+kind_of wanted.Export = token.Keyword Export
+kind_of wanted.Void = token.Keyword Void
+kind_of wanted.Mut = token.Keyword Mut
+kind_of wanted.Uint32 = token.Keyword Uint32
+kind_of wanted.If = token.Keyword If
+kind_of wanted.Else = token.Keyword Else
+kind_of wanted.From = token.Keyword From
+kind_of wanted.To = token.Keyword To
+kind_of wanted.Return = token.Keyword Return
+kind_of wanted.OpenRound = token.Sign OpenRound
+kind_of wanted.CloseRound = token.Sign CloseRound
+kind_of wanted.OpenCurly = token.Sign OpenCurly
+kind_of wanted.CloseCurly = token.Sign CloseCurly
+kind_of wanted.OpenSquare = token.Sign OpenSquare
+kind_of wanted.CloseSquare = token.Sign CloseSquare
+kind_of wanted.Comma = token.Sign Comma
+kind_of wanted.Semicolon = token.Sign Semicolon
+kind_of wanted.Assign = token.Sign Assign
 
 abbrev pub fits : Wanted → TokenKind → Bool
-fits a_word token.Name = true
-fits export_word (token.Keyword Export) = true
-fits mut_word (token.Keyword Mut) = true
-fits else_word (token.Keyword Else) = true
-fits return_word (token.Keyword Return) = true
-fits opening_round (token.Sign OpenRound) = true
-fits closing_round (token.Sign CloseRound) = true
-fits opening_curly (token.Sign OpenCurly) = true
-fits closing_curly (token.Sign CloseCurly) = true
-fits a_comma (token.Sign Comma) = true
-fits a_semicolon (token.Sign Semicolon) = true
-fits an_equals (token.Sign Assign) = true
+fits wanted.Name token.Name = true
+fits wanted.Export (token.Keyword Export) = true
+fits wanted.Void (token.Keyword Void) = true
+fits wanted.Mut (token.Keyword Mut) = true
+fits wanted.Uint32 (token.Keyword Uint32) = true
+fits wanted.If (token.Keyword If) = true
+fits wanted.Else (token.Keyword Else) = true
+fits wanted.From (token.Keyword From) = true
+fits wanted.To (token.Keyword To) = true
+fits wanted.Return (token.Keyword Return) = true
+fits wanted.OpenRound (token.Sign OpenRound) = true
+fits wanted.CloseRound (token.Sign CloseRound) = true
+fits wanted.OpenCurly (token.Sign OpenCurly) = true
+fits wanted.CloseCurly (token.Sign CloseCurly) = true
+fits wanted.OpenSquare (token.Sign OpenSquare) = true
+fits wanted.CloseSquare (token.Sign CloseSquare) = true
+fits wanted.Comma (token.Sign Comma) = true
+fits wanted.Semicolon (token.Sign Semicolon) = true
+fits wanted.Assign (token.Sign Assign) = true
 fits _ _ = false
 
 -- how an operand that begins with such a token begins
 abbrev pub begins_of : TokenKind → Option Begins
-begins_of (token.Number value None) = Some (by_number value)
-begins_of (token.Number value (Some U32)) = Some (by_number value)
+begins_of (token.Number value suffix) = Some (by_number value suffix)
 begins_of (token.Keyword True) = Some (by_truth true)
 begins_of (token.Keyword False) = Some (by_truth false)
 begins_of (token.Keyword Select) = Some by_select
+begins_of (token.Keyword word) = option_map by_conversion (conversion_of (token.Keyword word))
 begins_of token.Name = Some by_name
 begins_of (token.Sign OpenRound) = Some by_bracket
-begins_of _ = None
+begins_of (token.Sign sign) = option_map by_prefix (prefix_of (token.Sign sign))
+
+-- what a sign between operands is
+abbrev pub link_of : TokenKind → Option Link
+link_of (token.Sign RotateLeft) = Some by_rotation
+link_of kind = option_map by_operator (operator_of kind)
+
+-- how strongly a sign between operands binds
+abbrev pub link_level : Link → ℕ
+link_level (by_operator operator) = level_of operator
+link_level by_rotation = rotation_level
+
+-- how strongly its left operand has to bind
+abbrev pub link_left_level : Link → ℕ
+link_left_level (by_operator operator) = left_level_of operator
+link_left_level by_rotation = rotation_level
 
 -- how a statement that begins with such a token begins
-abbrev pub starts_with : Where → TokenKind → Option Start
-starts_with inside token.Name = Some by_target
-starts_with in_body (token.Keyword If) = Some by_if
-starts_with inside kind = option_map by_label (label_of kind)
+abbrev pub starts_with : TokenKind → Option Start
+starts_with token.Name = Some by_target
+starts_with (token.Keyword If) = Some by_if
+starts_with (token.Keyword For) = Some by_for
+starts_with kind = option_map by_label (label_of kind)
 
 pub data State : Type 0 where
-  ended : ProgramTree → State
+  -- after some procedures
+  procedures : List ProcedureTree → State
   one : Wanted → (Lexeme → State) → State
   -- a token of this kind, or what else may stand there
-  either : Wanted → State → State → State
+  either : Wanted → (Lexeme → State) → State → State
   a_label : (Label → State) → State
   a_kind : (Kind → State) → State
-  parameters : (List ParameterTree → State) → State
+  a_length : (ℕ → State) → State
+  an_amount : (ℕ → State) → State
   more_parameters : List ParameterTree → (List ParameterTree → State) → State
   expr : ℕ → (ExprTree → State) → State
+  -- after an operand, which an operator of at most the second level may take as its left one
   more : ℕ → ℕ → ExprTree → (ExprTree → State) → State
-  statements : Where → (BlockTree → State) → State
+  -- after some expressions of a list that such a token ends
+  more_exprs : Wanted → List ExprTree → (List ExprTree → State) → State
+  statements : (BlockTree → State) → State
+  otherwise : (BlockTree → State) → State
 
--- a parameter, after its label
-abbrev pub labelled : Label → (ParameterTree → State) → State
-labelled label k = a_kind (λ kind. one a_word (λ t. k (record { label = label; kind = kind; place = t.place; name = t.text })))
+-- an array's length, after its opening bracket
+abbrev pub sized : (ℕ → State) → State
+sized k = a_length (λ length. one wanted.CloseSquare (λ _. k length))
 
-abbrev pub parameter : (ParameterTree → State) → State
-parameter k = a_label (λ label. labelled label k)
+-- expressions and the token that ends them
+abbrev pub some_exprs : Wanted → (List ExprTree → State) → State
+some_exprs end k = expr 1 (λ e. more_exprs end (e ∷ []) k)
+
+-- arguments, after their opening bracket
+abbrev pub arguments : (List ExprTree → State) → State
+arguments k = either wanted.CloseRound (λ _. k []) (some_exprs wanted.CloseRound k)
+
+-- a call, after its opening bracket
+abbrev pub call_of : Lexeme → (CallTree → State) → State
+call_of t k = arguments (λ es. k (record { place = t.place; name = t.text; arguments = es }))
+
+-- a name's value, or an element's, after the name
+abbrev pub named : Lexeme → (ExprTree → State) → State
+named t k = either wanted.OpenSquare (λ opening. expr 1 (λ e. one wanted.CloseSquare (λ _. k (element opening.place t.place t.text e)))) (k (name t.place t.text))
 
 -- what follows the keyword of a `select`
 abbrev pub after_select : Place → (ExprTree → State) → State
-after_select place k = one opening_round (λ _. expr 1 (λ a. one a_comma (λ _. expr 1 (λ b. one a_comma (λ _. expr 1 (λ c. one closing_round (λ _. k (select place a b c))))))))
+after_select place k = one wanted.OpenRound (λ _. expr 1 (λ a. one wanted.Comma (λ _. expr 1 (λ b. one wanted.Comma (λ _. expr 1 (λ c. one wanted.CloseRound (λ _. k (select place a b c))))))))
+
+-- an expression, after its opening bracket
+abbrev pub bracketed : (ExprTree → State) → State
+bracketed k = expr 1 (λ e. one wanted.CloseRound (λ _. k e))
+
+-- what follows the keyword of a conversion
+abbrev pub converted : Place → Kind → (ExprTree → State) → State
+converted place kind k = one wanted.OpenRound (λ _. bracketed (λ e. k (convert place kind e)))
 
 -- what follows the first token of an operand
 abbrev pub operand : Begins → Lexeme → (ExprTree → State) → State
-operand (by_number value) t k = k (number t.place value)
+operand (by_number value suffix) t k = k (number t.place value (suffix_kind suffix))
 operand (by_truth value) t k = k (truth t.place value)
-operand by_name t k = k (name t.place t.text)
-operand by_bracket t k = expr 1 (λ e. one closing_round (λ _. k e))
+operand by_name t k = named t k
+operand by_bracket t k = bracketed k
+operand (by_prefix operator) t k = expr prefix_level (λ e. k (prefix t.place operator e))
+operand (by_conversion kind) t k = converted t.place kind k
 operand by_select t k = after_select t.place k
 
+-- what follows a sign between operands
+abbrev pub linked : Link → Place → ℕ → ExprTree → (ExprTree → State) → State
+linked (by_operator operator) place level left k = expr (level_of operator + 1) (λ right. more level (level_of operator) (binary place operator left right) k)
+linked by_rotation place level left k = an_amount (λ amount. more level rotation_level (rotate place left amount) k)
+
+-- a right side that begins with a name, after the name
+abbrev pub right_from : Lexeme → (RightTree → State) → State
+right_from t k = either wanted.OpenRound (λ _. call_of t (λ c. k (called c))) (named t (λ e. more 1 11 e (λ e. k (computed e))))
+
+abbrev pub right : (RightTree → State) → State
+right k = either wanted.Name (λ t. right_from t k) (expr 1 (λ e. k (computed e)))
+
+-- a right side, after its `=`, and the semicolon
+abbrev pub right_end : (RightTree → State) → State
+right_end k = right (λ r. one wanted.Semicolon (λ _. k r))
+
+-- an array's first values, where they are written
+abbrev pub first_values : (Option (List ExprTree) → State) → State
+first_values k = either wanted.Assign (λ _. one wanted.OpenCurly (λ _. some_exprs wanted.CloseCurly (λ es. k (Some es)))) (k None)
+
+-- a declaration of an array, after its type
+abbrev pub declared_array : Label → Bool → Kind → ℕ → (StatementTree → State) → State
+declared_array label mutable kind length k = one wanted.Name (λ t. first_values (λ vs. one wanted.Semicolon (λ _. k (array t.place label mutable kind length t.text vs))))
+
+-- a declaration of a word, after its type
+abbrev pub declared_word : Label → Bool → Kind → (StatementTree → State) → State
+declared_word label mutable kind k = one wanted.Name (λ t. one wanted.Assign (λ _. right_end (λ r. k (declaration t.place label mutable kind t.text r))))
+
 -- a declaration, after its label and `mut`
-abbrev pub declared_word : Label → Bool → (StatementTree → State) → State
-declared_word label mutable k = a_kind (λ kind. one a_word (λ t. one an_equals (λ _. expr 1 (λ e. one a_semicolon (λ _. k (declaration t.place label mutable kind t.text e))))))
+abbrev pub declared_as : Label → Bool → (StatementTree → State) → State
+declared_as label mutable k = a_kind (λ kind. either wanted.OpenSquare (λ _. sized (λ length. declared_array label mutable kind length k)) (declared_word label mutable kind k))
 
 -- a declaration, after its label
 abbrev pub declared : Label → (StatementTree → State) → State
-declared label k = either mut_word (declared_word label true k) (declared_word label false k)
+declared label k = either wanted.Mut (λ _. declared_as label true k) (declared_as label false k)
 
--- an assignment, after its name
-abbrev pub assigned : Lexeme → (StatementTree → State) → State
-assigned t k = one an_equals (λ equals. expr 1 (λ e. one a_semicolon (λ _. k (assignment equals.place t.place t.text e))))
+-- an assignment, after its name and `=`
+abbrev pub assigned : Lexeme → Place → (StatementTree → State) → State
+assigned t equals k = right_end (λ r. k (assignment equals t.place t.text r))
 
--- what a conditional may run
-abbrev pub arm : (BlockTree → State) → State
-arm k = one opening_curly (λ _. statements in_arm (λ b. one closing_curly (λ _. k b)))
+-- an assignment to an element, after its name and `[`
+abbrev pub element_assigned : Lexeme → Place → (StatementTree → State) → State
+element_assigned t opening k = expr 1 (λ i. one wanted.CloseSquare (λ _. one wanted.Assign (λ equals. right_end (λ r. k (element_assignment equals.place opening t.place t.text i r)))))
 
--- the second arm, where there is one
-abbrev pub otherwise : (BlockTree → State) → State
-otherwise k = either else_word (arm k) (k nothing)
+-- a call as a statement, after its name
+abbrev pub called_alone : Lexeme → (StatementTree → State) → State
+called_alone t k = one wanted.OpenRound (λ _. call_of t (λ c. one wanted.Semicolon (λ _. k (call c))))
+
+-- a statement that begins with a name, after the name
+abbrev pub targeted : Lexeme → (StatementTree → State) → State
+targeted t k = either wanted.Assign (λ equals. assigned t equals.place k) (either wanted.OpenSquare (λ opening. element_assigned t opening.place k) (called_alone t k))
+
+-- statements in curly brackets
+abbrev pub block : (BlockTree → State) → State
+block k = one wanted.OpenCurly (λ _. statements (λ b. one wanted.CloseCurly (λ _. k b)))
 
 -- a conditional, after its keyword
 abbrev pub conditioned : Place → (StatementTree → State) → State
-conditioned place k = one opening_round (λ _. expr 1 (λ e. one closing_round (λ _. arm (λ a. otherwise (λ b. k (conditional place e a b))))))
+conditioned place k = one wanted.OpenRound (λ _. expr 1 (λ e. one wanted.CloseRound (λ _. block (λ a. otherwise (λ b. k (conditional place e a b))))))
+
+-- what follows `else`
+abbrev pub after_else : (BlockTree → State) → State
+after_else k = either wanted.If (λ word. conditioned word.place (λ s. k (first s nothing))) (block k)
+
+-- a loop, after its keyword
+abbrev pub looped : Place → (StatementTree → State) → State
+looped place k = one wanted.OpenRound (λ _. one wanted.Uint32 (λ _. one wanted.Name (λ t. one wanted.From (λ _. expr 1 (λ low. one wanted.To (λ _. expr 1 (λ high. one wanted.CloseRound (λ _. block (λ b. k (loop place t.place t.text low high b))))))))))
 
 -- what follows the first token of a statement
 abbrev pub statement : Start → Lexeme → (StatementTree → State) → State
 statement (by_label label) t k = declared label k
-statement by_target t k = assigned t k
+statement by_target t k = targeted t k
 statement by_if t k = conditioned t.place k
+statement by_for t k = looped t.place k
+
+-- a parameter's name, after its type
+abbrev pub parameter_name : Label → Kind → Form → ℕ → (ParameterTree → State) → State
+parameter_name label kind form length k = one wanted.Name (λ t. k (record { label = label; kind = kind; form = form; length = length; place = t.place; name = t.text }))
+
+-- a parameter, after its label
+abbrev pub labelled : Label → (ParameterTree → State) → State
+labelled label k =
+    either wanted.Mut
+    (λ _. a_kind (λ kind. one wanted.OpenSquare (λ _. sized (λ length. parameter_name label kind MutableArray length k))))
+    (a_kind (λ kind. either wanted.OpenSquare (λ _. sized (λ length. parameter_name label kind FixedArray length k)) (parameter_name label kind SingleWord 1 k)))
+
+abbrev pub parameter : (ParameterTree → State) → State
+parameter k = a_label (λ label. labelled label k)
+
+-- parameters, after their opening bracket
+abbrev pub parameters : (List ParameterTree → State) → State
+parameters k = either wanted.CloseRound (λ _. k []) (parameter (λ p. more_parameters (p ∷ []) k))
+
+-- the end of a body
+abbrev pub returned : (Option ReturnTree → State) → State
+returned k = either wanted.Return (λ t. expr 1 (λ e. one wanted.Semicolon (λ _. one wanted.CloseCurly (λ _. k (Some (record { place = t.place; value = e })))))) (one wanted.CloseCurly (λ _. k None))
+
+-- a procedure, after the type of its result
+abbrev pub procedure_from : Option Place → Option WordType → (ProcedureTree → State) → State
+procedure_from export result k = one wanted.Name (λ t. one wanted.OpenRound (λ _. parameters (λ ps. one wanted.OpenCurly (λ _. statements (λ b. returned (λ r. k (record { export = export; result = result; place = t.place; name = t.text; parameters = ps; body = b; returned = r })))))))
+
+-- a result's type
+abbrev pub result_type : (Option WordType → State) → State
+result_type k = either wanted.Void (λ _. k None) (a_label (λ label. a_kind (λ kind. k (Some (record { kind = kind; label = label })))))
+
+abbrev pub exported : (Option Place → State) → State
+exported k = either wanted.Export (λ t. k (Some t.place)) (k None)
+
+-- a procedure
+abbrev pub procedure : (ProcedureTree → State) → State
+procedure k = exported (λ export. result_type (λ result. procedure_from export result k))
+
+-- a program
+abbrev pub program : State
+program = procedures []
 
 -- with its first token a statement follows, without one what else may stand there
 abbrev pub started : Option Start → Lexeme → (StatementTree → State) → Option State → Option State
 started None t k other = other
 started (Some start) t k other = Some (statement start t k)
 
--- the operator, where its level lies between the two
-abbrev pub within : ℕ → ℕ → Option BinaryOperator → Option BinaryOperator
+-- the sign, where it may follow the operand
+abbrev pub within : ℕ → ℕ → Option Link → Option Link
 within level top None = None
-within level top (Some operator) = if nat_le level (level_of operator) && nat_le (level_of operator) top then Some operator else None
+within level top (Some link) = if nat_le level (link_level link) && nat_le (link_left_level link) top then Some link else None
 
--- with an operator the right operand follows, without one what else may stand there
-abbrev pub joined : Option BinaryOperator → Lexeme → ℕ → ExprTree → (ExprTree → State) → Option State → Option State
-joined None t level left k other = other
-joined (Some operator) t level left k other = Some (expr (level_of operator + 1) (λ right. more level (level_of operator) (binary t.place operator left right) k))
+-- after a sign its right side follows, without one what else may stand there
+abbrev pub joined : Option Link → Place → ℕ → ExprTree → (ExprTree → State) → Option State → Option State
+joined None place level left k other = other
+joined (Some link) place level left k other = Some (linked link place level left k)
+
+-- the state after the first token of a result's type
+abbrev pub step_result : TokenKind → (Option WordType → State) → Option State
+step_result kind k = if fits wanted.Void kind then Some (k None) else option_map (λ label. a_kind (λ kind. k (Some (record { kind = kind; label = label })))) (label_of kind)
 
 -- the state after a token, where it may stand
 abbrev pub step : State → Lexeme → Option State
-step (ended tree) t = None
+step (procedures ps) t =
+    let k = λ (p : ProcedureTree). procedures (ps ++ p ∷ []) in
+    if fits wanted.Export t.kind then Some (result_type (λ result. procedure_from (Some t.place) result k)) else step_result t.kind (λ result. procedure_from None result k)
 step (one wanted k) t = if fits wanted t.kind then Some (k t) else None
-step (either wanted next other) t = if fits wanted t.kind then Some next else step other t
+step (either wanted next other) t = if fits wanted t.kind then Some (next t) else step other t
 step (a_label k) t = option_map k (label_of t.kind)
 step (a_kind k) t = option_map k (word_of t.kind)
-step (parameters k) t = if fits closing_round t.kind then Some (k []) else option_map (λ label. labelled label (λ p. more_parameters (p ∷ []) k)) (label_of t.kind)
-step (more_parameters ps k) t = if fits a_comma t.kind then Some (parameter (λ p. more_parameters (ps ++ p ∷ []) k)) else (if fits closing_round t.kind then Some (k ps) else None)
+step (a_length k) t = option_map k (length_of t.kind)
+step (an_amount k) t = option_map k (amount_of t.kind)
+step (more_parameters ps k) t = if fits wanted.Comma t.kind then Some (parameter (λ p. more_parameters (ps ++ p ∷ []) k)) else (if fits wanted.CloseRound t.kind then Some (k ps) else None)
 step (expr level k) t = option_map (λ b. operand b t (λ e. more level 11 e k)) (begins_of t.kind)
-step (more level top left k) t = joined (within level top (operator_of t.kind)) t level left k (step (k left) t)
-step (statements inside k) t = started (starts_with inside t.kind) t (λ s. statements inside (λ b. k (first s b))) (step (k nothing) t)
+step (more level top left k) t = joined (within level top (link_of t.kind)) t.place level left k (step (k left) t)
+step (more_exprs end es k) t = if fits wanted.Comma t.kind then Some (expr 1 (λ e. more_exprs end (es ++ e ∷ []) k)) else (if fits end t.kind then Some (k es) else None)
+step (statements k) t = started (starts_with t.kind) t (λ s. statements (λ b. k (first s b))) (step (k nothing) t)
+step (otherwise k) t = if fits wanted.Else t.kind then Some (after_else k) else step (k nothing) t
 
 -- the program that may end here
 abbrev pub at_end : State → Option ProgramTree
-at_end (ended tree) = Some tree
+at_end (procedures ps) = Some (record { procedures = ps })
 at_end (either wanted next other) = at_end other
 at_end (more level top left k) = at_end (k left)
-at_end (statements inside k) = at_end (k nothing)
+at_end (statements k) = at_end (k nothing)
+at_end (otherwise k) = at_end (k nothing)
 at_end _ = None
-
--- a procedure, from its label on
-abbrev pub procedure : (ProcedureTree → State) → State
-procedure k =
-    a_label (λ label. a_kind (λ kind. one a_word (λ t. one opening_round (λ _. parameters (λ ps. one opening_curly (λ _. statements in_body (λ b. one return_word (λ r. expr 1 (λ e. one a_semicolon (λ _. one closing_curly (λ _.
-    k (record { label = label; kind = kind; place = t.place; name = t.text; parameters = ps; body = b; return_place = r.place; value = e }))))))))))))
-
--- a program
-abbrev pub program : State
-program = either export_word (procedure (λ p. ended (record { export = Some p }))) (ended (record { export = None }))
 
 -- the state after some tokens
 abbrev pub run : State → List Lexeme → Option State

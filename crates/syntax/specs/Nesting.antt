@@ -5,7 +5,7 @@ use Rattle.syntax.specs.declared.nesting.Effect.TheVariants.{Opens, Closes, Rais
 use Rattle.syntax.specs.declared.token.TokenKind.{TokenKind}
 use Rattle.syntax.specs.declared.token.TokenKind.TheVariants as token
 use Rattle.syntax.specs.declared.token.Keyword.TheVariants.{Else, From, To, Return}
-use Rattle.syntax.specs.declared.token.Sign.TheVariants.{RotateLeft, ShiftLeft, ShiftRight, AtMost, AtLeast, Equals, Differs, AndAlso, OrElse, OpenRound, CloseRound, OpenCurly, CloseCurly, OpenSquare, CloseSquare, Comma, Semicolon, Assign, Plus, Minus, Star, Slash, Percent, Ampersand, Bar, Caret, Tilde, Bang, Below, Above}
+use Rattle.syntax.specs.declared.token.Sign.TheVariants.{OpenRound, CloseRound, OpenCurly, CloseCurly, OpenSquare, CloseSquare, Comma, Semicolon, Assign}
 use Rattle.syntax.specs.Lexeme.{Lexeme}
 
 -- no token's count is above it

@@ -1,20 +1,18 @@
 -- The parser's values, as the machine sees them. The contracts of its private functions cite these, and no public one does.
-use Rattle.std.specs.Prelude.{◌≡◌, Bool, false, List, [], ◌∷◌, Option, Some, None, Result, MatchResult, ℕ, ◌+◌}
+use Rattle.std.specs.Prelude.{◌≡◌, Option, Some, None, Result, MatchResult, ℕ}
 use Rattle.syntax.specs.declared.nesting.Nesting.{Nesting}
 use Rattle.syntax.specs.declared.parser.Fault.{Fault}
 use Rattle.syntax.specs.declared.parser.Fault.TheVariants.{Refused, Memory}
 use Rattle.syntax.specs.declared.parser.Parser.{Parser}
 use Rattle.syntax.specs.declared.parser.expression.Joint.{Joint}
 use Rattle.syntax.specs.declared.parser.statement.Begun.{Begun}
-use Rattle.syntax.specs.declared.parser.statement.Where.{Where as WhereOf}
-use Rattle.syntax.specs.declared.parser.statement.Where.TheVariants.{Body, Arm}
-use Rattle.syntax.specs.Grammar.{level_of, Where, in_body, in_arm}
+use Rattle.syntax.specs.declared.token.Token.{Token}
 use Rattle.syntax.specs.Lexeme.{Lexeme, lexeme, lexemes}
-use Rattle.syntax.specs.Machine.{State, Wanted, fits, expr, more, statements, statement, verdict}
+use Rattle.syntax.specs.Machine.{State, linked, statements, statement, verdict}
 use Rattle.syntax.specs.Nesting.{Nest}
 use Rattle.syntax.specs.Reading.{Answer, refused}
 use Rattle.syntax.specs.Tokens.{ending}
-use Rattle.syntax.specs.Tree.{ExprTree, binary, BlockTree, nothing, first}
+use Rattle.syntax.specs.Tree.{ExprTree, BlockTree, nothing, first}
 
 -- how deeply the tokens so far are nested
 abbrev pub nest : Nesting → Nest
@@ -33,22 +31,17 @@ FaultIs Memory answer = Unit {0}
 abbrev pub Leads : {T : Type 0} → State → (T → State) → Result T Fault → Parser → Parser → Type 0
 Leads s next result old new = MatchResult result (λ x. ahead s old ≡ ahead (next x) new) (λ f. FaultIs f (ahead s old))
 
--- a token of this kind stands next
-abbrev pub stands : Wanted → List Lexeme → Bool
-stands wanted [] = false
-stands wanted (t ∷ ts) = fits wanted t.kind
+-- after a token that may stand there, and without it
+abbrev pub taken : (Lexeme → State) → State → Option Token → State
+taken next other None = other
+taken next other (Some token) = next (lexeme token)
 
--- after an operator the right operand follows; without one the expression is complete
+-- after a sign its right side follows; without one the expression is complete
 abbrev pub after_sign : ℕ → ExprTree → (ExprTree → State) → Option Joint → State
 after_sign level left k None = k left
-after_sign level left k (Some joint) = expr (level_of joint.operator + 1) (λ right. more level (level_of joint.operator) (binary joint.place joint.operator left right) k)
-
--- where statements stand
-abbrev pub standing : WhereOf → Where
-standing Body = in_body
-standing Arm = in_arm
+after_sign level left k (Some joint) = linked joint.link joint.place level left k
 
 -- after its first token a statement follows; without one there are no more
-abbrev pub after_start : Where → (BlockTree → State) → Option Begun → State
-after_start inside k None = k nothing
-after_start inside k (Some begun) = statement begun.start (lexeme begun.token) (λ s. statements inside (λ b. k (first s b)))
+abbrev pub after_start : (BlockTree → State) → Option Begun → State
+after_start k None = k nothing
+after_start k (Some begun) = statement begun.start (lexeme begun.token) (λ s. statements (λ b. k (first s b)))

@@ -3,12 +3,13 @@ use Rattle.std.specs.Prelude.{◌≡◌, ℕ, ◌<◌, ◌≤◌, List, [], ◌�
 use Rattle.word.specs.declared.place.Place.{Place}
 use Rattle.syntax.specs.declared.refusal.Refusal.{Refusal}
 use Rattle.syntax.specs.declared.rule.Rule.{Rule}
-use Rattle.syntax.specs.declared.rule.Rule.TheVariants.{UnexpectedToken, Nesting, TextTooLong, OutOfMemory}
+use Rattle.syntax.specs.declared.rule.Rule.TheVariants.{UnexpectedToken, Nesting, TextTooLong}
 use Rattle.syntax.specs.Grammar.{IsProgram, IsBeginning}
 use Rattle.syntax.specs.Lexeme.{Lexeme}
-use Rattle.syntax.specs.Nesting.{Nest, outside, after, after_all, AreWithin, nesting_limit}
+use Rattle.syntax.specs.Nesting.{outside, after, after_all, AreWithin, nesting_limit}
 use Rattle.syntax.specs.Tokens.{Ending, ends_at, stops, Lexes, start}
 use Rattle.syntax.specs.Tree.{ProgramTree}
+use Rattle.syntax.specs.WantOfMemory.{IsWantOfMemory}
 
 pub data Answer : Type 0 where
   accepted : (tree : ProgramTree) → Answer
@@ -48,6 +49,6 @@ OneAnswer = (text : List ℕ) (one two : Answer) → Reads text one → Reads te
 abbrev pub OneProgram : Type 0
 OneProgram = (tokens : List Lexeme) (one two : ProgramTree) → IsProgram tokens one → IsProgram tokens two → one ≡ two
 
--- the refusal is want of memory, or it has a place and is an answer
+-- the refusal is want of memory, which has no place, or it has a place and is an answer
 abbrev pub IsRefusedAs : (Answer → Type 0) → Refusal → Type 0
-IsRefusedAs P refusal = (refusal.rule ≡ OutOfMemory) ⊎ ((place : Place) × (refusal.place ≡ Some place) × P (refused refusal.rule place))
+IsRefusedAs P refusal = IsWantOfMemory refusal.rule refusal.place ⊎ ((place : Place) × (refusal.place ≡ Some place) × P (refused refusal.rule place))

@@ -2,14 +2,13 @@ ghost use Rattle.std.specs.Prelude.{◌≡◌, ◌<◌, ◌≤◌, length, IfOk,
 ghost use Rattle.std.specs.List.{All};
 ghost use Rattle.syntax.specs.Lexeme.{lexemes};
 ghost use Rattle.syntax.specs.Tokens.{Lexes, OneList, IsSliceOf, ending, start};
+ghost use Rattle.syntax.specs.WantOfMemory.{IsWantOfMemory};
 
 mod letters;
 mod number;
 mod piece;
 mod position;
 mod sign;
-#[cfg(test)]
-mod tests;
 
 use crate::{Place, Refusal, Rule, Token};
 use piece::{Piece, split_piece};
@@ -42,7 +41,7 @@ pub fn lex(alloc: Global, text: &str) -> Result<Lexed<'_>, Refusal>
     // The tokens' texts are cut from the text.
     ensures slices { IfOk result (λ l. All (IsSliceOf text.now) (lexemes l.tokens.items)) }
     ensures too_long { TEXT_LIMIT < length text.now → IsErrAnd result (λ r. (r.rule ≡ Rule.TextTooLong) × (r.place ≡ Some start)) }
-    ensures memory { length text.now ≤ TEXT_LIMIT → IfErr result (λ r. r.rule ≡ Rule.OutOfMemory) }
+    ensures memory { length text.now ≤ TEXT_LIMIT → IfErr result (λ r. IsWantOfMemory r.rule r.place) }
 {
     if text.len() > TEXT_LIMIT {
         return Err(Refusal::at(Rule::TextTooLong, START));
@@ -54,7 +53,7 @@ pub fn lex(alloc: Global, text: &str) -> Result<Lexed<'_>, Refusal>
 fn tokens_of(alloc: Global, text: &str) -> Result<Lexed<'_>, Refusal>
     requires { length text.now ≤ TEXT_LIMIT }
     ensures tokens { IfOk result (λ l. Lexes text.now (lexemes l.tokens.items) (ending l.end)) }
-    ensures memory { IfErr result (λ r. r.rule ≡ Rule.OutOfMemory) }
+    ensures memory { IfErr result (λ r. IsWantOfMemory r.rule r.place) }
 {
     let mut tokens = Vec::new(alloc);
     let mut place = START;

@@ -22,8 +22,11 @@ pub use rule::Rule;
 pub use signature::{Form, Kind, Label, Param};
 pub use token::{Keyword, Sign, Suffix, Token, TokenKind};
 pub use tree::{
-    Assignment, BinaryOperator, Declaration, Expr, Parameter, Procedure, Program, Statement,
+    ArrayDeclaration, Assignment, BinaryOperator, Call, Counter, Declaration, ElementAssignment,
+    Expr, Parameter, PrefixOperator, Procedure, Program, Return, RightSide, Statement,
 };
-pub use typing::{Declared, VariableType, Violation, WordType};
+pub use typing::{
+    ArrayType, Callee, Declared, Operation, ValueType, VariableType, Violation, WordType,
+};
 pub use values::{Arg, Args, Numbers, Outcome};
 pub use word::Place;

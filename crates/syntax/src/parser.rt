@@ -1,23 +1,25 @@
-ghost use Rattle.std.specs.Prelude.{◌≡◌, ℕ, List, Some, IfOk, IfErr, MatchResult};
+ghost use Rattle.std.specs.Prelude.{◌≡◌, ℕ, List, Contains, IfOk, IfErr, MatchResult};
 ghost use Rattle.syntax.specs.Blocks.{RowsAreBlocks};
 ghost use Rattle.syntax.specs.Grammatical.{IsGrammatical};
 ghost use Rattle.syntax.specs.Lexeme.{lexemes};
-ghost use Rattle.syntax.specs.Machine.{program as program_state, ended};
+ghost use Rattle.syntax.specs.Machine.{program as program_state};
 ghost use Rattle.syntax.specs.ParserViews.{ahead, FaultIs};
 ghost use Rattle.syntax.specs.Reading.{Answers, Reads, IsRefusedAs, OneProgram, OneAnswer, accepted, refused};
 ghost use Rattle.syntax.specs.Tokens.{ending};
 ghost use Rattle.syntax.specs.Tree.{ProcedureTree, ProgramTree, program_tree};
 
+mod declaration;
 mod expression;
+mod operator;
 mod procedure;
+mod right_side;
 mod statement;
 mod step;
-#[cfg(test)]
-mod tests;
+mod wanted;
 
 use crate::lexer::lex;
 use crate::nesting::Nesting;
-use crate::{Keyword, ListEnd, Place, Program, Refusal, Rule, Token, TokenKind};
+use crate::{ListEnd, Place, Program, Refusal, Rule, Token};
 use std::alloc::{AllocError, AllocFailed, Global};
 
 /// Why the parser stops.
@@ -61,28 +63,14 @@ impl<'t, 'a> Parser<'t, 'a> {
         ensures leads { MatchResult result (λ p. ahead program_state self.old ≡ accepted (program_tree p))
             (λ f. FaultIs f (ahead program_state self.old)) }
     {
-        if self.rest.is_empty() {
-            self.finish()?;
-            return Ok(Program { export: None });
+        let mut procedures = Vec::new(self.alloc);
+        while !self.rest.is_empty() {
+            let procedure = self.procedure()?;
+            procedures.push(procedure)?;
         }
-        self.expect(TokenKind::Keyword(Keyword::Export))?;
-        let export = self.procedure()?;
-        self.finish()?;
-        Ok(Program {
-            export: Some(export),
-        })
-    }
-
-    /// No token may be left.
-    fn finish(&self) -> Result<(), Fault>
-        ensures leads { (tree : ProgramTree) → MatchResult result
-            (λ _. ahead (ended tree) self.now ≡ accepted tree)
-            (λ f. FaultIs f (ahead (ended tree) self.now)) }
-    {
-        match (self.rest.first(), self.end) {
-            (Some(token), _) => Err(Fault::Refused(Rule::UnexpectedToken, token.place)),
-            (None, ListEnd::TextEnd(_)) => Ok(()),
-            (None, ListEnd::Fault(rule, place)) => Err(Fault::Refused(rule, place)),
+        match self.end {
+            ListEnd::TextEnd(_) => Ok(Program { procedures }),
+            ListEnd::Fault(rule, place) => Err(Fault::Refused(rule, place)),
         }
     }
 }
@@ -130,13 +118,13 @@ pub fn one_answer_for_a_text()
     ensures { OneAnswer }
 {}
 
-/// Whatever its types, the export of a text is as the grammar has it.
+/// Whatever their types, the procedures of a text are as the grammar has them.
 pub fn texts_are_grammatical()
     ensures { (text : List ℕ) (program : ProgramTree) (p : ProcedureTree) → Reads text (accepted program)
-        → program.export ≡ Some p → IsGrammatical p }
+        → Contains program.procedures p → IsGrammatical p }
 {}
 
-/// The tree of a conditional has the blocks that its arms are as lists.
+/// The trees of conditionals and loops have the blocks that they run as lists.
 pub fn rows_are_blocks()
     ensures { RowsAreBlocks }
 {}

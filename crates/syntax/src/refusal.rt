@@ -1,6 +1,6 @@
 ghost use Rattle.std.specs.Prelude.{◌≡◌};
 ghost use Rattle.syntax.specs.RuleNames.{name_of};
-ghost use Rattle.syntax.specs.declared.rule.Rule.TheVariants.{OutOfMemory};
+ghost use Rattle.syntax.specs.WantOfMemory.{IsWantOfMemory};
 
 use crate::{Place, Rule};
 use std::alloc::{AllocError, AllocFailed};
@@ -44,7 +44,7 @@ impl Refusal {
 }
 
 impl From<AllocError> for Refusal {
-    ghost from_gives = { λ _ refusal. refusal.rule ≡ OutOfMemory };
+    ghost from_gives = { λ _ refusal. IsWantOfMemory refusal.rule refusal.place };
 
     fn from(_: AllocError) -> Self {
         Refusal::memory()
@@ -52,7 +52,7 @@ impl From<AllocError> for Refusal {
 }
 
 impl<T: Drop> From<AllocFailed<T>> for Refusal {
-    ghost from_gives = { λ _ refusal. refusal.rule ≡ OutOfMemory };
+    ghost from_gives = { λ _ refusal. IsWantOfMemory refusal.rule refusal.place };
 
     fn from(_: AllocFailed<T>) -> Self {
         Refusal::memory()

@@ -1,33 +1,85 @@
-use crate::{Kind, Label, Place};
+use crate::{Form, Kind, Label, Place, WordType};
+
+/// A sign before an operand.
+#[derive(Clone, Copy, Debug, PartialEq, Eq)]
+pub enum PrefixOperator {
+    /// `!`
+    Not,
+    /// `~`
+    Complement,
+    /// `-`
+    Negate,
+}
 
 /// An operator between two operands.
 #[derive(Clone, Copy, Debug, PartialEq, Eq)]
 pub enum BinaryOperator {
+    /// `||`
+    Either,
+    /// `&&`
+    Both,
+    /// `==`
+    Equal,
+    /// `!=`
+    Unequal,
+    /// `<`
+    Less,
+    /// `<=`
+    LessOrEqual,
+    /// `>`
+    Greater,
+    /// `>=`
+    GreaterOrEqual,
+    /// `|`
+    BitOr,
+    /// `^`
     BitXor,
+    /// `&`
     BitAnd,
+    /// `<<`
+    ShiftLeft,
+    /// `>>`
+    ShiftRight,
     Add,
     Subtract,
+    Multiply,
+    Divide,
+    Remainder,
 }
 
 /// An expression. Each has the place of its head token.
 #[derive(Debug, Drop)]
 pub enum Expr<'a> {
-    Number(Place, u32),
+    /// A number and the kind that its suffix names, `Uint32` without one.
+    Number(Place, u32, Kind),
     Truth(Place, bool),
     Name(Place, &'a str),
+    Prefix(Place, PrefixOperator, Box<Expr<'a>>),
     Binary(Place, BinaryOperator, Box<Expr<'a>>, Box<Expr<'a>>),
+    /// A rotation to the left, by so many bits.
+    Rotate(Place, Box<Expr<'a>>, u32),
+    /// A word made one of this kind of number.
+    Convert(Place, Kind, Box<Expr<'a>>),
     /// The first operand chooses between the second, where it is true, and the third.
     Select(Place, Box<Expr<'a>>, Box<Expr<'a>>, Box<Expr<'a>>),
+    /// An element of an array: the place of `[`, the array's name and its place, the index.
+    Element(Place, Place, &'a str, Box<Expr<'a>>),
 }
 
-/// A parameter of a procedure.
-#[derive(Clone, Copy, Debug)]
-pub struct Parameter<'a> {
-    pub label: Label,
-    pub kind: Kind,
-    /// The place of its name.
+/// A call of a procedure.
+#[derive(Debug, Drop)]
+pub struct Call<'a> {
+    /// The place of the procedure's name.
     pub place: Place,
     pub name: &'a str,
+    pub arguments: Vec<Expr<'a>>,
+}
+
+/// What a declaration or an assignment gives its target.
+#[derive(Debug, Drop)]
+pub enum RightSide<'a> {
+    Call(Call<'a>),
+    Value(Expr<'a>),
 }
 
 /// A declaration of a word, with its first value.
@@ -40,7 +92,23 @@ pub struct Declaration<'a> {
     /// The place of its name.
     pub place: Place,
     pub name: &'a str,
-    pub value: Expr<'a>,
+    pub value: RightSide<'a>,
+}
+
+/// A declaration of an array.
+#[derive(Debug, Drop)]
+pub struct ArrayDeclaration<'a> {
+    pub label: Label,
+    /// Whether its elements may be assigned to.
+    pub mutable: bool,
+    pub kind: Kind,
+    /// How many elements it has: 1..4096.
+    pub length: u16,
+    /// The place of its name.
+    pub place: Place,
+    pub name: &'a str,
+    /// Its first values, where they are written; else it holds zeros.
+    pub values: Option<Vec<Expr<'a>>>,
 }
 
 /// An assignment to a name.
@@ -51,39 +119,85 @@ pub struct Assignment<'a> {
     /// The place of the assigned name.
     pub target: Place,
     pub name: &'a str,
-    pub value: Expr<'a>,
+    pub value: RightSide<'a>,
+}
+
+/// An assignment to an element.
+#[derive(Debug, Drop)]
+pub struct ElementAssignment<'a> {
+    /// The place of `=`.
+    pub place: Place,
+    /// The place of `[`.
+    pub bracket: Place,
+    /// The place of the array's name.
+    pub target: Place,
+    pub name: &'a str,
+    pub index: Expr<'a>,
+    pub value: RightSide<'a>,
+}
+
+/// The counter of a loop.
+#[derive(Clone, Copy, Debug)]
+pub struct Counter<'a> {
+    /// The place of its name.
+    pub place: Place,
+    pub name: &'a str,
 }
 
 /// A statement.
 #[derive(Debug, Drop)]
 pub enum Statement<'a> {
     Declare(Declaration<'a>),
+    DeclareArray(ArrayDeclaration<'a>),
     Assign(Assignment<'a>),
+    AssignElement(ElementAssignment<'a>),
+    Call(Call<'a>),
     /// The place of `if`, the condition, and what runs where it is true and where it is not.
     If(Place, Expr<'a>, Vec<Statement<'a>>, Vec<Statement<'a>>),
+    /// The place of `for`, the counter, the first number that it is, the first that it is no longer,
+    /// and what runs in each turn.
+    For(Place, Counter<'a>, Expr<'a>, Expr<'a>, Vec<Statement<'a>>),
+}
+
+/// A parameter of a procedure.
+#[derive(Clone, Copy, Debug)]
+pub struct Parameter<'a> {
+    pub label: Label,
+    pub kind: Kind,
+    pub form: Form,
+    /// How many words it holds: 1 for a single word, 1..4096 for an array.
+    pub length: u16,
+    /// The place of its name.
+    pub place: Place,
+    pub name: &'a str,
+}
+
+/// The `return` of a procedure.
+#[derive(Debug, Drop)]
+pub struct Return<'a> {
+    /// The place of the word `return`.
+    pub place: Place,
+    pub value: Expr<'a>,
 }
 
 /// A procedure.
 #[derive(Debug, Drop)]
 pub struct Procedure<'a> {
-    /// The label of its result.
-    pub label: Label,
-    /// The kind of its result.
-    pub kind: Kind,
+    /// The place of the word `export`, where it stands.
+    pub export: Option<Place>,
+    /// The type of its result, where it has one.
+    pub result: Option<WordType>,
     /// The place of its name.
     pub place: Place,
     pub name: &'a str,
     pub parameters: Vec<Parameter<'a>>,
     pub body: Vec<Statement<'a>>,
-    /// The place of `return`.
-    pub return_place: Place,
-    /// The value that it returns.
-    pub value: Expr<'a>,
+    /// Its `return`, where it has one.
+    pub returned: Option<Return<'a>>,
 }
 
-/// A program: the tree of a text.
+/// A program: the tree of a text, its procedures in their order.
 #[derive(Debug, Drop)]
 pub struct Program<'a> {
-    /// The exported procedure, where there is one.
-    pub export: Option<Procedure<'a>>,
+    pub procedures: Vec<Procedure<'a>>,
 }

@@ -7,17 +7,41 @@ pub struct WordType {
     pub label: Label,
 }
 
+/// The type of an array.
+#[derive(Clone, Copy, Debug, PartialEq, Eq)]
+pub struct ArrayType {
+    pub element: WordType,
+    /// How many elements it has: 1..4096.
+    pub length: u16,
+}
+
+/// The type of what a part of a program gives.
+#[derive(Clone, Copy, Debug, PartialEq, Eq)]
+pub enum ValueType {
+    Word(WordType),
+    Array(ArrayType),
+    /// What a procedure without a result gives.
+    Nothing,
+}
+
 /// A variable's type, and whether it may be assigned to.
 #[derive(Clone, Copy, Debug, PartialEq, Eq)]
 pub struct VariableType {
-    pub word: WordType,
+    pub value: ValueType,
     pub mutable: bool,
+}
+
+/// A procedure by its number from 0, and whether a call of it may assign to what is public.
+#[derive(Clone, Copy, Debug, PartialEq, Eq)]
+pub struct Callee {
+    pub number: usize,
+    pub assigns_public: bool,
 }
 
 /// What a name stands for.
 #[derive(Clone, Copy, Debug, PartialEq, Eq)]
 pub enum Declared {
-    Procedure,
+    Procedure(Callee),
     Variable(VariableType),
 }
 
@@ -26,4 +50,21 @@ pub enum Declared {
 pub struct Violation {
     pub place: Place,
     pub rule: Rule,
+}
+
+/// What an operator between two operands makes of them.
+#[derive(Clone, Copy, Debug, PartialEq, Eq)]
+pub enum Operation {
+    /// A number of two numbers of one width.
+    Arithmetic,
+    /// The same of public ones.
+    Division,
+    /// A number of a number, and of a `uint32` by which it is shifted.
+    Shift,
+    /// A bool of two numbers of one width, or of two bools.
+    Equality,
+    /// A bool of two numbers of one width.
+    Order,
+    /// A bool of two bools.
+    Logic,
 }

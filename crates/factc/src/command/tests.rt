@@ -7,8 +7,10 @@ use streams::{ByteSink, ByteSource, SinkFault, SourceFault};
 
 mod faults;
 mod halting_streams;
+mod refusals;
 mod rows;
 mod slow_streams;
+mod words;
 
 /// Files in memory: `in` can be read, and any file but `locked` can be written.
 #[derive(Drop)]

@@ -1,88 +1,92 @@
 ghost use Rattle.std.specs.Prelude.{◌≡◌, ◌≤◌, ◌<◌, ℕ, IfOk, IfErr, OnOk, OnSome, length};
-ghost use Rattle.syntax.specs.Grammar.{operator_of as operator_that, level_of as level_that};
 ghost use Rattle.syntax.specs.Lexeme.{lexeme};
-ghost use Rattle.syntax.specs.Machine.{State, Wanted, kind_of, one, expr, more, opening_round, operand as operand_state, begins_of as begins_that, after_select};
+ghost use Rattle.syntax.specs.Machine.{State, expr, more, operand as operand_state, named as named_state, linked, link_level, after_select, converted, bracketed as bracketed_state};
 ghost use Rattle.syntax.specs.ParserViews.{Leads, after_sign};
-ghost use Rattle.syntax.specs.Tree.{ExprTree, expr_tree, binary as binary_tree, select as select_tree};
+ghost use Rattle.syntax.specs.Tree.{ExprTree, expr_tree, prefix as prefix_tree, binary as binary_tree, rotate as rotate_tree, convert as convert_tree, select as select_tree, element as element_tree};
 
+use super::operator::{
+    Begins, Link, OPERAND_LEVEL, PREFIX_LEVEL, begins_of, level_of, link_of, suffix_kind,
+};
 use super::step::unexpected;
+use super::wanted::Wanted;
 use super::{Fault, Parser};
-use crate::{BinaryOperator, Expr, Keyword, Place, Sign, Suffix, Token, TokenKind};
+use crate::{BinaryOperator, Expr, Kind, Place, PrefixOperator, Token};
 use std::alloc::Global;
 
-/// No operator between operands binds as strongly.
-const OPERAND_LEVEL: u8 = 11;
-
-/// How an operand begins.
-#[derive(Clone, Copy)]
-pub enum Begins {
-    Number(u32),
-    Truth(bool),
-    Name,
-    Bracket,
-    Select,
-}
-
-/// An operator between two operands, and where its sign stands.
+/// A sign between operands, and where it stands.
 #[derive(Clone, Copy)]
 struct Joint {
-    operator: BinaryOperator,
+    link: Link,
     place: Place,
 }
 
-/// How an operand that begins with such a token begins.
-fn begins_of(kind: TokenKind) -> Option<Begins>
-    ensures { result ≡ begins_that kind }
+fn prefix<'a>(
+    alloc: Global,
+    place: Place,
+    operator: PrefixOperator,
+    operand: Expr<'a>,
+) -> Result<Expr<'a>, Fault>
+    ensures tree { IfOk result (λ e. expr_tree e ≡ prefix_tree place operator (expr_tree operand.entry)) }
+    ensures memory { IfErr result (λ f. f ≡ Fault.Memory) }
 {
-    match kind {
-        TokenKind::Number(value, None | Some(Suffix::U32)) => Some(Begins::Number(value)),
-        TokenKind::Keyword(Keyword::True) => Some(Begins::Truth(true)),
-        TokenKind::Keyword(Keyword::False) => Some(Begins::Truth(false)),
-        TokenKind::Keyword(Keyword::Select) => Some(Begins::Select),
-        TokenKind::Name => Some(Begins::Name),
-        TokenKind::Sign(Sign::OpenRound) => Some(Begins::Bracket),
-        _ => None,
-    }
-}
-
-/// The operator that a sign between two operands is.
-fn operator_of(kind: TokenKind) -> Option<BinaryOperator>
-    ensures { result ≡ operator_that kind }
-{
-    match kind {
-        TokenKind::Sign(Sign::Caret) => Some(BinaryOperator::BitXor),
-        TokenKind::Sign(Sign::Ampersand) => Some(BinaryOperator::BitAnd),
-        TokenKind::Sign(Sign::Plus) => Some(BinaryOperator::Add),
-        TokenKind::Sign(Sign::Minus) => Some(BinaryOperator::Subtract),
-        _ => None,
-    }
-}
-
-/// How strongly an operator binds.
-fn level_of(operator: BinaryOperator) -> u8
-    ensures value { result ≡ level_that operator }
-    ensures small { result < OPERAND_LEVEL }
-{
-    match operator {
-        BinaryOperator::BitXor => 5,
-        BinaryOperator::BitAnd => 6,
-        BinaryOperator::Add | BinaryOperator::Subtract => 8,
-    }
+    let operand = Box::new(alloc, operand)?;
+    Ok(Expr::Prefix(place, operator, operand))
 }
 
 fn binary<'a>(
     alloc: Global,
-    joint: Joint,
+    place: Place,
+    operator: BinaryOperator,
     left: Expr<'a>,
     right: Expr<'a>,
 ) -> Result<Expr<'a>, Fault>
     ensures tree { IfOk result (λ e. expr_tree e
-        ≡ binary_tree joint.place joint.operator (expr_tree left.entry) (expr_tree right.entry)) }
+        ≡ binary_tree place operator (expr_tree left.entry) (expr_tree right.entry)) }
     ensures memory { IfErr result (λ f. f ≡ Fault.Memory) }
 {
     let left = Box::new(alloc, left)?;
     let right = Box::new(alloc, right)?;
-    Ok(Expr::Binary(joint.place, joint.operator, left, right))
+    Ok(Expr::Binary(place, operator, left, right))
+}
+
+fn rotate<'a>(
+    alloc: Global,
+    place: Place,
+    operand: Expr<'a>,
+    amount: u32,
+) -> Result<Expr<'a>, Fault>
+    ensures tree { IfOk result (λ e. expr_tree e ≡ rotate_tree place (expr_tree operand.entry) amount) }
+    ensures memory { IfErr result (λ f. f ≡ Fault.Memory) }
+{
+    let operand = Box::new(alloc, operand)?;
+    Ok(Expr::Rotate(place, operand, amount))
+}
+
+fn convert<'a>(
+    alloc: Global,
+    place: Place,
+    kind: Kind,
+    operand: Expr<'a>,
+) -> Result<Expr<'a>, Fault>
+    ensures tree { IfOk result (λ e. expr_tree e ≡ convert_tree place kind (expr_tree operand.entry)) }
+    ensures memory { IfErr result (λ f. f ≡ Fault.Memory) }
+{
+    let operand = Box::new(alloc, operand)?;
+    Ok(Expr::Convert(place, kind, operand))
+}
+
+fn element<'a>(
+    alloc: Global,
+    place: Place,
+    array: Token<'a>,
+    index: Expr<'a>,
+) -> Result<Expr<'a>, Fault>
+    ensures tree { IfOk result (λ e. expr_tree e
+        ≡ element_tree place array.entry.place array.entry.text.now (expr_tree index.entry)) }
+    ensures memory { IfErr result (λ f. f ≡ Fault.Memory) }
+{
+    let index = Box::new(alloc, index)?;
+    Ok(Expr::Element(place, array.place, array.text, index))
 }
 
 fn select<'a>(
@@ -103,51 +107,82 @@ fn select<'a>(
 }
 
 impl<'t, 'a> Parser<'t, 'a> {
-    /// An expression in which no sign outside all brackets binds below the level.
+    /// An expression in which no sign between operands, outside all brackets, binds below the
+    /// level.
     #[cycle(expression)]
     pub fn expression(&mut self, level: u8) -> Result<Expr<'a>, Fault>
         ensures leads { (k : ExprTree → State)
             → Leads (expr level k) (λ e. k (expr_tree e)) result self.old self.new }
+        ensures shorter { OnOk result (length self.new.rest.now < length self.old.rest.now) }
+    {
+        let first = self.operand()?;
+        self.further(level, first)
+    }
+
+    /// What stands after the first operand of an expression.
+    #[cycle(expression)]
+    pub fn further(&mut self, level: u8, first: Expr<'a>) -> Result<Expr<'a>, Fault>
+        ensures leads { (k : ExprTree → State)
+            → Leads (more level OPERAND_LEVEL (expr_tree first.entry) k) (λ e. k (expr_tree e)) result self.old self.new }
         ensures shorter { OnOk result (length self.new.rest.now ≤ length self.old.rest.now) }
     {
-        let mut left = self.operand()?;
+        let mut left = first;
         let mut top = OPERAND_LEVEL;
         while let Some(joint) = self.sign(level, top)? {
-            top = level_of(joint.operator);
-            let right = self.expression(top + 1)?;
-            left = binary(self.alloc, joint, left, right)?;
+            top = joint.link.level();
+            left = self.joined(joint, left)?;
         }
         Ok(left)
     }
 
-    /// Takes the sign that stands next, where its level lies between the two.
+    /// Takes the sign that stands next, where it may follow the operand.
     fn sign(&mut self, level: u8, top: u8) -> Result<Option<Joint>, Fault>
         ensures leads { (left : ExprTree) (k : ExprTree → State)
             → Leads (more level top left k) (after_sign level left k) result self.old self.new }
         ensures shorter { IfOk result (λ j. OnSome j (length self.new.rest.now < length self.old.rest.now)) }
-        ensures same { IfOk result (λ j. length self.new.rest.now ≤ length self.old.rest.now) }
+        ensures same { OnOk result (length self.new.rest.now ≤ length self.old.rest.now) }
     {
         let Ok((token, rest)) = self.first() else {
             return Ok(None);
         };
-        let Some(operator) = operator_of(token.kind) else {
+        let Some(link) = link_of(token.kind) else {
             return Ok(None);
         };
-        if level_of(operator) < level || top < level_of(operator) {
+        if link.level() < level || top < link.left_level() {
             return Ok(None);
         }
         self.advance(token, rest)?;
         Ok(Some(Joint {
-            operator,
+            link,
             place: token.place,
         }))
+    }
+
+    /// What stands after a sign between operands.
+    #[cycle(expression)]
+    fn joined(&mut self, joint: Joint, left: Expr<'a>) -> Result<Expr<'a>, Fault>
+        ensures leads { (level : ℕ) (k : ExprTree → State)
+            → Leads (linked joint.link joint.place level (expr_tree left.entry) k)
+            (λ e. more level (link_level joint.link) (expr_tree e) k) result self.old self.new }
+        ensures shorter { OnOk result (length self.new.rest.now ≤ length self.old.rest.now) }
+    {
+        match joint.link {
+            Link::Operator(operator) => {
+                let right = self.expression(level_of(operator) + 1)?;
+                binary(self.alloc, joint.place, operator, left, right)
+            }
+            Link::Rotation => {
+                let amount = self.amount()?;
+                rotate(self.alloc, joint.place, left, amount)
+            }
+        }
     }
 
     #[cycle(expression)]
     fn operand(&mut self) -> Result<Expr<'a>, Fault>
         ensures leads { (level : ℕ) (k : ExprTree → State)
             → Leads (expr level k) (λ e. more level OPERAND_LEVEL (expr_tree e) k) result self.old self.new }
-        ensures shorter { OnOk result (length self.new.rest.now ≤ length self.old.rest.now) }
+        ensures shorter { OnOk result (length self.new.rest.now < length self.old.rest.now) }
     {
         let (token, rest) = self.first()?;
         let Some(begins) = begins_of(token.kind) else {
@@ -165,12 +200,62 @@ impl<'t, 'a> Parser<'t, 'a> {
         ensures shorter { OnOk result (length self.new.rest.now ≤ length self.old.rest.now) }
     {
         match begins {
-            Begins::Number(value) => Ok(Expr::Number(token.place, value)),
+            Begins::Number(value, suffix) => Ok(Expr::Number(
+                token.place,
+                value,
+                suffix_kind(suffix),
+            )),
             Begins::Truth(value) => Ok(Expr::Truth(token.place, value)),
-            Begins::Name => Ok(Expr::Name(token.place, token.text)),
-            Begins::Bracket => self.expression_to(TokenKind::Sign(Sign::CloseRound)),
+            Begins::Name => self.named(token),
+            Begins::Bracket => self.bracketed(),
+            Begins::Prefix(operator) => {
+                let operand = self.expression(PREFIX_LEVEL)?;
+                prefix(self.alloc, token.place, operator, operand)
+            }
+            Begins::Conversion(kind) => self.conversion(token.place, kind),
             Begins::Select => self.select(token.place),
         }
+    }
+
+    /// A name's value, or an element's, after the name.
+    #[cycle(expression)]
+    pub fn named(&mut self, name: Token<'a>) -> Result<Expr<'a>, Fault>
+        ensures leads { (k : ExprTree → State)
+            → Leads (named_state (lexeme name.entry) k) (λ e. k (expr_tree e)) result self.old self.new }
+        ensures shorter { OnOk result (length self.new.rest.now ≤ length self.old.rest.now) }
+    {
+        match self.takes(Wanted::OpenSquare)? {
+            None => Ok(Expr::Name(name.place, name.text)),
+            Some(opening) => {
+                let index = self.expression(1)?;
+                self.expect(Wanted::CloseSquare)?;
+                element(self.alloc, opening.place, name, index)
+            }
+        }
+    }
+
+    /// An expression, after its opening bracket, and the closing one.
+    #[cycle(expression)]
+    fn bracketed(&mut self) -> Result<Expr<'a>, Fault>
+        ensures leads { (k : ExprTree → State)
+            → Leads (bracketed_state k) (λ e. k (expr_tree e)) result self.old self.new }
+        ensures shorter { OnOk result (length self.new.rest.now ≤ length self.old.rest.now) }
+    {
+        let expression = self.expression(1)?;
+        self.expect(Wanted::CloseRound)?;
+        Ok(expression)
+    }
+
+    /// A conversion, after its keyword.
+    #[cycle(expression)]
+    fn conversion(&mut self, place: Place, kind: Kind) -> Result<Expr<'a>, Fault>
+        ensures leads { (k : ExprTree → State)
+            → Leads (converted place kind k) (λ e. k (expr_tree e)) result self.old self.new }
+        ensures shorter { OnOk result (length self.new.rest.now ≤ length self.old.rest.now) }
+    {
+        self.expect(Wanted::OpenRound)?;
+        let operand = self.bracketed()?;
+        convert(self.alloc, place, kind, operand)
     }
 
     /// A `select`, after its keyword.
@@ -180,22 +265,13 @@ impl<'t, 'a> Parser<'t, 'a> {
             → Leads (after_select place k) (λ e. k (expr_tree e)) result self.old self.new }
         ensures shorter { OnOk result (length self.new.rest.now ≤ length self.old.rest.now) }
     {
-        self.expect(TokenKind::Sign(Sign::OpenRound))?;
-        let condition = self.expression_to(TokenKind::Sign(Sign::Comma))?;
-        let accepted = self.expression_to(TokenKind::Sign(Sign::Comma))?;
-        let otherwise = self.expression_to(TokenKind::Sign(Sign::CloseRound))?;
+        self.expect(Wanted::OpenRound)?;
+        let condition = self.expression(1)?;
+        self.expect(Wanted::Comma)?;
+        let accepted = self.expression(1)?;
+        self.expect(Wanted::Comma)?;
+        let otherwise = self.expression(1)?;
+        self.expect(Wanted::CloseRound)?;
         select(self.alloc, place, condition, accepted, otherwise)
-    }
-
-    /// An expression, and the token of this kind that ends it.
-    #[cycle(expression)]
-    pub fn expression_to(&mut self, kind: TokenKind) -> Result<Expr<'a>, Fault>
-        ensures leads { (wanted : Wanted) (k : ExprTree → State) → kind ≡ kind_of wanted
-            → Leads (expr 1 (λ e. one wanted (λ _. k e))) (λ e. k (expr_tree e)) result self.old self.new }
-        ensures shorter { OnOk result (length self.new.rest.now ≤ length self.old.rest.now) }
-    {
-        let tree = self.expression(1)?;
-        self.expect(kind)?;
-        Ok(tree)
     }
 }

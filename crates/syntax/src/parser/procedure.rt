@@ -1,57 +1,79 @@
-ghost use Rattle.std.specs.Prelude.{◌≡◌, ◌<◌, List, OnOk, length, map};
-ghost use Rattle.syntax.specs.Machine.{State, parameter as parameter_state, parameters as parameters_state, procedure as procedure_state};
+ghost use Rattle.std.specs.Prelude.{◌≡◌, ◌≤◌, ◌<◌, List, Option, OnOk, length, map};
+ghost use Rattle.std.specs.Option.{option_map};
+ghost use Rattle.syntax.specs.Machine.{State, exported, result_type as result_type_state, parameter_name, parameter as parameter_state, labelled, parameters as parameters_state, returned as returned_state, procedure as procedure_state};
 ghost use Rattle.syntax.specs.ParserViews.{Leads};
-ghost use Rattle.syntax.specs.Tree.{ParameterTree, ProcedureTree, parameter_tree, procedure_tree};
+ghost use Rattle.syntax.specs.Tree.{ParameterTree, ReturnTree, ProcedureTree, parameter_tree, return_tree, procedure_tree};
+ghost use Rattle.word.specs.declared.place.Place.{Place as PlaceOf};
+ghost use Rattle.syntax.specs.declared.typing.WordType.{WordType as WordTypeOf};
 
-use super::statement::Where;
+use super::wanted::Wanted;
 use super::{Fault, Parser};
-use crate::{Keyword, Parameter, Procedure, Sign, TokenKind};
+use crate::{Form, Kind, Label, Parameter, Place, Procedure, Return, WordType};
 
 impl<'t, 'a> Parser<'t, 'a> {
-    /// A procedure, from the label of its result on.
     pub fn procedure(&mut self) -> Result<Procedure<'a>, Fault>
-        ensures { (k : ProcedureTree → State)
+        ensures leads { (k : ProcedureTree → State)
             → Leads (procedure_state k) (λ p. k (procedure_tree p)) result self.old self.new }
+        ensures shorter { OnOk result (length self.new.rest.now < length self.old.rest.now) }
     {
-        let label = self.label()?;
-        let kind = self.kind()?;
-        let name = self.expect(TokenKind::Name)?;
-        self.expect(TokenKind::Sign(Sign::OpenRound))?;
+        let export = self.exported()?;
+        let result = self.result_type()?;
+        let name = self.expect(Wanted::Name)?;
+        self.expect(Wanted::OpenRound)?;
         let parameters = self.parameters()?;
-        self.expect(TokenKind::Sign(Sign::OpenCurly))?;
-        let body = self.statements(Where::Body)?;
-        let word = self.expect(TokenKind::Keyword(Keyword::Return))?;
-        let value = self.expression(1)?;
-        self.expect(TokenKind::Sign(Sign::Semicolon))?;
-        self.expect(TokenKind::Sign(Sign::CloseCurly))?;
+        self.expect(Wanted::OpenCurly)?;
+        let body = self.statements()?;
+        let returned = self.returned()?;
         Ok(Procedure {
-            label,
-            kind,
+            export,
+            result,
             place: name.place,
             name: name.text,
             parameters,
             body,
-            return_place: word.place,
-            value,
+            returned,
         })
     }
 
-    /// The parameters and the closing bracket.
+    /// Where `export` stands.
+    fn exported(&mut self) -> Result<Option<Place>, Fault>
+        ensures leads { (k : Option PlaceOf → State) → Leads (exported k) k result self.old self.new }
+        ensures shorter { OnOk result (length self.new.rest.now ≤ length self.old.rest.now) }
+    {
+        match self.takes(Wanted::Export)? {
+            Some(word) => Ok(Some(word.place)),
+            None => Ok(None),
+        }
+    }
+
+    /// The type of a result, where there is one.
+    fn result_type(&mut self) -> Result<Option<WordType>, Fault>
+        ensures leads { (k : Option WordTypeOf → State) → Leads (result_type_state k) k result self.old self.new }
+        ensures shorter { OnOk result (length self.new.rest.now < length self.old.rest.now) }
+    {
+        if self.takes(Wanted::Void)?.is_some() {
+            return Ok(None);
+        }
+        let label = self.label()?;
+        let kind = self.kind()?;
+        Ok(Some(WordType { kind, label }))
+    }
+
+    /// The parameters, after their opening bracket, and the closing one.
     fn parameters(&mut self) -> Result<Vec<Parameter<'a>>, Fault>
-        ensures { (k : List ParameterTree → State)
+        ensures leads { (k : List ParameterTree → State)
             → Leads (parameters_state k) (λ ps. k (map parameter_tree ps.items)) result self.old self.new }
+        ensures shorter { OnOk result (length self.new.rest.now ≤ length self.old.rest.now) }
     {
         let mut parameters = Vec::new(self.alloc);
-        if self.stands(TokenKind::Sign(Sign::CloseRound)) {
-            self.expect(TokenKind::Sign(Sign::CloseRound))?;
+        if self.takes(Wanted::CloseRound)?.is_some() {
             return Ok(parameters);
         }
         parameters.push(self.parameter()?)?;
-        while self.stands(TokenKind::Sign(Sign::Comma)) {
-            self.expect(TokenKind::Sign(Sign::Comma))?;
+        while self.takes(Wanted::Comma)?.is_some() {
             parameters.push(self.parameter()?)?;
         }
-        self.expect(TokenKind::Sign(Sign::CloseRound))?;
+        self.expect(Wanted::CloseRound)?;
         Ok(parameters)
     }
 
@@ -61,13 +83,68 @@ impl<'t, 'a> Parser<'t, 'a> {
         ensures shorter { OnOk result (length self.new.rest.now < length self.old.rest.now) }
     {
         let label = self.label()?;
+        self.labelled(label)
+    }
+
+    /// A parameter, after its label.
+    fn labelled(&mut self, label: Label) -> Result<Parameter<'a>, Fault>
+        ensures leads { (k : ParameterTree → State)
+            → Leads (labelled label k) (λ p. k (parameter_tree p)) result self.old self.new }
+        ensures shorter { OnOk result (length self.new.rest.now ≤ length self.old.rest.now) }
+    {
+        if self.takes(Wanted::Mut)?.is_some() {
+            let kind = self.kind()?;
+            self.expect(Wanted::OpenSquare)?;
+            let length = self.length()?;
+            return self.parameter_name(label, kind, Form::MutableArray, length);
+        }
         let kind = self.kind()?;
-        let name = self.expect(TokenKind::Name)?;
+        if self.takes(Wanted::OpenSquare)?.is_some() {
+            let length = self.length()?;
+            return self.parameter_name(label, kind, Form::FixedArray, length);
+        }
+        self.parameter_name(label, kind, Form::SingleWord, 1)
+    }
+
+    /// The name of a parameter, after its type.
+    fn parameter_name(
+        &mut self,
+        label: Label,
+        kind: Kind,
+        form: Form,
+        words: u16,
+    ) -> Result<Parameter<'a>, Fault>
+        ensures leads { (k : ParameterTree → State)
+            → Leads (parameter_name label kind form words k) (λ p. k (parameter_tree p)) result self.old self.new }
+        ensures shorter { OnOk result (length self.new.rest.now ≤ length self.old.rest.now) }
+    {
+        let name = self.expect(Wanted::Name)?;
         Ok(Parameter {
             label,
             kind,
+            form,
+            length: words,
             place: name.place,
             name: name.text,
         })
+    }
+
+    /// The `return` of a body, where it has one, and the closing bracket.
+    fn returned(&mut self) -> Result<Option<Return<'a>>, Fault>
+        ensures leads { (k : Option ReturnTree → State)
+            → Leads (returned_state k) (λ r. k (option_map return_tree r)) result self.old self.new }
+        ensures shorter { OnOk result (length self.new.rest.now ≤ length self.old.rest.now) }
+    {
+        let Some(word) = self.takes(Wanted::Return)? else {
+            self.expect(Wanted::CloseCurly)?;
+            return Ok(None);
+        };
+        let value = self.expression(1)?;
+        self.expect(Wanted::Semicolon)?;
+        self.expect(Wanted::CloseCurly)?;
+        Ok(Some(Return {
+            place: word.place,
+            value,
+        }))
     }
 }

@@ -1,15 +1,19 @@
-ghost use Rattle.std.specs.Prelude.{◌≡◌, ◌≤◌, ◌<◌, if◌then◌else◌, IfOk, IfErr, OnOk, Some, None, [], ◌∷◌, length};
-ghost use Rattle.syntax.specs.Grammar.{label_of as label_that, word_of as word_that};
-ghost use Rattle.syntax.specs.Lexeme.{Lexeme, lexeme, lexemes};
-ghost use Rattle.syntax.specs.Machine.{State, Wanted, kind_of, one, either, a_label, a_kind, step, ending_answer};
-ghost use Rattle.syntax.specs.ParserViews.{Leads, FaultIs, stands as stands_that};
+ghost use Rattle.std.specs.Prelude.{◌≡◌, ◌≤◌, ◌<◌, IfOk, IfErr, OnOk, OnSome, Some, None, [], ◌∷◌, length, ℕ};
+ghost use Rattle.syntax.specs.Grammar.{label_of as label_that, word_of as word_that, amount_of as amount_that, length_of as length_that};
+ghost use Rattle.syntax.specs.Lexeme.{Lexeme, lexeme};
+ghost use Rattle.syntax.specs.Machine.{State, one, either, a_label, a_kind, a_length, an_amount, sized, step, ending_answer};
+ghost use Rattle.syntax.specs.ParserViews.{Leads, FaultIs, taken};
 ghost use Rattle.syntax.specs.Tokens.{ending};
 ghost use Rattle.syntax.specs.declared.signature.Label.{Label as LabelOf};
 ghost use Rattle.syntax.specs.declared.signature.Kind.{Kind as KindOf};
 
+use super::wanted::Wanted;
 use super::{Fault, Parser};
 use crate::nesting::NESTING_LIMIT;
 use crate::{Keyword, Kind, Label, ListEnd, Rule, Token, TokenKind};
+
+/// The most elements of an array.
+const LENGTH_LIMIT: u32 = 4096;
 
 /// The label that a keyword names.
 pub fn label_of(kind: TokenKind) -> Option<Label>
@@ -28,7 +32,29 @@ fn word_of(kind: TokenKind) -> Option<Kind>
 {
     match kind {
         TokenKind::Keyword(Keyword::Bool) => Some(Kind::Boolean),
+        TokenKind::Keyword(Keyword::Uint8) => Some(Kind::Uint8),
+        TokenKind::Keyword(Keyword::Uint16) => Some(Kind::Uint16),
         TokenKind::Keyword(Keyword::Uint32) => Some(Kind::Uint32),
+        _ => None,
+    }
+}
+
+/// The number that a token without a suffix writes.
+fn amount_of(kind: TokenKind) -> Option<u32>
+    ensures { result ≡ amount_that kind }
+{
+    match kind {
+        TokenKind::Number(value, None) => Some(value),
+        _ => None,
+    }
+}
+
+/// The length of an array that a token without a suffix writes.
+fn length_of(kind: TokenKind) -> Option<u16>
+    ensures { result ≡ length_that kind }
+{
+    match kind {
+        TokenKind::Number(value, None) if 1 <= value && value <= LENGTH_LIMIT => Some(value as u16),
         _ => None,
     }
 }
@@ -69,42 +95,35 @@ impl<'t, 'a> Parser<'t, 'a> {
         Ok(())
     }
 
-    /// Whether a token of this kind stands next.
-    pub fn stands(&self, kind: TokenKind) -> bool
-        ensures { (wanted : Wanted) → kind ≡ kind_of wanted
-            → result ≡ stands_that wanted (lexemes self.now.rest.now) }
-    {
-        match self.rest.first() {
-            Some(token) => token.kind == kind,
-            None => false,
-        }
-    }
-
     /// Takes a token of this kind.
-    pub fn expect(&mut self, kind: TokenKind) -> Result<Token<'a>, Fault>
-        ensures leads { (wanted : Wanted) (k : Lexeme → State) → kind ≡ kind_of wanted
+    pub fn expect(&mut self, wanted: Wanted) -> Result<Token<'a>, Fault>
+        ensures leads { (k : Lexeme → State)
             → Leads (one wanted k) (λ t. k (lexeme t)) result self.old self.new }
         ensures shorter { OnOk result (length self.new.rest.now < length self.old.rest.now) }
     {
         let (token, rest) = self.first()?;
-        if token.kind != kind {
+        if !wanted.fits(token.kind) {
             return Err(unexpected(token));
         }
         self.advance(token, rest)?;
         Ok(token)
     }
 
-    /// Takes the token that stands next, where it is of this kind, and tells whether it is.
-    pub fn takes(&mut self, kind: TokenKind) -> Result<bool, Fault>
-        ensures leads { (wanted : Wanted) (next other : State) → kind ≡ kind_of wanted
-            → Leads (either wanted next other) (λ is. if is then next else other) result self.old self.new }
-        ensures shorter { OnOk result (length self.new.rest.now ≤ length self.old.rest.now) }
+    /// Takes the token that stands next, where it is of this kind.
+    pub fn takes(&mut self, wanted: Wanted) -> Result<Option<Token<'a>>, Fault>
+        ensures leads { (next : Lexeme → State) (other : State)
+            → Leads (either wanted next other) (taken next other) result self.old self.new }
+        ensures shorter { IfOk result (λ t. OnSome t (length self.new.rest.now < length self.old.rest.now)) }
+        ensures same { OnOk result (length self.new.rest.now ≤ length self.old.rest.now) }
     {
-        let is_next = self.stands(kind);
-        if is_next {
-            self.expect(kind)?;
+        let Ok((token, rest)) = self.first() else {
+            return Ok(None);
+        };
+        if !wanted.fits(token.kind) {
+            return Ok(None);
         }
-        Ok(is_next)
+        self.advance(token, rest)?;
+        Ok(Some(token))
     }
 
     pub fn label(&mut self) -> Result<Label, Fault>
@@ -129,5 +148,41 @@ impl<'t, 'a> Parser<'t, 'a> {
         };
         self.advance(token, rest)?;
         Ok(kind)
+    }
+
+    /// How far a rotation goes.
+    pub fn amount(&mut self) -> Result<u32, Fault>
+        ensures leads { (k : ℕ → State) → Leads (an_amount k) k result self.old self.new }
+        ensures shorter { OnOk result (length self.new.rest.now < length self.old.rest.now) }
+    {
+        let (token, rest) = self.first()?;
+        let Some(amount) = amount_of(token.kind) else {
+            return Err(unexpected(token));
+        };
+        self.advance(token, rest)?;
+        Ok(amount)
+    }
+
+    /// The length of an array.
+    fn bare_length(&mut self) -> Result<u16, Fault>
+        ensures leads { (k : ℕ → State) → Leads (a_length k) k result self.old self.new }
+        ensures shorter { OnOk result (length self.new.rest.now < length self.old.rest.now) }
+    {
+        let (token, rest) = self.first()?;
+        let Some(length) = length_of(token.kind) else {
+            return Err(unexpected(token));
+        };
+        self.advance(token, rest)?;
+        Ok(length)
+    }
+
+    /// The length of an array, after its opening bracket, and the closing one.
+    pub fn length(&mut self) -> Result<u16, Fault>
+        ensures leads { (k : ℕ → State) → Leads (sized k) k result self.old self.new }
+        ensures shorter { OnOk result (length self.new.rest.now < length self.old.rest.now) }
+    {
+        let length = self.bare_length()?;
+        self.expect(Wanted::CloseSquare)?;
+        Ok(length)
     }
 }

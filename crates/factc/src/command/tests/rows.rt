@@ -2,10 +2,10 @@ use super::{TestFiles, expect, give};
 use std::process::Abort;
 use streams::ByteSink;
 
-const ADD_ONE: &str = "export secret uint32 f(secret uint32 x) { return x + 1; }";
+pub const ADD_ONE: &str = "export secret uint32 f(secret uint32 x) { return x + 1; }";
 
 /// Builds the text and answers its image.
-fn image_of(rt: &(impl Abort + AllocGlobal), text: &str) -> ByteSink {
+pub fn image_of(rt: &(impl Abort + AllocGlobal), text: &str) -> ByteSink {
     let mut files = TestFiles::new(rt, text.as_bytes());
     let given = give(rt.alloc(), &["factc", "build", "in", "image"], &mut files);
     assert_eq!(rt; given.status, 0, "the status of {text:?}");
@@ -136,55 +136,4 @@ fn names_the_faulty_argument(rt: HostRuntime) {
         &["factc", "pair", "in", "1", "x", "2", "5"],
         (1, "", first),
     );
-}
-
-#[test]
-fn refuses_by_the_first_rule(rt: HostRuntime) {
-    for (text, line) in [
-        ("", "refused: N4 at 1:1: not exactly one export\n"),
-        (
-            "export public uint32 f(secret uint32 x) { return x; }",
-            "refused: L1 at 1:43: secret to public\n",
-        ),
-        (
-            "export secret uint32 f(secret uint32 f) { return x + 1; }",
-            "refused: N2 at 1:38: name declared twice\n",
-        ),
-        (
-            "export secret uint32 f(secret uint32 x) { return y + 1; }",
-            "refused: N1 at 1:50: undeclared name\n",
-        ),
-        (
-            "export public uint32 f(secret bool s) {\npublic mut uint32 p = 0;\n\
-             if (s) { p = p + 1; }\nreturn p;\n}",
-            "refused: L2 at 3:12: public assigned under secret control\n",
-        ),
-        (
-            "export secret uint32 f(secret uint32 x) { x = 1; return x; }",
-            "refused: T6 at 1:45: not mutable\n",
-        ),
-        (
-            "export secret uint32 f(secret uint32 x) { if (x) { } return x; }",
-            "refused: T2 at 1:43: wrong kind\n",
-        ),
-        (
-            "export secret uint32 f(secret bool s) { if (s) { if (s) { } } return 1; }",
-            "refused: X3 at 1:50: unexpected token\n",
-        ),
-        (
-            "export secret uint32 f(secret uint32 x) { return x $ 1; }",
-            "refused: X1 at 1:52: unknown character\n",
-        ),
-        (
-            "export secret uint32 f(secret uint32 x) { return x + 4294967296; }",
-            "refused: X2 at 1:54: bad number\n",
-        ),
-    ] {
-        expect(
-            &rt,
-            text.as_bytes(),
-            &["factc", "build", "in", "image"],
-            (1, "", line),
-        );
-    }
 }

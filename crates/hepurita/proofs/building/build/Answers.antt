@@ -1,10 +1,11 @@
-use Rattle.std.proofs.Common.{sym, subst}
+use Rattle.std.proofs.Common.{[], sym, subst}
 use Rattle.std.proofs.lemmas.Result.{err_from_is_err_and, IfOk-weaker}
 use Rattle.image.specs.Fields.{Fields}
 use Rattle.simulation.specs.Compiled.{IsCompiled}
 use Rattle.syntax.specs.Tree.{program_tree}
 use Rattle.hepurita.specs.Built.{readable}
 use Rattle.hepurita.proofs.BuiltLemmas.{refusal_of_text, refusal_of_program}
+use Rattle.hepurita.proofs.Exports.{export_is_there}
 use Rattle.hepurita.proofs.TheoremLemmas.{judged_compiled}
 use Rattle.hepurita.proofs.building.build.Goals as goal
 
@@ -13,6 +14,11 @@ returns-in_err-program-clause-refused c =
     let p = err_from_is_err_and c.from_residual.result c.from_residual.ensures.1 in
     rw (p.1, p.2) (refusal_of_text c.args.text.now c.in_err-program.field-0.0 c.in_err-program.ensures.refused)
 
+pub compile-requires : goal.compile-requires
+compile-requires c =
+    let program = program_tree c.in_ok-program.program in
+    record { grammatical = λ before p is. c.texts_are_grammatical.ensures c.args.text.now program p c.in_ok-program.ensures.accepted (export_is_there [] program.procedures before p is) }
+
 pub returns-in_err-image-clause-refused : goal.returns-in_err-image-clause-refused
 returns-in_err-image-clause-refused c =
     let p = err_from_is_err_and c.from_residual-in_err-image.result c.from_residual-in_err-image.ensures.1 in
@@ -20,7 +26,8 @@ returns-in_err-image-clause-refused c =
 
 pub returns-clause-accepted : goal.returns-clause-accepted
 returns-clause-accepted c =
+    let program = program_tree c.in_ok-program.program in
     let made = c.in_ok-image.ensures.accepted in
     let judged = readable c.in_ok-program.ensures.accepted made.1 in
-    let compiled = subst (λ (fields : Fields). IsCompiled made.0 fields) (sym made.2) (judged_compiled c.texts_are_compiled.ensures c.args.text.now made.0 judged) in
-    IfOk-weaker c.write.result _ _ (λ bytes h. record { export = made.0; image = c.in_ok-image.image; judged = judged; allowed = c.in_ok-image.ensures.allowed; spelled = h; compiled = compiled }) c.write.ensures.spelled
+    let compiled = subst (λ (fields : Fields). IsCompiled program made.0 fields) (sym made.2) (judged_compiled c.texts_are_compiled.ensures c.args.text.now program made.0 judged) in
+    IfOk-weaker c.write.result _ _ (λ bytes h. record { program = program; export = made.0; image = c.in_ok-image.image; judged = judged; allowed = c.in_ok-image.ensures.allowed; spelled = h; compiled = compiled }) c.write.ensures.spelled

@@ -1,7 +1,7 @@
 use Rattle.std.proofs.Common.{ap, arith}
 use Rattle.syntax.specs.Size.{block_words, statement_words}
 use Rattle.syntax.specs.Tree.{block_tree, statement_tree}
-use Rattle.inline.proofs.SizeLemmas.{conditional_words, last_part}
+use Rattle.inline.proofs.SizeLemmas.{conditional_words, last_part, loop_words}
 use Rattle.inline.proofs.sizes.+words.Goals as goal
 
 pub words_after_statement-returns-in_err-words_after_block-in-If :
@@ -19,3 +19,11 @@ words_after_statement-returns-in_ok-words_after_block-in-If t c =
     let other = ap (λ ss. block_words (block_tree ss)) c.deref.ensures.value in
     last_part c.words_after_block-in-If.result c.args.room c.in_ok-words_after_block-in-If.field-0 (block_words (block_tree c.deref.result.now)) (statement_words (statement_tree c.args.statement.now))
     (omega arith) (omega arith) c.words_after_block-in-If.ensures
+
+pub words_after_statement-returns-in_ok-checked_sub-in-For :
+    goal.words_after_statement-returns-in_ok-checked_sub-in-For
+words_after_statement-returns-in_ok-checked_sub-in-For t c =
+    let whole = loop_words c.args.statement.now _ c.in-For.field-1 c.in-For.field-2 c.in-For.field-3 c.in-For.body c.in-For.is in
+    let arm = ap (λ ss. block_words (block_tree ss)) c.deref-in-For.ensures.value in
+    last_part c.words_after_block-in-For.result c.args.room c.in_ok-checked_sub-in-For.field-0 (block_words (block_tree c.deref-in-For.result.now)) (statement_words (statement_tree c.args.statement.now))
+    (omega (arith, c.in_ok-checked_sub-in-For.ensures)) (omega (arith, c.in_ok-checked_sub-in-For.ensures)) c.words_after_block-in-For.ensures

@@ -1,7 +1,6 @@
-use Rattle.std.proofs.Common.{◌+◌, ◌<◌, ◌≤◌, inr, length, sym, ◌∙◌, arith}
+use Rattle.std.proofs.Common.{◌+◌, ◌<◌, ◌≤◌, inr, map, sym, ◌∙◌, arith}
 use Rattle.std.proofs.lemmas.Bool.{false≢true}
-use Rattle.std.proofs.lemmas.List.{length-map}
-use Rattle.syntax.specs.Size.{block_words, declared_bytes, most_declared_bytes, most_nodes, nodes_of}
+use Rattle.syntax.specs.Size.{block_words, declared_bytes, most_declared_bytes, most_nodes, nodes_of, parameter_words}
 use Rattle.syntax.specs.Tree.{block_tree, parameter_tree, procedure_tree}
 use Rattle.inline.proofs.SizeLemmas.{too_many_bytes, too_many_nodes}
 use Rattle.inline.proofs.sizes.measure.Goals as goal
@@ -16,8 +15,8 @@ pub returns-then-not-words_fit-clause-refused : goal.returns-then-not-words_fit-
 returns-then-not-words_fit-clause-refused c =
     let p = procedure_tree c.args.export.now in
     let few : nodes_of p ≤ most_nodes = omega (arith, c.in-Some.ensures.0) in
-    let unfit : length c.args.export.now.parameters.items + block_words (block_tree c.args.export.now.body.items) ≤ 8192 → ⊥ =
+    let unfit : parameter_words (map parameter_tree c.args.export.now.parameters.items) + block_words (block_tree c.args.export.now.body.items) ≤ 8192 → ⊥ =
     λ fits. false≢true (sym c.if-not-words_fit.true ∙ c.words_fit.ensures.1 fits) in
     let many : most_declared_bytes < declared_bytes p =
-    omega (arith, unfit, length-map c.args.export.now.parameters.items parameter_tree) in
+    omega (arith, unfit) in
     inr (_, too_many_bytes p few many, c.at-then-not-words_fit.ensures.rule, c.at-then-not-words_fit.ensures.place)

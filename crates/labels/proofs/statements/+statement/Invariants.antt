@@ -1,5 +1,5 @@
-use Rattle.std.proofs.Common.{◌≡◌, drop, fold}
-use Rattle.syntax.specs.Tree.{block_tree}
+use Rattle.std.proofs.Common.{◌≡◌, map, drop, fold}
+use Rattle.syntax.specs.Tree.{block_tree, procedure_tree}
 use Rattle.syntax.specs.Typing.{block_violations, scope_after_all}
 use Rattle.labels.specs.Sooner.{sooner}
 use Rattle.labels.proofs.statements.+statement.Given as goal
@@ -9,8 +9,9 @@ abbrev pub invariant-statements-loop-one : goal.invariant-statements-loop-one
 invariant-statements-loop-one l =
     let rest = block_tree (drop l.one-index l.statements) in
     let all = block_tree l.fn.statements in
+    let earlier = map procedure_tree l.earlier in
     record {
       names : scope_after_all l.names rest ≡ scope_after_all l.fn.names all;
-      first : fold sooner l.first.seen (block_violations l.names l.control rest) ≡ fold sooner l.fn.first.seen (block_violations l.fn.names l.fn.control all);
+      first : fold sooner l.first.seen (block_violations earlier l.names l.control rest) ≡ fold sooner l.fn.first.seen (block_violations earlier l.fn.names l.fn.control all);
       control : l.control ≡ l.fn.control;
     }

@@ -1,5 +1,5 @@
-use Rattle.syntax.proofs.StatementSteps.{conditional_tree}
+use Rattle.syntax.proofs.StatementSteps.{row_trees}
 use Rattle.syntax.proofs.parser.rows_are_blocks.Goals as goal
 
 pub returns : goal.returns
-returns c = conditional_tree
+returns c = row_trees

@@ -1,10 +1,11 @@
-use Rattle.std.proofs.Common.{◌≡◌, ◌+◌, ◌∷◌, ap, ap₂, drop, take, sym, ◌∙◌, rules, arith}
+use Rattle.std.proofs.Common.{◌≡◌, ◌+◌, ◌∷◌, ap, ap₂, drop, take, sym, subst, ◌∙◌, rules, arith}
 use Rattle.std.proofs.lemmas.List.{at_drop_all, drop_more}
 use Rattle.inline.proofs.NumberingLemmas.{joined, joined_nothing, names_before, numbered_conditional, one_more}
-use Rattle.inline.proofs.SizeLemmas.{conditional_words}
+use Rattle.inline.proofs.SizeLemmas.{conditional_compiled, conditional_words}
 use Rattle.inline.proofs.numbering.Numbering.+numbering.Goals as goal
 use Rattle.syntax.specs.declared.tree.Statement.{the_lemmas}
 use Rattle.syntax.specs.Size.{block_words}
+use Rattle.coverage.specs.Compiled.{IsCompiledBlock}
 use Rattle.inline.specs.Flat.{flat_block}
 use Rattle.inline.specs.Numbering.{block, names_after_all}
 use Rattle.syntax.specs.Tree.{block_tree, statement_tree}
@@ -18,14 +19,18 @@ pub statement-arm-requires : goal.statement-arm-requires
 statement-arm-requires t c =
     let whole = conditional_words c.args.statement.now _ c.in-If.condition c.in-If.accepted c.in-If.otherwise c.in-If.is in
     let arm = ap (λ ss. block_words (block_tree ss)) c.deref.ensures.value in
-    (search (rules, the_lemmas), omega arith)
+    let parts = conditional_compiled c.args.statement.now _ c.in-If.condition c.in-If.accepted c.in-If.otherwise c.in-If.is c.requires.compiled in
+    let compiled = subst (λ ss. IsCompiledBlock (block_tree ss)) (sym c.deref.ensures.value) parts.1 in
+    (search (rules, the_lemmas), (omega arith, compiled))
 
 pub statement-arm-requires-in-If : goal.statement-arm-requires-in-If
 statement-arm-requires-in-If t c =
     let whole = conditional_words c.args.statement.now _ c.in-If.condition c.in-If.accepted c.in-If.otherwise c.in-If.is in
     let arm = ap (λ ss. block_words (block_tree ss)) c.deref.ensures.value in
     let other = ap (λ ss. block_words (block_tree ss)) c.deref-in-If.ensures.value in
-    (search (rules, the_lemmas), omega (arith, c.in_ok-accepted-in-If.ensures.next))
+    let parts = conditional_compiled c.args.statement.now _ c.in-If.condition c.in-If.accepted c.in-If.otherwise c.in-If.is c.requires.compiled in
+    let compiled = subst (λ ss. IsCompiledBlock (block_tree ss)) (sym c.deref-in-If.ensures.value) parts.2 in
+    (search (rules, the_lemmas), (omega (arith, c.in_ok-accepted-in-If.ensures.next), compiled))
 
 pub statement-returns-in_ok-otherwise-in-If-clause-statement :
     goal.statement-returns-in_ok-otherwise-in-If-clause-statement
@@ -59,6 +64,7 @@ block-loop-statement-preserved t c =
           ∙ ap (λ ss. joined (flat_block l.flat.items) (block l.self.names l.self.next (block_tree ss))) (sym here) ∙ l.invariant.block;
       names = ap₂ (λ ns m. names_after_all ns m (block_tree rest)) called.names called.next
           ∙ ap (λ ss. names_after_all l.self.names l.self.next (block_tree ss)) (sym here) ∙ l.invariant.names;
+      compiled = (subst (λ ss. IsCompiledBlock (block_tree ss)) here l.invariant.compiled).1;
       next = omega (arith, called.next);
     }
 

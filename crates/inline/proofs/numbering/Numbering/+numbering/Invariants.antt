@@ -1,6 +1,7 @@
 use Rattle.std.proofs.Common.{◌≡◌, ◌+◌, drop}
 use Rattle.inline.proofs.NumberingLemmas.{joined}
 use Rattle.inline.proofs.numbering.Numbering.+numbering.Given as goal
+use Rattle.coverage.specs.Compiled.{IsCompiledBlock}
 use Rattle.inline.specs.Flat.{flat_block}
 use Rattle.inline.specs.Numbering.{block, names_after_all}
 use Rattle.syntax.specs.Size.{block_words}
@@ -14,5 +15,6 @@ invariant-block-loop-statement l =
     record {
       block : joined (flat_block l.flat.items) (block l.self.names l.self.next rest) ≡ block l.fn.self.names l.fn.self.next all;
       names : names_after_all l.self.names l.self.next rest ≡ names_after_all l.fn.self.names l.fn.self.next all;
+      compiled : IsCompiledBlock rest;
       next : l.self.next + block_words rest ≡ l.fn.self.next + block_words all;
     }

@@ -1,72 +1,86 @@
-use Rattle.std.proofs.Common.{◌≡◌, ◌∙◌, None, arith, rules, ap, sym, subst, refl, if◌then◌else◌}
-use Rattle.syntax.specs.Machine.{statements, arm, otherwise, conditioned, expr, one, opening_round, closing_round, else_word}
-use Rattle.syntax.specs.ParserViews.{ahead, after_start, standing}
-use Rattle.syntax.specs.Tree.{ExprTree, BlockTree, nothing, conditional, expr_tree, statement_tree, block_tree}
-use Rattle.syntax.proofs.ParserSteps.{passed, fault-back, leads-after, more_statements}
-use Rattle.syntax.proofs.StatementSteps.{followed_by, followed-nothing, ahead-push, conditional_tree}
+use Rattle.std.proofs.Common.{◌≡◌, ◌∙◌, None, arith, rules, ap, sym, subst}
+use Rattle.syntax.specs.declared.parser.wanted.Wanted.TheVariants as wanted
+use Rattle.syntax.specs.Lexeme.{Lexeme, lexeme}
+use Rattle.syntax.specs.Machine.{statements, block, otherwise, after_else, conditioned, expr, one, either}
+use Rattle.syntax.specs.ParserViews.{ahead, after_start}
+use Rattle.syntax.specs.Tree.{ExprTree, BlockTree, nothing, first, conditional, loop, expr_tree, block_tree}
+use Rattle.syntax.proofs.ParserSteps.{passed-after, leads-after, after-taken, after-none, ahead-otherwise, more_statements}
+use Rattle.syntax.proofs.StatementSteps.{followed_by, followed-nothing, ahead-push, row_trees}
 use Rattle.syntax.proofs.parser.Parser.+statement.Goals as goal
 
-pub conditional-returns-in_err-condition-clause-leads : goal.conditional-returns-in_err-condition-clause-leads
-conditional-returns-in_err-condition-clause-leads t c = λ k.
-    let k₁ = λ (e : ExprTree). arm (λ a. otherwise (λ b. k (conditional c.args.place e a b))) in
-    let e = c.in_ok-expect.ensures.leads opening_round (λ _. expr 1 (λ e. one closing_round (λ _. k₁ e))) refl in
-    let h = c.in_err-condition.ensures.leads closing_round k₁ refl in
-    passed (conditioned c.args.place k) (λ s. k (statement_tree s)) c.from_residual-in_err-condition.result c.in_err-condition.field-0.0 c.args.self.now c.expression_to.new.self c.from_residual-in_err-condition.ensures.1 (fault-back c.in_err-condition.field-0.0 _ _ e h)
-
-pub conditional-returns-in_err-accepted-clause-leads : goal.conditional-returns-in_err-accepted-clause-leads
-conditional-returns-in_err-accepted-clause-leads t c = λ k.
-    let k₁ = λ (e : ExprTree). arm (λ a. otherwise (λ b. k (conditional c.args.place e a b))) in
-    let k₂ = λ (a : BlockTree). otherwise (λ b. k (conditional c.args.place (expr_tree c.in_ok-condition.condition) a b)) in
-    let e = c.in_ok-expect.ensures.leads opening_round (λ _. expr 1 (λ e. one closing_round (λ _. k₁ e))) refl ∙ c.in_ok-condition.ensures.leads closing_round k₁ refl in
-    let h = c.in_err-accepted.ensures.leads k₂ in
-    passed (conditioned c.args.place k) (λ s. k (statement_tree s)) c.from_residual-in_err-accepted.result c.in_err-accepted.field-0.0 c.args.self.now c.arm.new.self c.from_residual-in_err-accepted.ensures.1 (fault-back c.in_err-accepted.field-0.0 _ _ e h)
-
-pub conditional-returns-in_err-otherwise-clause-leads : goal.conditional-returns-in_err-otherwise-clause-leads
-conditional-returns-in_err-otherwise-clause-leads t c = λ k.
-    let k₁ = λ (e : ExprTree). arm (λ a. otherwise (λ b. k (conditional c.args.place e a b))) in
-    let k₂ = λ (a : BlockTree). otherwise (λ b. k (conditional c.args.place (expr_tree c.in_ok-condition.condition) a b)) in
-    let k₃ = λ (b : BlockTree). k (conditional c.args.place (expr_tree c.in_ok-condition.condition) (block_tree c.in_ok-accepted.accepted.items) b) in
-    let e = c.in_ok-expect.ensures.leads opening_round (λ _. expr 1 (λ e. one closing_round (λ _. k₁ e))) refl ∙ c.in_ok-condition.ensures.leads closing_round k₁ refl ∙ c.in_ok-accepted.ensures.leads k₂ in
-    let h = c.in_err-otherwise.ensures.leads k₃ in
-    passed (conditioned c.args.place k) (λ s. k (statement_tree s)) c.from_residual-in_err-otherwise.result c.in_err-otherwise.field-0.0 c.args.self.now c.otherwise.new.self c.from_residual-in_err-otherwise.ensures.1 (fault-back c.in_err-otherwise.field-0.0 _ _ e h)
+pub after_else-returns-in-None-clause-leads : goal.after_else-returns-in-None-clause-leads
+after_else-returns-in-None-clause-leads t c = λ k.
+    let next = λ (word : Lexeme). conditioned word.place (λ s. k (first s nothing)) in
+    let e = after-none (after_else k) next (block k) c.in_ok-word.field-0 c.args.self.now c.takes.new.self (c.in_ok-word.ensures.leads next (block k)) c.in-None.is in
+    leads-after (after_else k) (block k) (λ ss. k (block_tree ss.items)) c.block.result c.args.self.now c.takes.new.self c.block.new.self e (c.block.ensures.leads k)
 
 pub conditional-returns-clause-leads : goal.conditional-returns-clause-leads
 conditional-returns-clause-leads t c = λ k.
-    let k₁ = λ (e : ExprTree). arm (λ a. otherwise (λ b. k (conditional c.args.place e a b))) in
+    let k₁ = λ (e : ExprTree). block (λ a. otherwise (λ b. k (conditional c.args.place e a b))) in
     let k₂ = λ (a : BlockTree). otherwise (λ b. k (conditional c.args.place (expr_tree c.in_ok-condition.condition) a b)) in
     let k₃ = λ (b : BlockTree). k (conditional c.args.place (expr_tree c.in_ok-condition.condition) (block_tree c.in_ok-accepted.accepted.items) b) in
-    c.in_ok-expect.ensures.leads opening_round (λ _. expr 1 (λ e. one closing_round (λ _. k₁ e))) refl
-    ∙ c.in_ok-condition.ensures.leads closing_round k₁ refl
+    c.in_ok-expect.ensures.leads (λ _. expr 1 (λ e. one wanted.CloseRound (λ _. k₁ e)))
+    ∙ c.in_ok-condition.ensures.leads (λ e. one wanted.CloseRound (λ _. k₁ e))
+    ∙ c.in_ok-expect-2.ensures.leads (λ _. k₁ (expr_tree c.in_ok-condition.condition))
     ∙ c.in_ok-accepted.ensures.leads k₂
     ∙ c.in_ok-otherwise.ensures.leads k₃
-    ∙ ap (λ s. ahead (k s) c.otherwise.new.self) (sym (conditional_tree c.args.place c.in_ok-condition.condition c.in_ok-accepted.accepted c.in_ok-otherwise.otherwise))
+    ∙ ap (λ s. ahead (k s) c.otherwise.new.self) (sym (row_trees.arms c.args.place c.in_ok-condition.condition c.in_ok-accepted.accepted c.in_ok-otherwise.otherwise))
 
-pub otherwise-returns-then-branch-clause-leads : goal.otherwise-returns-then-branch-clause-leads
-otherwise-returns-then-branch-clause-leads t c = λ k.
-    let e = c.in_ok-takes.ensures.leads else_word (arm k) (k nothing) refl ∙ ap (λ is. ahead (if is then arm k else k nothing) c.takes.new.self) c.if-branch.true in
-    leads-after (otherwise k) (arm k) (λ ss. k (block_tree ss.items)) c.arm.result c.args.self.now c.takes.new.self c.arm.new.self e (c.arm.ensures.leads k)
+pub counted-returns-clause-leads : goal.counted-returns-clause-leads
+counted-returns-clause-leads t c = λ k.
+    let made = λ (t : Lexeme) (low high : ExprTree) (b : BlockTree). k (loop c.args.place t.place t.text low high b) in
+    let k₂ = λ (t : Lexeme) (low : ExprTree). expr 1 (λ high. one wanted.CloseRound (λ _. block (made t low high))) in
+    let k₁ = λ (t : Lexeme). one wanted.From (λ _. expr 1 (λ low. one wanted.To (λ _. k₂ t low))) in
+    let name = lexeme c.in_ok-name.name in
+    let low = expr_tree c.in_ok-low.low in
+    let high = expr_tree c.in_ok-high.high in
+    c.in_ok-expect.ensures.leads (λ _. one wanted.Uint32 (λ _. one wanted.Name k₁))
+    ∙ c.in_ok-expect-2.ensures.leads (λ _. one wanted.Name k₁)
+    ∙ c.in_ok-name.ensures.leads k₁
+    ∙ c.in_ok-expect-3.ensures.leads (λ _. expr 1 (λ low. one wanted.To (λ _. k₂ name low)))
+    ∙ c.in_ok-low.ensures.leads (λ low. one wanted.To (λ _. k₂ name low))
+    ∙ c.in_ok-expect-4.ensures.leads (λ _. k₂ name low)
+    ∙ c.in_ok-high.ensures.leads (λ high. one wanted.CloseRound (λ _. block (made name low high)))
+    ∙ c.in_ok-expect-5.ensures.leads (λ _. block (made name low high))
+    ∙ c.in_ok-body.ensures.leads (made name low high)
+    ∙ ap (λ s. ahead (k s) c.block.new.self) (sym (row_trees.bodies c.args.place (record { place = c.in_ok-name.name.place; name = c.in_ok-name.name.text }) c.in_ok-low.low c.in_ok-high.high c.in_ok-body.body))
+
+pub otherwise-returns-in_err-takes-clause-leads : goal.otherwise-returns-in_err-takes-clause-leads
+otherwise-returns-in_err-takes-clause-leads t c = λ k.
+    let h = c.in_err-takes.ensures.leads (λ _. after_else k) (k nothing) in
+    passed-after (otherwise k) (either wanted.Else (λ _. after_else k) (k nothing)) (λ ss. k (block_tree ss.items)) c.from_residual.result c.in_err-takes.field-0.0 c.args.self.now c.args.self.now c.takes.new.self c.from_residual.ensures.1 (ahead-otherwise k c.args.self.now) h
+
+pub otherwise-returns-in-Some-clause-leads : goal.otherwise-returns-in-Some-clause-leads
+otherwise-returns-in-Some-clause-leads t c = λ k.
+    let taken = ahead-otherwise k c.args.self.now ∙ c.in_ok-takes.ensures.leads (λ _. after_else k) (k nothing) in
+    let e = after-taken (otherwise k) (λ _. after_else k) (k nothing) c.in_ok-takes.field-0 _ c.args.self.now c.takes.new.self taken c.in-Some.is in
+    leads-after (otherwise k) (after_else k) (λ ss. k (block_tree ss.items)) c.after_else.result c.args.self.now c.takes.new.self c.after_else.new.self e (c.after_else.ensures.leads k)
+
+pub otherwise-returns-in-None-clause-leads : goal.otherwise-returns-in-None-clause-leads
+otherwise-returns-in-None-clause-leads t c = λ k.
+    let taken = ahead-otherwise k c.args.self.now ∙ c.in_ok-takes.ensures.leads (λ _. after_else k) (k nothing) in
+    after-none (otherwise k) (λ _. after_else k) (k nothing) c.in_ok-takes.field-0 c.args.self.now c.takes.new.self taken c.in-None.is
+    ∙ ap (λ xs. ahead (k (block_tree xs)) c.takes.new.self) (sym c.new.ensures.items)
 
 pub statements-loop-statements-preserved : goal.statements-loop-statements-preserved
 statements-loop-statements-preserved t c = record {
   same = λ k.
-      let inside = standing c.args.inside in
       let ss = c.loop-statements.statements.items in
       let k' = λ (b : BlockTree). k (followed_by ss b) in
-      let begun = subst (λ o. ahead (statements inside k') c.loop-statements.self ≡ ahead (after_start inside k' o) c.start.new.self) c.in-Some.is (c.in_ok-begun.ensures.leads k') in
+      let begun = subst (λ o. ahead (statements k') c.loop-statements.self ≡ ahead (after_start k' o) c.start.new.self) c.in-Some.is (c.in_ok-begun.ensures.leads k') in
       c.loop-statements.invariant.same k
       ∙ begun
-      ∙ c.in_ok-statement.ensures.leads (more_statements inside k')
-      ∙ ahead-push inside k ss c.in_ok-statement.field-0 c.statement.new.self
-      ∙ ap (λ xs. ahead (statements inside (λ b. k (followed_by xs b))) c.statement.new.self) (sym c.in_ok-push.ensures.items);
+      ∙ c.in_ok-statement.ensures.leads (more_statements k')
+      ∙ ahead-push k ss c.in_ok-statement.field-0 c.statement.new.self
+      ∙ ap (λ xs. ahead (statements (λ b. k (followed_by xs b))) c.statement.new.self) (sym c.in_ok-push.ensures.items);
   shorter = omega (arith, c.loop-statements.invariant.shorter, c.in_ok-begun.ensures.same, c.in_ok-statement.ensures.shorter);
 }
 
 pub statements-returns-clause-leads : goal.statements-returns-clause-leads
 statements-returns-clause-leads t c = λ k.
-    let inside = standing c.args.inside in
     let ss = c.loop-statements.statements.items in
     let k' = λ (b : BlockTree). k (followed_by ss b) in
     let none : c.in_ok-begun.field-0 ≡ None = search rules in
     c.loop-statements.invariant.same k
-    ∙ subst (λ o. ahead (statements inside k') c.loop-statements.self ≡ ahead (after_start inside k' o) c.start.new.self) none (c.in_ok-begun.ensures.leads k')
+    ∙ subst (λ o. ahead (statements k') c.loop-statements.self ≡ ahead (after_start k' o) c.start.new.self) none (c.in_ok-begun.ensures.leads k')
     ∙ ap (λ b. ahead (k b) c.start.new.self) (followed-nothing ss)

@@ -1,72 +1,53 @@
-use Rattle.std.proofs.Common.{ap, sym, refl, ◌∙◌, arith, map, [], ◌∷◌, ◌++◌}
-use Rattle.syntax.specs.Machine.{parameters, more_parameters, parameter, closing_round, a_comma}
+use Rattle.std.proofs.Common.{◌∙◌, ◌++◌, ◌∷◌, [], List, map, ap, sym, arith}
+use Rattle.syntax.specs.declared.parser.wanted.Wanted.TheVariants as wanted
+use Rattle.syntax.specs.Machine.{State, parameters, more_parameters, parameter, one}
 use Rattle.syntax.specs.ParserViews.{ahead}
-use Rattle.syntax.specs.Tree.{parameter_tree}
-use Rattle.syntax.proofs.ParserSteps.{passed, fault-back, ahead-closes, ahead-opens, ahead-comma, ahead-last, map-push}
+use Rattle.syntax.specs.Tree.{ParameterTree, parameter_tree}
+use Rattle.syntax.proofs.ParserSteps.{passed-after, some-taken, none-taken, ahead-parameters, after_parameters, map-push}
 use Rattle.syntax.proofs.parser.Parser.parameters.Goals as goal
 
-pub returns-in_err-expect : goal.returns-in_err-expect
-returns-in_err-expect c = λ k.
-    let e = ahead-closes k c.args.self.now (sym (c.stands.ensures closing_round refl) ∙ c.if-stands.true) in
-    let h = c.in_err-expect.ensures.leads closing_round (λ _. k []) refl in
-    passed (parameters k) (λ ps. k (map parameter_tree ps.items)) c.from_residual.result c.in_err-expect.field-0.0 c.args.self.now c.expect.new.self c.from_residual.ensures.1 (fault-back c.in_err-expect.field-0.0 _ _ e h)
+-- a further parameter
+abbrev further : List ParameterTree → (List ParameterTree → State) → State
+further ps k = parameter (λ p. more_parameters (ps ++ p ∷ []) k)
 
-pub returns-then-stands : goal.returns-then-stands
-returns-then-stands c = λ k.
-    ahead-closes k c.args.self.now (sym (c.stands.ensures closing_round refl) ∙ c.if-stands.true)
-    ∙ c.in_ok-expect.ensures.leads closing_round (λ _. k []) refl
-    ∙ ap (λ xs. ahead (k (map parameter_tree xs)) c.expect.new.self) (sym c.new-parameters.ensures.items)
+pub returns-in_err-takes-2-clause-leads : goal.returns-in_err-takes-2-clause-leads
+returns-in_err-takes-2-clause-leads c = λ k.
+    let ps = map parameter_tree c.loop-parameters.parameters.items in
+    let e = c.loop-parameters.invariant.same k ∙ ahead-parameters ps k c.loop-parameters.self in
+    let h = c.in_err-takes-2.ensures.leads (λ _. further ps k) (one wanted.CloseRound (λ _. k ps)) in
+    passed-after (parameters k) (after_parameters ps k) (λ ps. k (map parameter_tree ps.items)) c.from_residual-in_err-takes-2.result c.in_err-takes-2.field-0.0 c.args.self.now c.loop-parameters.self c.takes-in-loop-parameters.new.self c.from_residual-in_err-takes-2.ensures.1 e h
 
-pub returns-in_err-parameter : goal.returns-in_err-parameter
-returns-in_err-parameter c = λ k.
-    let e = ahead-opens k c.args.self.now (sym (c.stands.ensures closing_round refl) ∙ c.if-stands.false) in
-    let h = c.in_err-parameter.ensures.leads (λ p. more_parameters (p ∷ []) k) in
-    passed (parameters k) (λ ps. k (map parameter_tree ps.items)) c.from_residual-in_err-parameter.result c.in_err-parameter.field-0.0 c.args.self.now c.parameter.new.self c.from_residual-in_err-parameter.ensures.1 (fault-back c.in_err-parameter.field-0.0 _ _ e h)
+pub returns-in_err-parameter-2-clause-leads : goal.returns-in_err-parameter-2-clause-leads
+returns-in_err-parameter-2-clause-leads c = λ k.
+    let ps = map parameter_tree c.loop-parameters.parameters.items in
+    let e = c.loop-parameters.invariant.same k ∙ ahead-parameters ps k c.loop-parameters.self ∙ c.in_ok-takes-2.ensures.leads (λ _. further ps k) (one wanted.CloseRound (λ _. k ps)) in
+    let e' = some-taken (parameters k) (further ps k) (one wanted.CloseRound (λ _. k ps)) c.in_ok-takes-2.field-0 c.args.self.now c.takes-in-loop-parameters.new.self e (sym c.is_some-in-loop-parameters.ensures ∙ c.if-is_some-2.true) in
+    let h = c.in_err-parameter-2.ensures.leads (λ p. more_parameters (ps ++ p ∷ []) k) in
+    passed-after (parameters k) (further ps k) (λ ps. k (map parameter_tree ps.items)) c.from_residual-in_err-parameter-2.result c.in_err-parameter-2.field-0.0 c.args.self.now c.takes-in-loop-parameters.new.self c.parameter-in-loop-parameters.new.self c.from_residual-in_err-parameter-2.ensures.1 e' h
 
-pub loop-self-init : goal.loop-self-init
-loop-self-init c = λ k.
-    let items = c.in_ok-push.ensures.items ∙ ap (λ xs. xs ++ c.in_ok-parameter.field-0 ∷ []) c.new-parameters.ensures.items in
-    ahead-opens k c.args.self.now (sym (c.stands.ensures closing_round refl) ∙ c.if-stands.false)
-    ∙ c.in_ok-parameter.ensures.leads (λ p. more_parameters (p ∷ []) k)
-    ∙ ap (λ xs. ahead (more_parameters (map parameter_tree xs) k) c.parameter.new.self) (sym items)
+pub loop-parameters-preserved : goal.loop-parameters-preserved
+loop-parameters-preserved c = record {
+  same = λ k.
+      let items = c.loop-parameters.parameters.items in
+      let ps = map parameter_tree items in
+      let e = c.loop-parameters.invariant.same k ∙ ahead-parameters ps k c.loop-parameters.self ∙ c.in_ok-takes-2.ensures.leads (λ _. further ps k) (one wanted.CloseRound (λ _. k ps)) in
+      some-taken (parameters k) (further ps k) (one wanted.CloseRound (λ _. k ps)) c.in_ok-takes-2.field-0 c.args.self.now c.takes-in-loop-parameters.new.self e (sym c.is_some-in-loop-parameters.ensures ∙ c.if-is_some-2.true)
+      ∙ c.in_ok-parameter-2.ensures.leads (λ p. more_parameters (ps ++ p ∷ []) k)
+      ∙ ap (λ xs. ahead (more_parameters xs k) c.parameter-in-loop-parameters.new.self) (sym (map-push parameter_tree items c.in_ok-parameter-2.field-0))
+      ∙ ap (λ xs. ahead (more_parameters (map parameter_tree xs) k) c.parameter-in-loop-parameters.new.self) (sym c.in_ok-push-2.ensures.items);
+  shorter = omega (arith, c.loop-parameters.invariant.shorter, c.in_ok-takes-2.ensures.same, c.in_ok-parameter-2.ensures.shorter);
+}
 
-pub returns-in_err-expect-2 : goal.returns-in_err-expect-2
-returns-in_err-expect-2 c = λ k.
-    let ps = map parameter_tree c.loop-self.parameters.items in
-    let e = c.loop-self.invariant k ∙ ahead-comma ps k c.loop-self.self (sym (c.stands-in-loop-self.ensures a_comma refl) ∙ c.loop-self-test.true) in
-    let h = c.in_err-expect-2.ensures.leads a_comma (λ _. parameter (λ q. more_parameters (ps ++ q ∷ []) k)) refl in
-    passed (parameters k) (λ ps. k (map parameter_tree ps.items)) c.from_residual-in_err-expect-2.result c.in_err-expect-2.field-0.0 c.args.self.now c.expect-in-loop-self.new.self c.from_residual-in_err-expect-2.ensures.1 (fault-back c.in_err-expect-2.field-0.0 _ _ e h)
+pub returns-in_err-expect-clause-leads : goal.returns-in_err-expect-clause-leads
+returns-in_err-expect-clause-leads c = λ k.
+    let ps = map parameter_tree c.loop-parameters.parameters.items in
+    let e = c.loop-parameters.invariant.same k ∙ ahead-parameters ps k c.loop-parameters.self ∙ c.in_ok-takes-2.ensures.leads (λ _. further ps k) (one wanted.CloseRound (λ _. k ps)) in
+    let e' = none-taken (parameters k) (further ps k) (one wanted.CloseRound (λ _. k ps)) c.in_ok-takes-2.field-0 c.args.self.now c.takes-in-loop-parameters.new.self e (sym c.is_some-in-loop-parameters.ensures ∙ c.if-is_some-2.false) in
+    passed-after (parameters k) (one wanted.CloseRound (λ _. k ps)) (λ ps. k (map parameter_tree ps.items)) c.from_residual-in_err-expect.result c.in_err-expect.field-0.0 c.args.self.now c.takes-in-loop-parameters.new.self c.expect.new.self c.from_residual-in_err-expect.ensures.1 e' (c.in_err-expect.ensures.leads (λ _. k ps))
 
-pub returns-in_err-parameter-2 : goal.returns-in_err-parameter-2
-returns-in_err-parameter-2 c = λ k.
-    let ps = map parameter_tree c.loop-self.parameters.items in
-    let e = c.loop-self.invariant k ∙ ahead-comma ps k c.loop-self.self (sym (c.stands-in-loop-self.ensures a_comma refl) ∙ c.loop-self-test.true) ∙ c.in_ok-expect-2.ensures.leads a_comma (λ _. parameter (λ q. more_parameters (ps ++ q ∷ []) k)) refl in
-    let h = c.in_err-parameter-2.ensures.leads (λ q. more_parameters (ps ++ q ∷ []) k) in
-    passed (parameters k) (λ ps. k (map parameter_tree ps.items)) c.from_residual-in_err-parameter-2.result c.in_err-parameter-2.field-0.0 c.args.self.now c.parameter-in-loop-self.new.self c.from_residual-in_err-parameter-2.ensures.1 (fault-back c.in_err-parameter-2.field-0.0 _ _ e h)
-
-pub loop-self-smaller : goal.loop-self-smaller
-loop-self-smaller c = omega (arith, c.in_ok-expect-2.ensures.shorter, c.in_ok-parameter-2.ensures.shorter)
-
-pub loop-self-preserved : goal.loop-self-preserved
-loop-self-preserved c = λ k.
-    let ps = map parameter_tree c.loop-self.parameters.items in
-    c.loop-self.invariant k
-    ∙ ahead-comma ps k c.loop-self.self (sym (c.stands-in-loop-self.ensures a_comma refl) ∙ c.loop-self-test.true)
-    ∙ c.in_ok-expect-2.ensures.leads a_comma (λ _. parameter (λ q. more_parameters (ps ++ q ∷ []) k)) refl
-    ∙ c.in_ok-parameter-2.ensures.leads (λ q. more_parameters (ps ++ q ∷ []) k)
-    ∙ ap (λ qs. ahead (more_parameters qs k) c.parameter-in-loop-self.new.self) (sym (map-push c.loop-self.parameters.items c.in_ok-parameter-2.field-0))
-    ∙ ap (λ xs. ahead (more_parameters (map parameter_tree xs) k) c.parameter-in-loop-self.new.self) (sym c.in_ok-push-2.ensures.items)
-
-pub returns-in_err-expect-3 : goal.returns-in_err-expect-3
-returns-in_err-expect-3 c = λ k.
-    let ps = map parameter_tree c.loop-self.parameters.items in
-    let e = c.loop-self.invariant k ∙ ahead-last ps k c.loop-self.self (sym (c.stands-in-loop-self.ensures a_comma refl) ∙ c.loop-self-test.false) in
-    let h = c.in_err-expect-3.ensures.leads closing_round (λ _. k ps) refl in
-    passed (parameters k) (λ ps. k (map parameter_tree ps.items)) c.from_residual-in_err-expect-3.result c.in_err-expect-3.field-0.0 c.args.self.now c.expect-2.new.self c.from_residual-in_err-expect-3.ensures.1 (fault-back c.in_err-expect-3.field-0.0 _ _ e h)
-
-pub returns : goal.returns
-returns c = λ k.
-    let ps = map parameter_tree c.loop-self.parameters.items in
-    c.loop-self.invariant k
-    ∙ ahead-last ps k c.loop-self.self (sym (c.stands-in-loop-self.ensures a_comma refl) ∙ c.loop-self-test.false)
-    ∙ c.in_ok-expect-3.ensures.leads closing_round (λ _. k ps) refl
+pub returns-clause-leads : goal.returns-clause-leads
+returns-clause-leads c = λ k.
+    let ps = map parameter_tree c.loop-parameters.parameters.items in
+    let e = c.loop-parameters.invariant.same k ∙ ahead-parameters ps k c.loop-parameters.self ∙ c.in_ok-takes-2.ensures.leads (λ _. further ps k) (one wanted.CloseRound (λ _. k ps)) in
+    none-taken (parameters k) (further ps k) (one wanted.CloseRound (λ _. k ps)) c.in_ok-takes-2.field-0 c.args.self.now c.takes-in-loop-parameters.new.self e (sym c.is_some-in-loop-parameters.ensures ∙ c.if-is_some-2.false)
+    ∙ c.in_ok-expect.ensures.leads (λ _. k ps)

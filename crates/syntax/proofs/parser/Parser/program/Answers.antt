@@ -1,43 +1,25 @@
-use Rattle.std.proofs.Common.{◌≡◌, sym, refl, ◌∙◌, Some}
-use Rattle.syntax.specs.Machine.{program, ended, export_word}
+use Rattle.std.proofs.Common.{◌≡◌, ap, sym, ◌∙◌, ◌++◌, ◌∷◌, [], map, length, nat_eq, false, rules}
+use Rattle.syntax.specs.Machine.{program, procedures, procedure}
 use Rattle.syntax.specs.ParserViews.{ahead}
 use Rattle.syntax.specs.Reading.{accepted}
 use Rattle.syntax.specs.Tree.{ProcedureTree, program_tree, procedure_tree}
-use Rattle.syntax.proofs.ParserSteps.{fault-back}
-use Rattle.syntax.proofs.ProgramSteps.{exported, nothing, ahead-empty, ahead-export, passed-answer}
+use Rattle.syntax.proofs.ParserSteps.{passed-answer, ahead-procedure, map-push}
 use Rattle.syntax.proofs.parser.Parser.program.Goals as goal
 
-pub returns-in_err-finish : goal.returns-in_err-finish
-returns-in_err-finish c =
-    let e = ahead-empty c.args.self.now (sym c.is_empty.ensures ∙ c.if-is_empty.true) in
-    record { leads = passed-answer c.from_residual.result c.in_err-finish.field-0.0 (λ p. ahead program c.args.self.now ≡ accepted (program_tree p)) (ahead program c.args.self.now) c.from_residual.ensures.1 (fault-back c.in_err-finish.field-0.0 _ _ e (c.in_err-finish.ensures.leads nothing)) }
+pub returns-in_err-procedure : goal.returns-in_err-procedure
+returns-in_err-procedure c =
+    let ps = map procedure_tree c.loop-self.procedures.items in
+    let next = λ (q : ProcedureTree). procedures (ps ++ q ∷ []) in
+    let left : nat_eq (length c.loop-self.self.rest.now) 0 ≡ false = search rules in
+    record { leads = passed-answer c.from_residual.result c.in_err-procedure.field-0.0 (λ p. ahead program c.args.self.now ≡ accepted (program_tree p)) (ahead program c.args.self.now) (ahead (procedure next) c.loop-self.self) c.from_residual.ensures.1 (c.loop-self.invariant ∙ ahead-procedure ps c.loop-self.self left) (c.in_err-procedure.ensures.leads next) }
 
-pub returns-then-is_empty : goal.returns-then-is_empty
-returns-then-is_empty c = record { leads = ahead-empty c.args.self.now (sym c.is_empty.ensures ∙ c.if-is_empty.true) ∙ c.in_ok-finish.ensures.leads nothing }
-
-pub returns-in_err-expect : goal.returns-in_err-expect
-returns-in_err-expect c =
-    let e = ahead-export c.args.self.now (sym c.is_empty.ensures ∙ c.if-is_empty.false) in
-    let h = c.in_err-expect.ensures.leads export_word (λ _. exported) refl in
-    record { leads = passed-answer c.from_residual-in_err-expect.result c.in_err-expect.field-0.0 (λ p. ahead program c.args.self.now ≡ accepted (program_tree p)) (ahead program c.args.self.now) c.from_residual-in_err-expect.ensures.1 (fault-back c.in_err-expect.field-0.0 _ _ e h) }
-
-pub returns-in_err-export : goal.returns-in_err-export
-returns-in_err-export c =
-    let e = ahead-export c.args.self.now (sym c.is_empty.ensures ∙ c.if-is_empty.false) ∙ c.in_ok-expect.ensures.leads export_word (λ _. exported) refl in
-    let h = c.in_err-export.ensures (λ (p : ProcedureTree). ended (record { export = Some p })) in
-    record { leads = passed-answer c.from_residual-in_err-export.result c.in_err-export.field-0.0 (λ p. ahead program c.args.self.now ≡ accepted (program_tree p)) (ahead program c.args.self.now) c.from_residual-in_err-export.ensures.1 (fault-back c.in_err-export.field-0.0 _ _ e h) }
-
-pub returns-in_err-finish-2 : goal.returns-in_err-finish-2
-returns-in_err-finish-2 c =
-    let e = ahead-export c.args.self.now (sym c.is_empty.ensures ∙ c.if-is_empty.false) ∙ c.in_ok-expect.ensures.leads export_word (λ _. exported) refl ∙ c.in_ok-export.ensures (λ (p : ProcedureTree). ended (record { export = Some p })) in
-    let h = c.in_err-finish-2.ensures.leads (record { export = Some (procedure_tree c.in_ok-export.export) }) in
-    record { leads = passed-answer c.from_residual-in_err-finish-2.result c.in_err-finish-2.field-0.0 (λ p. ahead program c.args.self.now ≡ accepted (program_tree p)) (ahead program c.args.self.now) c.from_residual-in_err-finish-2.ensures.1 (fault-back c.in_err-finish-2.field-0.0 _ _ e h) }
-
-pub returns : goal.returns
-returns c = record {
-  leads =
-      ahead-export c.args.self.now (sym c.is_empty.ensures ∙ c.if-is_empty.false)
-      ∙ c.in_ok-expect.ensures.leads export_word (λ _. exported) refl
-      ∙ c.in_ok-export.ensures (λ (p : ProcedureTree). ended (record { export = Some p }))
-      ∙ c.in_ok-finish-2.ensures.leads (record { export = Some (procedure_tree c.in_ok-export.export) });
-}
+pub loop-self-preserved : goal.loop-self-preserved
+loop-self-preserved c =
+    let items = c.loop-self.procedures.items in
+    let ps = map procedure_tree items in
+    let left : nat_eq (length c.loop-self.self.rest.now) 0 ≡ false = search rules in
+    c.loop-self.invariant
+    ∙ ahead-procedure ps c.loop-self.self left
+    ∙ c.in_ok-procedure.ensures.leads (λ q. procedures (ps ++ q ∷ []))
+    ∙ ap (λ xs. ahead (procedures xs) c.procedure.new.self) (sym (map-push procedure_tree items c.in_ok-procedure.procedure))
+    ∙ ap (λ xs. ahead (procedures (map procedure_tree xs)) c.procedure.new.self) (sym c.in_ok-push.ensures.items)

@@ -1,17 +1,13 @@
-use Rattle.std.proofs.Common.{◌∙◌, sym, ap, if◌then◌else◌}
-use Rattle.syntax.specs.Machine.{either}
-use Rattle.syntax.specs.ParserViews.{ahead}
-use Rattle.syntax.proofs.ParserSteps.{passed, fault-back, ahead-takes}
+use Rattle.std.proofs.Common.{◌≡◌, true, rules}
+use Rattle.syntax.specs.Lexeme.{lexeme}
+use Rattle.syntax.specs.Machine.{either, fits}
+use Rattle.syntax.specs.ParserViews.{taken}
+use Rattle.syntax.proofs.ParserSteps.{passed, either-step}
 use Rattle.syntax.proofs.parser.Parser.takes.Goals as goal
 
-pub returns-in_err-expect-clause-leads : goal.returns-in_err-expect-clause-leads
-returns-in_err-expect-clause-leads c = λ wanted next other is.
-    let e = ahead-takes wanted next other c.args.self.now (sym (c.stands-is_next.ensures wanted is) ∙ c.if-is_next.true) in
-    let h = c.in_err-expect.ensures.leads wanted (λ _. next) is in
-    passed (either wanted next other) (λ is. if is then next else other) c.from_residual.result c.in_err-expect.field-0.0 c.args.self.now c.expect.new.self c.from_residual.ensures.1 (fault-back c.in_err-expect.field-0.0 _ _ e h)
-
-pub returns-in_ok-expect-clause-leads : goal.returns-in_ok-expect-clause-leads
-returns-in_ok-expect-clause-leads c = λ wanted next other is.
-    ahead-takes wanted next other c.args.self.now (sym (c.stands-is_next.ensures wanted is) ∙ c.if-is_next.true)
-    ∙ c.in_ok-expect.ensures.leads wanted (λ _. next) is
-    ∙ ap (λ b. ahead (if b then next else other) c.expect.new.self) (sym c.if-is_next.true)
+pub returns-in_err-advance-clause-leads : goal.returns-in_err-advance-clause-leads
+returns-in_err-advance-clause-leads c = λ next other.
+    let t = lexeme c.in-Ok.token in
+    let same : fits c.args.wanted c.in-Ok.token.kind ≡ true = search rules in
+    let h = c.in_err-advance.ensures.leads (either c.args.wanted next other) (next t) (either-step c.args.wanted next other t same) in
+    passed (either c.args.wanted next other) (taken next other) c.from_residual.result c.in_err-advance.field-0.0 c.args.self.now c.advance.new.self c.from_residual.ensures.1 h

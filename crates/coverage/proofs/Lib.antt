@@ -1,0 +1,3 @@
+pub mod EarliestLemmas
+pub mod TreeLemmas
+pub mod CompiledLemmas

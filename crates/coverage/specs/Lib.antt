@@ -1,0 +1,3 @@
+pub mod NotCompiled
+pub mod Earliest
+pub mod Compiled

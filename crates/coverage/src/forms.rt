@@ -1,0 +1,19 @@
+ghost use Rattle.std.specs.Prelude.{◌≡◌};
+ghost use Rattle.syntax.specs.Operators.{divides};
+ghost use Rattle.coverage.specs.NotCompiled.{is_array_form};
+
+use syntax::{BinaryOperator, Form};
+
+/// Whether it holds an array.
+pub fn is_array_form(form: Form) -> bool
+    ensures { result ≡ is_array_form form }
+{
+    !matches!(form, Form::SingleWord)
+}
+
+/// Whether the operator makes a quotient or a remainder.
+pub fn divides(operator: BinaryOperator) -> bool
+    ensures { result ≡ divides operator }
+{
+    matches!(operator, BinaryOperator::Divide | BinaryOperator::Remainder)
+}

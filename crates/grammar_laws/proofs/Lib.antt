@@ -1,0 +1,5 @@
+pub mod BeginningLaws
+pub mod BeginningEnds
+pub mod CasesOfTrees
+pub mod TreesOfCases
+pub mod ByCases

@@ -1,0 +1,23 @@
+use Rattle.std.proofs.Common.{ap, ◌∙◌}
+use Rattle.std.proofs.lemmas.Result.{err_from_is_err_and}
+use Rattle.inline.specs.Flat.{FlatProgram}
+use Rattle.syntax.specs.Tree.{program_tree}
+use Rattle.hepurita.specs.Built.{readable}
+use Rattle.hepurita.proofs.BuiltLemmas.{refusal_of_text, refusal_of_program}
+use Rattle.hepurita.proofs.judging.judge.Goals as goal
+
+pub returns-in_err-program-clause-refused : goal.returns-in_err-program-clause-refused
+returns-in_err-program-clause-refused c =
+    let p = err_from_is_err_and c.from_residual.result c.from_residual.ensures.1 in
+    rw (p.1, p.2) (refusal_of_text c.args.text.now c.in_err-program.field-0.0 c.in_err-program.ensures.refused)
+
+pub returns-in_err-flat-clause-refused : goal.returns-in_err-flat-clause-refused
+returns-in_err-flat-clause-refused c =
+    let p = err_from_is_err_and c.from_residual-in_err-flat.result c.from_residual-in_err-flat.ensures.1 in
+    rw (p.1, p.2) (refusal_of_program c.args.text.now (program_tree c.in_ok-program.program) c.in_err-flat.field-0.0 c.in_ok-program.ensures.accepted c.in_err-flat.ensures.refused)
+
+pub returns-clause-accepted : goal.returns-clause-accepted
+returns-clause-accepted c =
+    let made = c.in_ok-flat.ensures.accepted in
+    let params = c.in_ok-params.ensures.items_if_clones_equal (λ x y h. h) ∙ c.parameters.ensures ∙ ap (λ (flat : FlatProgram). flat.parameters) made.2 in
+    (made.0, readable c.in_ok-program.ensures.accepted made.1, params)

@@ -1,0 +1,60 @@
+// What a text is judged to be: what is refused first, and the program and parameters of an accepted text.
+
+ghost use Rattle.std.specs.Prelude.{◌≡◌, [], map, IfOk, IfErr};
+ghost use Rattle.std.specs.Option.{option_map};
+ghost use Rattle.inline.specs.Numbering.{flattened, param_of};
+ghost use Rattle.syntax.specs.Meaning.{exported};
+ghost use Rattle.syntax.specs.Tree.{ProcedureTree, procedure_tree, program_tree};
+ghost use Rattle.hepurita.specs.Built.{Judges, JudgesProgram, IsRefusal, accepts};
+
+use coverage::{compiled_procedures_have_compiled_parts, first_uncompiled};
+use inline::{Flat, inline};
+use labels::check;
+use std::alloc::Global;
+use syntax::{Param, Procedure, Program, Refusal, Rule, parse};
+
+/// The exported procedure, where there is one.
+fn exported_of<'p, 'a>(program: &'p Program<'a>) -> Option<&'p Procedure<'a>>
+    ensures { option_map (λ p. procedure_tree p.now) result ≡ option_map (λ found. found.1) (exported [] (program_tree program.now).procedures) }
+{
+    program
+        .procedures
+        .iter()
+        .find(|procedure| procedure.export.is_some())
+}
+
+/// The export of a program that violates no rule, as one body; or the first refusal. What is not
+/// compiled yet is asked first, then names, types and labels, then sizes.
+pub(crate) fn flat_of(alloc: Global, program: &Program<'_>) -> Result<Flat, Refusal>
+    ensures accepted { IfOk result (λ flat. (export : ProcedureTree) × JudgesProgram (program_tree program.now) (accepts (program_tree program.now) export) × (flat ≡ flattened export)) }
+    ensures refused { IfErr result (IsRefusal (JudgesProgram (program_tree program.now))) }
+{
+    // The law that the condition of `inline` rests on.
+    compiled_procedures_have_compiled_parts();
+    if let Some(place) = first_uncompiled(program) {
+        return Err(Refusal::at(Rule::NotCompiledYet, place));
+    }
+    let checked = check(alloc, program)?;
+    let Some(export) = exported_of(checked.program()) else {
+        unreachable!()
+    };
+    inline(alloc, export)
+}
+
+/// An accepted text's program, and the parameters of its export.
+#[derive(Debug, Drop)]
+pub struct Accepted<'a> {
+    pub program: Program<'a>,
+    pub params: Vec<Param>,
+}
+
+/// The program of an accepted text, or the first refusal: the one that `build` names.
+pub fn judge<'a>(alloc: Global, text: &'a str) -> Result<Accepted<'a>, Refusal>
+    ensures accepted { IfOk result (λ accepted. (export : ProcedureTree) × Judges text.now (accepts (program_tree accepted.program) export) × (accepted.params.items ≡ map param_of export.parameters)) }
+    ensures refused { IfErr result (IsRefusal (Judges text.now)) }
+{
+    let program = parse(alloc, text)?;
+    let flat = flat_of(alloc, &program)?;
+    let params = flat.parameters().to_vec(alloc)?;
+    Ok(Accepted { program, params })
+}

@@ -1,0 +1,11 @@
+use Rattle.std.proofs.Common.{◌≡◌, drop, fold}
+use Rattle.syntax.specs.Types.{at}
+use Rattle.syntax.specs.Typing.{values_rules}
+use Rattle.labels.specs.Sooner.{sooner}
+use Rattle.labels.proofs.declarations.note_values.Given as goal
+
+-- what is left of the values leads to the same first violation as all of them
+abbrev pub invariant-loop-given : goal.invariant-loop-given
+invariant-loop-given l =
+    fold sooner l.first.seen (at l.place (values_rules l.wanted (drop l.given-index l.types)))
+    ≡ fold sooner l.fn.first.seen (at l.place (values_rules l.wanted l.types))

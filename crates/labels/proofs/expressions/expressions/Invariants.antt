@@ -1,0 +1,17 @@
+use Rattle.std.proofs.Common.{◌≡◌, true, length, map, drop, fold}
+use Rattle.syntax.specs.ExprTyping.{exprs_violations, types_of}
+use Rattle.syntax.specs.Tree.{expr_tree}
+use Rattle.labels.specs.Sooner.{sooner}
+use Rattle.labels.proofs.TypeLemmas.{found_before}
+use Rattle.labels.proofs.expressions.expressions.Given as goal
+
+-- what is left of the expressions leads to the same types and the same first violation as all of them
+abbrev pub invariant-loop-expr : goal.invariant-loop-expr
+invariant-loop-expr l =
+    let rest = map expr_tree (drop l.expr-index l.exprs) in
+    let all = map expr_tree l.exprs in
+    record {
+      count : l.typed ≡ true → length l.types.items ≡ l.expr-index;
+      typed : found_before l.typed l.types.items (types_of l.names rest) ≡ types_of l.names all;
+      first : fold sooner l.first.seen (exprs_violations l.names rest) ≡ fold sooner l.fn.first.seen (exprs_violations l.names all);
+    }

@@ -1,0 +1,15 @@
+use Rattle.std.proofs.Common.{◌≡◌, map, drop, fold}
+use Rattle.syntax.specs.Tree.{parameter_tree}
+use Rattle.syntax.specs.Typing.{with_parameters, parameter_violations}
+use Rattle.labels.specs.Sooner.{sooner}
+use Rattle.labels.proofs.procedures.parameters.Given as goal
+
+-- what is left of the parameters leads to the same scope and the same first violation as all of them
+abbrev pub invariant-loop-parameter : goal.invariant-loop-parameter
+invariant-loop-parameter l =
+    let rest = map parameter_tree (drop l.parameter-index l.parameters) in
+    let all = map parameter_tree l.parameters in
+    record {
+      names : with_parameters l.names rest ≡ with_parameters l.fn.names all;
+      first : fold sooner l.first.seen (parameter_violations l.names rest) ≡ fold sooner l.fn.first.seen (parameter_violations l.fn.names all);
+    }

@@ -1,0 +1,91 @@
+ghost use Rattle.std.specs.Prelude.{◌≡◌, ◌++◌, [], fold, length, map};
+ghost use Rattle.syntax.specs.Tree.{expr_tree, parameter_tree};
+ghost use Rattle.syntax.specs.Types.{are_met, at};
+ghost use Rattle.syntax.specs.Typing.{all_passed_rules, argument_variable, is_immutable, parameter_value, passed, passed_rules};
+ghost use Rattle.labels.specs.Sooner.{sooner};
+
+use crate::first::First;
+use crate::kinds::{is_mutable, variable};
+use crate::types::{is_array, word};
+use crate::values::note_argument;
+use names::Names;
+use syntax::{
+    ArrayType, Declared, Expr, Form, Parameter, Place, Rule, ValueType, VariableType, WordType,
+};
+
+/// What a parameter is.
+pub fn parameter_value(parameter: &Parameter<'_>) -> ValueType
+    ensures { result ≡ parameter_value (parameter_tree parameter.now) parameter.now.form }
+{
+    let element = WordType {
+        kind: parameter.kind,
+        label: parameter.label,
+    };
+    let length = parameter.length;
+    match parameter.form {
+        Form::SingleWord => word(parameter.kind, parameter.label),
+        Form::FixedArray => ValueType::Array(ArrayType { element, length }),
+        Form::MutableArray => ValueType::Array(ArrayType { element, length }),
+    }
+}
+
+/// The variable that an argument is the bare name of.
+fn argument_variable(names: &Names<'_, Declared>, argument: &Expr<'_>) -> Option<VariableType>
+    ensures { result ≡ argument_variable names.now (expr_tree argument.now) }
+{
+    match argument {
+        Expr::Name(_, text) => variable(names.find(text)),
+        _ => None,
+    }
+}
+
+/// Whether it is an array that may not be assigned to.
+fn is_immutable(variable: Option<VariableType>) -> bool
+    ensures { result ≡ is_immutable variable }
+{
+    match variable {
+        Some(variable) => is_array(variable.value) && !variable.mutable,
+        None => false,
+    }
+}
+
+/// Notes what an argument violates beside its parameter, and says whether it violates nothing.
+fn note_passed(
+    first: &mut First,
+    names: &Names<'_, Declared>,
+    place: Place,
+    parameter: &Parameter<'_>,
+    given: ValueType,
+    argument: &Expr<'_>,
+) -> bool
+    ensures met { result ≡ are_met (passed_rules names.now (record { parameter = parameter_tree parameter.now; given = given; argument = expr_tree argument.now })) }
+    ensures first { first.new.seen ≡ fold sooner first.old.seen (at place (passed_rules names.now (record { parameter = parameter_tree parameter.now; given = given; argument = expr_tree argument.now }))) }
+{
+    let fits = note_argument(first, place, parameter_value(parameter), given);
+    let fixed = is_mutable(parameter.form) && is_immutable(argument_variable(names, argument));
+    first.note_if(fixed, place, Rule::NotMutable);
+    fits && !fixed
+}
+
+/// Notes what arguments of these types violate beside the parameters, and says whether they violate
+/// nothing.
+pub fn note_all_passed(
+    first: &mut First,
+    names: &Names<'_, Declared>,
+    place: Place,
+    parameters: &[Parameter<'_>],
+    types: &[ValueType],
+    arguments: &[Expr<'_>],
+) -> bool
+    requires types { length types.now ≡ length parameters.now }
+    requires arguments { length arguments.now ≡ length parameters.now }
+    ensures met { result ≡ are_met (all_passed_rules names.now (passed (map parameter_tree parameters.now) types.now (map expr_tree arguments.now))) }
+    ensures first { first.new.seen ≡ fold sooner first.old.seen (at place (all_passed_rules names.now (passed (map parameter_tree parameters.now) types.now (map expr_tree arguments.now)))) }
+{
+    let mut met = true;
+    for (index, parameter) in parameters.iter().enumerate() {
+        let (given, argument) = (types[index], &arguments[index]);
+        met &= note_passed(first, names, place, parameter, given, argument);
+    }
+    met
+}

@@ -1,0 +1,124 @@
+ghost use Rattle.std.specs.Prelude.{◌≡◌, ◌++◌, fold, map, OnOk};
+ghost use Rattle.syntax.specs.Tree.{procedure_tree, statement_tree};
+ghost use Rattle.syntax.specs.Types.{at};
+ghost use Rattle.syntax.specs.declared.tree.Statement.{Assign, AssignElement};
+ghost use Rattle.syntax.specs.Typing.{assignment_rules, change_rules, element_assignment_rules, statement_violations, target_rules};
+ghost use Rattle.labels.specs.Sooner.{sooner};
+
+use crate::declarations::right_side;
+use crate::expressions::{expression, name};
+use crate::first::First;
+use crate::kinds::variable;
+use crate::nodes::element;
+use crate::types::{kind_of, label_of};
+use crate::values::{note_control, note_value};
+use names::Names;
+use std::alloc::{AllocError, Global};
+use syntax::{
+    Assignment, Declared, ElementAssignment, Label, Place, Procedure, Rule, ValueType,
+    VariableType, WordType,
+};
+
+/// Notes what a value violates that is put into a target. An array as a whole is none.
+fn note_target(first: &mut First, place: Place, target: ValueType, given: ValueType)
+    ensures { first.new.seen ≡ fold sooner first.old.seen (at place (target_rules target given)) }
+{
+    match target {
+        ValueType::Word(wanted) => {
+            note_value(first, place, wanted, given);
+        }
+        ValueType::Array(_) => first.note_if(true, place, Rule::WrongKind),
+        ValueType::Nothing => first.note_if(true, place, Rule::WrongKind),
+    }
+}
+
+/// Notes what may not be changed: what is immutable, and what is public under secret control.
+fn note_change(first: &mut First, place: Place, control: Label, mutable: bool, label: Label)
+    ensures { first.new.seen ≡ fold sooner first.old.seen (at place (change_rules control mutable label)) }
+{
+    first.note_if(!mutable, place, Rule::NotMutable);
+    note_control(first, place, control, label);
+}
+
+/// Notes what an assignment to a name violates, whose value has this type.
+fn note_assignment(
+    first: &mut First,
+    place: Place,
+    control: Label,
+    variable: Option<VariableType>,
+    given: Option<ValueType>,
+)
+    ensures { first.new.seen ≡ fold sooner first.old.seen (at place (assignment_rules control variable given)) }
+{
+    let (Some(variable), Some(given)) = (variable, given) else {
+        return;
+    };
+    note_target(first, place, variable.value, given);
+    note_change(
+        first,
+        place,
+        control,
+        variable.mutable,
+        label_of(variable.value),
+    );
+}
+
+/// An assignment to a name.
+pub fn assignment(
+    alloc: Global,
+    first: &mut First,
+    names: &Names<'_, Declared>,
+    earlier: &[Procedure<'_>],
+    control: Label,
+    assignment: &Assignment<'_>,
+) -> Result<(), AllocError>
+    ensures { OnOk result (first.new.seen ≡ fold sooner first.old.seen (statement_violations (map procedure_tree earlier.now) names.now control (statement_tree (Assign assignment.now)))) }
+{
+    let variable = variable(names.find(assignment.name));
+    first.note_if(variable.is_none(), assignment.target, Rule::UndeclaredName);
+    let given = right_side(alloc, first, names, earlier, control, &assignment.value)?;
+    note_assignment(first, assignment.place, control, variable, given);
+    Ok(())
+}
+
+/// Notes what an assignment to an element of this type violates, whose value has that one.
+fn note_element_assignment(
+    first: &mut First,
+    place: Place,
+    control: Label,
+    variable: Option<VariableType>,
+    element: Option<ValueType>,
+    given: Option<ValueType>,
+)
+    ensures { first.new.seen ≡ fold sooner first.old.seen (at place (element_assignment_rules control variable element given)) }
+{
+    let (Some(variable), Some(element), Some(given)) = (variable, element, given) else {
+        return;
+    };
+    let wanted = WordType {
+        kind: kind_of(element),
+        label: label_of(element),
+    };
+    note_value(first, place, wanted, given);
+    note_change(first, place, control, variable.mutable, label_of(element));
+}
+
+/// An assignment to an element.
+pub fn element_assignment(
+    alloc: Global,
+    first: &mut First,
+    names: &Names<'_, Declared>,
+    earlier: &[Procedure<'_>],
+    control: Label,
+    assignment: &ElementAssignment<'_>,
+) -> Result<(), AllocError>
+    ensures { OnOk result (first.new.seen ≡ fold sooner first.old.seen (statement_violations (map procedure_tree earlier.now) names.now control (statement_tree (AssignElement assignment.now)))) }
+{
+    let variable = variable(names.find(assignment.name));
+    let array = name(first, names, assignment.target, assignment.name);
+    let index = expression(first, names, &assignment.index);
+    let element = element(first, assignment.bracket, array, index);
+    let given = right_side(alloc, first, names, earlier, control, &assignment.value)?;
+    note_element_assignment(first, assignment.place, control, variable, element, given);
+    Ok(())
+}

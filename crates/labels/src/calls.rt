@@ -1,0 +1,93 @@
+ghost use Rattle.std.specs.Prelude.{◌≡◌, ◌++◌, None, Some, fold, length, map, IfOk, OnOk};
+ghost use Rattle.std.specs.Option.{option_map};
+ghost use Rattle.syntax.specs.Tree.{call_tree, expr_tree, parameter_tree, procedure_tree};
+ghost use Rattle.syntax.specs.Types.{are_met, at, unless, when};
+ghost use Rattle.syntax.specs.Typing.{arguments_rules, call_type, call_violations, called_one, result_value};
+ghost use Rattle.syntax.specs.declared.rule.Rule.TheVariants.{CallAssignsPublicUnderSecretControl};
+ghost use Rattle.labels.specs.Sooner.{sooner};
+
+use crate::arguments::note_all_passed;
+use crate::clashes::arrays_clash;
+use crate::expressions::expressions;
+use crate::first::First;
+use crate::kinds::{callee, is_secret};
+use names::Names;
+use std::alloc::{AllocError, Global};
+use syntax::{Call, Callee, Declared, Label, Parameter, Procedure, Rule, ValueType, WordType};
+
+/// What a procedure gives.
+fn result_value(of: Option<WordType>) -> ValueType
+    ensures { result ≡ result_value of }
+{
+    match of {
+        Some(word) => ValueType::Word(word),
+        None => ValueType::Nothing,
+    }
+}
+
+/// Notes what well-typed arguments violate, and says whether they violate nothing.
+fn note_arguments(
+    alloc: Global,
+    first: &mut First,
+    names: &Names<'_, Declared>,
+    parameters: &[Parameter<'_>],
+    types: &[ValueType],
+    call: &Call<'_>,
+) -> Result<bool, AllocError>
+    requires { length types.now ≡ length call.now.arguments.items }
+    ensures met { IfOk result (λ met. met ≡ are_met (arguments_rules names.now (map parameter_tree parameters.now) types.now (map expr_tree call.now.arguments.items))) }
+    ensures first { OnOk result (first.new.seen ≡ fold sooner first.old.seen (at call.now.place (arguments_rules names.now (map parameter_tree parameters.now) types.now (map expr_tree call.now.arguments.items)))) }
+{
+    let arguments = call.arguments.as_slice();
+    if arguments.len() != parameters.len() {
+        first.note_if(true, call.place, Rule::ArgumentCount);
+        return Ok(false);
+    }
+    let met = note_all_passed(first, names, call.place, parameters, types, arguments);
+    let clash = arrays_clash(alloc, parameters, types, arguments)?;
+    first.note_if(clash, call.place, Rule::ArrayPassedTwice);
+    Ok(met && !clash)
+}
+
+/// The earlier procedure that is called, with what is known of it.
+fn called<'p, 'a>(
+    earlier: &'p [Procedure<'a>],
+    what: Option<Callee>,
+) -> Option<(Callee, &'p Procedure<'a>)>
+    ensures { option_map (λ known. (known.0, procedure_tree known.1.now)) result ≡ called_one (map procedure_tree earlier.now) what }
+{
+    let callee = what?;
+    Some((callee, earlier.get(callee.number)?))
+}
+
+/// Notes what a call violates, and gives its type where it is well typed.
+pub fn call(
+    alloc: Global,
+    first: &mut First,
+    names: &Names<'_, Declared>,
+    earlier: &[Procedure<'_>],
+    control: Label,
+    call: &Call<'_>,
+) -> Result<Option<ValueType>, AllocError>
+    ensures typed { IfOk result (λ type. type ≡ call_type (map procedure_tree earlier.now) names.now control (call_tree call.now)) }
+    ensures first { OnOk result (first.new.seen ≡ fold sooner first.old.seen (call_violations (map procedure_tree earlier.now) names.now control (call_tree call.now))) }
+{
+    let arguments = call.arguments.as_slice();
+    let Some(types) = expressions(alloc, first, names, arguments)? else {
+        return Ok(None);
+    };
+    let Some((callee, procedure)) = called(earlier, callee(names.find(call.name))) else {
+        first.note_if(true, call.place, Rule::ProcedureNotDeclaredEarlier);
+        return Ok(None);
+    };
+    let parameters = procedure.parameters.as_slice();
+    let met = note_arguments(alloc, first, names, parameters, types.as_slice(), call)?;
+    let told = is_secret(control) && callee.assigns_public;
+    first.note_if(told, call.place, Rule::CallAssignsPublicUnderSecretControl);
+    let given = result_value(procedure.result);
+    if met && !told {
+        Ok(Some(given))
+    } else {
+        Ok(None)
+    }
+}

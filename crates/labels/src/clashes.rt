@@ -1,0 +1,69 @@
+ghost use Rattle.std.specs.Prelude.{◌≡◌, ◌&&◌, ◌||◌, [], is_some, true, length, map, IfOk, OnOk, if◌then◌else◌};
+ghost use Rattle.std.specs.Option.{option_map};
+ghost use Rattle.names.specs.Scope.{declared, found};
+ghost use Rattle.syntax.specs.Tree.{expr_tree, parameter_tree};
+ghost use Rattle.syntax.specs.Typing.{array_name, clashes, passed};
+
+use crate::kinds::is_mutable;
+use names::Names;
+use std::alloc::{AllocError, Global};
+use syntax::{Expr, Parameter, ValueType};
+
+/// The array that an argument is the bare name of.
+fn array_name<'a>(given: ValueType, argument: &Expr<'a>) -> Option<&'a str>
+    ensures { option_map (λ name. name.now) result ≡ array_name given (expr_tree argument.now) }
+{
+    match (given, argument) {
+        (ValueType::Array(_), Expr::Name(_, text)) => Some(text),
+        _ => None,
+    }
+}
+
+/// The arrays that the arguments of a call are, so far.
+#[derive(Drop)]
+struct Arrays<'a> {
+    /// All of them.
+    given: Names<'a, bool>,
+    /// Those that the called procedure may change.
+    changed: Names<'a, bool>,
+}
+
+impl<'a> Arrays<'a> {
+    /// One more array. Answers whether it was given before, and one of the two parameters may change it.
+    fn give(&mut self, name: &'a str, mutable: bool) -> Result<bool, AllocError>
+        ensures clash { IfOk result (λ clash. clash ≡ (is_some (found self.old.changed name.now) || (mutable && is_some (found self.old.given name.now)))) }
+        ensures given { OnOk result (self.new.given ≡ declared self.old.given name.now true) }
+        ensures changed { OnOk result (self.new.changed ≡ (if mutable then declared self.old.changed name.now true else self.old.changed)) }
+    {
+        let changed = self.changed.find(name).is_some();
+        let given = self.given.declare(name, true)?;
+        if mutable {
+            self.changed.declare(name, true)?;
+        }
+        Ok(changed || (mutable && given))
+    }
+}
+
+/// Whether one array is given twice and may be changed.
+pub fn arrays_clash(
+    alloc: Global,
+    parameters: &[Parameter<'_>],
+    types: &[ValueType],
+    arguments: &[Expr<'_>],
+) -> Result<bool, AllocError>
+    requires types { length types.now ≡ length parameters.now }
+    requires arguments { length arguments.now ≡ length parameters.now }
+    ensures { IfOk result (λ clash. clash ≡ clashes [] (passed (map parameter_tree parameters.now) types.now (map expr_tree arguments.now))) }
+{
+    let mut arrays = Arrays {
+        given: Names::new(alloc),
+        changed: Names::new(alloc),
+    };
+    let mut clash = false;
+    for (index, parameter) in parameters.iter().enumerate() {
+        if let Some(name) = array_name(types[index], &arguments[index]) {
+            clash |= arrays.give(name, is_mutable(parameter.form))?;
+        }
+    }
+    Ok(clash)
+}

@@ -1,0 +1,184 @@
+ghost use Rattle.std.specs.Prelude.{◌≡◌, ◌++◌, [], fold, is_some, map, OnOk, IfOk};
+ghost use Rattle.std.specs.Option.{option_map};
+ghost use Rattle.syntax.specs.ExprTyping.{exprs_violations, type_of, types_of};
+ghost use Rattle.syntax.specs.Tree.{procedure_tree, right_tree, statement_tree};
+ghost use Rattle.syntax.specs.declared.tree.Statement.{Declare, DeclareArray};
+ghost use Rattle.syntax.specs.Types.{at, found, of_all, of_one};
+ghost use Rattle.syntax.specs.Typing.{array_rules, count_rules, declaration_control_rules, declaration_rules, right_type, right_violations, scope_after, statement_violations, values_rules, written};
+ghost use Rattle.labels.specs.Sooner.{sooner};
+ghost use Rattle.labels.specs.Written.{values_tree};
+
+use crate::calls::call;
+use crate::expressions::{expression, expressions};
+use crate::first::First;
+use crate::types::word;
+use crate::values::{note_control, note_value};
+use names::Names;
+use std::alloc::{AllocError, Global};
+use syntax::{
+    ArrayDeclaration, ArrayType, Declaration, Declared, Expr, Label, Place, Procedure, RightSide,
+    Rule, ValueType, VariableType, WordType,
+};
+
+/// Notes what a right side violates, and gives its type where it is well typed.
+pub fn right_side(
+    alloc: Global,
+    first: &mut First,
+    names: &Names<'_, Declared>,
+    earlier: &[Procedure<'_>],
+    control: Label,
+    right: &RightSide<'_>,
+) -> Result<Option<ValueType>, AllocError>
+    ensures typed { IfOk result (λ type. type ≡ right_type (map procedure_tree earlier.now) names.now control (right_tree right.now)) }
+    ensures first { OnOk result (first.new.seen ≡ fold sooner first.old.seen (right_violations (map procedure_tree earlier.now) names.now control (right_tree right.now))) }
+{
+    match right {
+        RightSide::Call(it) => call(alloc, first, names, earlier, control, it),
+        RightSide::Value(expr) => Ok(expression(first, names, expr)),
+    }
+}
+
+/// Notes something public that is declared with `mut` under secret control.
+fn note_declared(first: &mut First, place: Place, control: Label, label: Label, mutable: bool)
+    ensures { first.new.seen ≡ fold sooner first.old.seen (at place (declaration_control_rules control label mutable)) }
+{
+    if mutable {
+        note_control(first, place, control, label);
+    }
+}
+
+/// Notes what a declaration violates, whose first value has this type.
+fn note_declaration(
+    first: &mut First,
+    control: Label,
+    taken: bool,
+    declaration: &Declaration<'_>,
+    given: Option<ValueType>,
+)
+    ensures { first.new.seen ≡ fold sooner first.old.seen (at declaration.now.place
+        (of_one [] (declaration_rules control taken declaration.now.label declaration.now.mutable declaration.now.kind) given)) }
+{
+    let Some(given) = given else {
+        return;
+    };
+    let (place, label) = (declaration.place, declaration.label);
+    let wanted = WordType {
+        kind: declaration.kind,
+        label,
+    };
+    first.note_if(taken, place, Rule::NameDeclaredTwice);
+    note_value(first, place, wanted, given);
+    note_declared(first, place, control, label, declaration.mutable);
+}
+
+/// A declaration of a word: its name is in scope from here on.
+pub fn declaration<'a>(
+    alloc: Global,
+    first: &mut First,
+    names: &mut Names<'a, Declared>,
+    earlier: &[Procedure<'a>],
+    control: Label,
+    declaration: &Declaration<'a>,
+) -> Result<(), AllocError>
+    ensures names { OnOk result (names.new ≡ scope_after names.old (statement_tree (Declare declaration.now))) }
+    ensures first { OnOk result (first.new.seen ≡ fold sooner first.old.seen (statement_violations (map procedure_tree earlier.now) names.old control (statement_tree (Declare declaration.now)))) }
+{
+    let given = right_side(alloc, first, names, earlier, control, &declaration.value)?;
+    let variable = VariableType {
+        value: word(declaration.kind, declaration.label),
+        mutable: declaration.mutable,
+    };
+    let taken = names.declare(declaration.name, Declared::Variable(variable))?;
+    note_declaration(first, control, taken, declaration, given);
+    Ok(())
+}
+
+/// Notes what an array's first values of these types violate.
+fn note_values(first: &mut First, place: Place, wanted: WordType, types: &[ValueType])
+    ensures { first.new.seen ≡ fold sooner first.old.seen (at place (values_rules wanted types.now)) }
+{
+    for given in types {
+        note_value(first, place, wanted, *given);
+    }
+}
+
+/// Notes first values that are not as many as the elements.
+fn note_count(first: &mut First, place: Place, length: u16, values: &Option<Vec<Expr<'_>>>)
+    ensures { first.new.seen ≡ fold sooner first.old.seen (at place (count_rules length (values_tree values.now))) }
+{
+    if let Some(values) = values {
+        let uneven = values.len() != usize::from(length);
+        first.note_if(uneven, place, Rule::InitialiserCount);
+    }
+}
+
+/// Notes what a declaration of an array violates, whose first values have these types.
+fn note_array(
+    first: &mut First,
+    control: Label,
+    taken: bool,
+    array: &ArrayDeclaration<'_>,
+    types: &[ValueType],
+)
+    ensures { first.new.seen ≡ fold sooner first.old.seen (at array.now.place (array_rules control taken array.now.label array.now.mutable array.now.kind array.now.length
+        (values_tree array.now.values) types.now)) }
+{
+    let (place, label) = (array.place, array.label);
+    let wanted = WordType {
+        kind: array.kind,
+        label,
+    };
+    first.note_if(taken, place, Rule::NameDeclaredTwice);
+    note_values(first, place, wanted, types);
+    note_count(first, place, array.length, &array.values);
+    note_declared(first, place, control, label, array.mutable);
+}
+
+/// Notes what an array's written values violate, and gives their types where all are well typed.
+fn written(
+    alloc: Global,
+    first: &mut First,
+    names: &Names<'_, Declared>,
+    values: &Option<Vec<Expr<'_>>>,
+) -> Result<Option<Vec<ValueType>>, AllocError>
+    ensures typed { IfOk result (λ types. option_map (λ given. given.items) types ≡ types_of names.now (written (values_tree values.now))) }
+    ensures first { OnOk result (first.new.seen ≡ fold sooner first.old.seen (exprs_violations names.now (written (values_tree values.now)))) }
+{
+    match values {
+        Some(values) => expressions(alloc, first, names, values.as_slice()),
+        None => Ok(Some(Vec::new(alloc))),
+    }
+}
+
+/// A declaration of an array: its name is in scope from here on.
+pub fn array<'a>(
+    alloc: Global,
+    first: &mut First,
+    names: &mut Names<'a, Declared>,
+    control: Label,
+    array: &ArrayDeclaration<'a>,
+) -> Result<(), AllocError>
+    ensures names { OnOk result (names.new ≡ scope_after names.old (statement_tree (DeclareArray array.now))) }
+    ensures first { OnOk result (first.new.seen ≡ fold sooner first.old.seen
+        (exprs_violations names.old (written (values_tree array.now.values))
+        ++ at array.now.place (of_all [] (array_rules control (is_some (found names.old array.now.name.now)) array.now.label array.now.mutable array.now.kind array.now.length (values_tree array.now.values))
+        (types_of names.old (written (values_tree array.now.values)))))) }
+{
+    let types = written(alloc, first, names, &array.values)?;
+    let element = WordType {
+        kind: array.kind,
+        label: array.label,
+    };
+    let variable = VariableType {
+        value: ValueType::Array(ArrayType {
+            element,
+            length: array.length,
+        }),
+        mutable: array.mutable,
+    };
+    let taken = names.declare(array.name, Declared::Variable(variable))?;
+    if let Some(types) = types {
+        note_array(first, control, taken, array, types.as_slice());
+    }
+    Ok(())
+}

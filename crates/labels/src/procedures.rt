@@ -1,0 +1,106 @@
+ghost use Rattle.std.specs.Prelude.{◌≡◌, [], fold, length, map, OnOk};
+ghost use Rattle.std.specs.Option.{option_map};
+ghost use Rattle.syntax.specs.Tree.{parameter_tree, procedure_tree, return_tree};
+ghost use Rattle.syntax.specs.Types.{at, of_one};
+ghost use Rattle.syntax.specs.Typing.{parameter_violations, procedure_rules, procedure_violations, return_rules, return_violations, with_parameters, with_procedure};
+ghost use Rattle.labels.specs.Sooner.{sooner};
+
+use crate::arguments::parameter_value;
+use crate::effects::assigns_public;
+use crate::expressions::expression;
+use crate::first::First;
+use crate::kinds::is_mutable;
+use crate::statements::statements;
+use crate::values::note_value;
+use names::Names;
+use std::alloc::{AllocError, Global};
+use syntax::{
+    Callee, Declared, Label, Parameter, Place, Procedure, Return, Rule, ValueType, VariableType,
+    WordType,
+};
+
+/// Declares the parameters, and notes the names that are taken.
+fn parameters<'a>(
+    first: &mut First,
+    names: &mut Names<'a, Declared>,
+    parameters: &[Parameter<'a>],
+) -> Result<(), AllocError>
+    ensures names { OnOk result (names.new ≡ with_parameters names.old (map parameter_tree parameters.now)) }
+    ensures first { OnOk result (first.new.seen ≡ fold sooner first.old.seen (parameter_violations names.old (map parameter_tree parameters.now))) }
+{
+    for parameter in parameters {
+        let variable = VariableType {
+            value: parameter_value(parameter),
+            mutable: is_mutable(parameter.form),
+        };
+        let taken = names.declare(parameter.name, Declared::Variable(variable))?;
+        first.note_if(taken, parameter.place, Rule::NameDeclaredTwice);
+    }
+    Ok(())
+}
+
+/// Notes what a `return` violates whose value has this type.
+fn note_return(first: &mut First, place: Place, wanted: Option<WordType>, given: Option<ValueType>)
+    ensures { first.new.seen ≡ fold sooner first.old.seen (at place (of_one [] (return_rules wanted) given)) }
+{
+    let Some(given) = given else {
+        return;
+    };
+    match wanted {
+        Some(wanted) => {
+            note_value(first, place, wanted, given);
+        }
+        None => first.note_if(true, place, Rule::ReturnMismatch),
+    }
+}
+
+/// The `return` of a procedure with this type of result.
+fn returned(
+    first: &mut First,
+    names: &Names<'_, Declared>,
+    wanted: Option<WordType>,
+    returned: &Option<Return<'_>>,
+)
+    ensures { first.new.seen ≡ fold sooner first.old.seen (return_violations names.now wanted (option_map return_tree returned.now)) }
+{
+    if let Some(it) = returned {
+        let given = expression(first, names, &it.value);
+        note_return(first, it.place, wanted, given);
+    }
+}
+
+/// Notes what a procedure violates at its name.
+fn note_procedure(first: &mut First, taken: bool, procedure: &Procedure<'_>)
+    ensures { first.new.seen ≡ fold sooner first.old.seen (at procedure.now.place (procedure_rules taken procedure.now.result (option_map return_tree procedure.now.returned))) }
+{
+    let lacking = procedure.result.is_some() && procedure.returned.is_none();
+    first.note_if(taken, procedure.place, Rule::NameDeclaredTwice);
+    first.note_if(lacking, procedure.place, Rule::ReturnMismatch);
+}
+
+/// A procedure after the earlier ones: its name is in scope from here on, and what it declares is its
+/// own.
+pub fn procedure<'a>(
+    alloc: Global,
+    first: &mut First,
+    names: &mut Names<'a, Declared>,
+    earlier: &[Procedure<'a>],
+    procedure: &Procedure<'a>,
+) -> Result<(), AllocError>
+    ensures names { OnOk result (names.new ≡ with_procedure names.old (length earlier.now) (procedure_tree procedure.now)) }
+    ensures first { OnOk result (first.new.seen ≡ fold sooner first.old.seen (procedure_violations (map procedure_tree earlier.now) names.old (procedure_tree procedure.now))) }
+{
+    let callee = Callee {
+        number: earlier.len(),
+        assigns_public: assigns_public(names, procedure),
+    };
+    let taken = names.declare(procedure.name, Declared::Procedure(callee))?;
+    let outside = names.len();
+    note_procedure(first, taken, procedure);
+    parameters(first, names, procedure.parameters.as_slice())?;
+    let body = procedure.body.as_slice();
+    statements(alloc, first, names, earlier, Label::Public, body)?;
+    returned(first, names, procedure.result, &procedure.returned);
+    names.truncate(outside);
+    Ok(())
+}

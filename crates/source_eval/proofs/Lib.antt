@@ -1,0 +1,10 @@
+pub mod Rows
+pub mod RunEnds
+pub mod KnownProcedures
+pub mod WorkedOut
+pub mod EarlierCalls
+pub mod ValuesHad
+pub mod EndsHad
+pub mod TypedExpressions
+pub mod NamedCalls
+pub mod OneEnd

@@ -1,0 +1,17 @@
+-- A program that violates no rule comes to exactly one end.
+use Rattle.std.proofs.Common.{◌≡◌, List, length, sym}
+use Rattle.syntax.specs.declared.values.Arg.{Arg}
+use Rattle.syntax.specs.Evaluation.{program_run}
+use Rattle.syntax.specs.Meaning.{Ending, Gives}
+use Rattle.syntax.specs.Results.{Results}
+use Rattle.syntax.specs.Tree.{ProgramTree}
+use Rattle.syntax.specs.Typing.{violations}
+use Rattle.source_eval.proofs.EndsHad.{program-had}
+use Rattle.source_eval.proofs.NamedCalls.{one-exported, all-call-earlier}
+use Rattle.source_eval.proofs.WorkedOut.{worked-out}
+
+pub end-had : (program : ProgramTree) (args : List Arg) → length (violations program) ≡ 0 → Gives program args (program_run program args).ends
+end-had program args none = let export = one-exported program none in program-had program args export.0 export.1 (all-call-earlier program none)
+
+pub exactly-one : (program : ProgramTree) (args : List Arg) → length (violations program) ≡ 0 → (ending : Ending Results) × Gives program args ending × ((other : Ending Results) → Gives program args other → other ≡ ending)
+exactly-one program args none = ((program_run program args).ends, end-had program args none, λ other d. sym (worked-out program args other d))

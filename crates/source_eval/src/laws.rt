@@ -1,0 +1,23 @@
+// The laws, which join the two forms of the meaning: its rules, and the function that works it out.
+
+ghost use Rattle.std.specs.Prelude.{◌≡◌, List, length};
+ghost use Rattle.syntax.specs.declared.values.Arg.{Arg};
+ghost use Rattle.syntax.specs.Evaluation.{program_run};
+ghost use Rattle.syntax.specs.Meaning.{Ending, Gives};
+ghost use Rattle.syntax.specs.Results.{Results};
+ghost use Rattle.syntax.specs.Tree.{ProgramTree};
+ghost use Rattle.syntax.specs.Typing.{violations};
+
+/// Whatever end the rules give a program, it is the one that is worked out.
+pub fn meaning_is_worked_out()
+    ensures { (program : ProgramTree) (args : List Arg) (ending : Ending Results) → Gives program args ending → (program_run program args).ends ≡ ending }
+{}
+
+/// A program that violates no rule comes to an end on any arguments, and to one alone: the one that is worked out.
+/// The arguments need not be within its parameter types, since each look-up has an answer: a name that holds no word
+/// reads as 0, and an element of what is no array is a fault.
+pub fn meaning_can_be_had()
+    ensures derivable { (program : ProgramTree) (args : List Arg) → length (violations program) ≡ 0 → Gives program args (program_run program args).ends }
+    ensures exactly_one { (program : ProgramTree) (args : List Arg) → length (violations program) ≡ 0
+        → (ending : Ending Results) × Gives program args ending × ((other : Ending Results) → Gives program args other → other ≡ ending) }
+{}

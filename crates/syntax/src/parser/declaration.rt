@@ -1,0 +1,169 @@
+ghost use Rattle.std.specs.Prelude.{◌≡◌, ◌≤◌, ◌<◌, List, Option, OnOk, length, map};
+ghost use Rattle.std.specs.Option.{option_map};
+ghost use Rattle.syntax.specs.Lexeme.{lexeme};
+ghost use Rattle.syntax.specs.Machine.{State, first_values, declared_array, declared_word, declared_as, declared as declared_state, assigned, element_assigned, called_alone, targeted as targeted_state};
+ghost use Rattle.syntax.specs.ParserViews.{Leads};
+ghost use Rattle.syntax.specs.Tree.{ExprTree, StatementTree, expr_tree, statement_tree};
+
+use super::wanted::Wanted;
+use super::{Fault, Parser};
+use crate::{
+    ArrayDeclaration, Assignment, Declaration, ElementAssignment, Expr, Kind, Label, Place,
+    Statement, Token,
+};
+
+impl<'t, 'a> Parser<'t, 'a> {
+    /// The first values of an array, where they are written.
+    fn first_values(&mut self) -> Result<Option<Vec<Expr<'a>>>, Fault>
+        ensures leads { (k : Option (List ExprTree) → State)
+            → Leads (first_values k) (λ vs. k (option_map (λ values. map expr_tree values.items) vs)) result self.old self.new }
+        ensures shorter { OnOk result (length self.new.rest.now ≤ length self.old.rest.now) }
+    {
+        if self.takes(Wanted::Assign)?.is_none() {
+            return Ok(None);
+        }
+        self.expect(Wanted::OpenCurly)?;
+        let values = self.expressions(Wanted::CloseCurly)?;
+        Ok(Some(values))
+    }
+
+    /// A declaration of an array, after its type.
+    fn declared_array(
+        &mut self,
+        label: Label,
+        mutable: bool,
+        kind: Kind,
+        words: u16,
+    ) -> Result<Statement<'a>, Fault>
+        ensures leads { (k : StatementTree → State)
+            → Leads (declared_array label mutable kind words k) (λ s. k (statement_tree s)) result self.old self.new }
+        ensures shorter { OnOk result (length self.new.rest.now ≤ length self.old.rest.now) }
+    {
+        let name = self.expect(Wanted::Name)?;
+        let values = self.first_values()?;
+        self.expect(Wanted::Semicolon)?;
+        Ok(Statement::DeclareArray(ArrayDeclaration {
+            label,
+            mutable,
+            kind,
+            length: words,
+            place: name.place,
+            name: name.text,
+            values,
+        }))
+    }
+
+    /// A declaration of a word, after its type.
+    fn declared_word(
+        &mut self,
+        label: Label,
+        mutable: bool,
+        kind: Kind,
+    ) -> Result<Statement<'a>, Fault>
+        ensures leads { (k : StatementTree → State)
+            → Leads (declared_word label mutable kind k) (λ s. k (statement_tree s)) result self.old self.new }
+        ensures shorter { OnOk result (length self.new.rest.now ≤ length self.old.rest.now) }
+    {
+        let name = self.expect(Wanted::Name)?;
+        self.expect(Wanted::Assign)?;
+        let value = self.right_end()?;
+        Ok(Statement::Declare(Declaration {
+            label,
+            mutable,
+            kind,
+            place: name.place,
+            name: name.text,
+            value,
+        }))
+    }
+
+    /// A declaration, after its label and `mut`.
+    fn declared_as(&mut self, label: Label, mutable: bool) -> Result<Statement<'a>, Fault>
+        ensures leads { (k : StatementTree → State)
+            → Leads (declared_as label mutable k) (λ s. k (statement_tree s)) result self.old self.new }
+        ensures shorter { OnOk result (length self.new.rest.now ≤ length self.old.rest.now) }
+    {
+        let kind = self.kind()?;
+        match self.takes(Wanted::OpenSquare)? {
+            Some(_) => {
+                let length = self.length()?;
+                self.declared_array(label, mutable, kind, length)
+            }
+            None => self.declared_word(label, mutable, kind),
+        }
+    }
+
+    /// A declaration, after its label.
+    pub fn declared(&mut self, label: Label) -> Result<Statement<'a>, Fault>
+        ensures leads { (k : StatementTree → State)
+            → Leads (declared_state label k) (λ s. k (statement_tree s)) result self.old self.new }
+        ensures shorter { OnOk result (length self.new.rest.now ≤ length self.old.rest.now) }
+    {
+        match self.takes(Wanted::Mut)? {
+            Some(_) => self.declared_as(label, true),
+            None => self.declared_as(label, false),
+        }
+    }
+
+    /// An assignment, after its name and `=`.
+    fn assigned(&mut self, name: Token<'a>, place: Place) -> Result<Statement<'a>, Fault>
+        ensures leads { (k : StatementTree → State)
+            → Leads (assigned (lexeme name.entry) place k) (λ s. k (statement_tree s)) result self.old self.new }
+        ensures shorter { OnOk result (length self.new.rest.now ≤ length self.old.rest.now) }
+    {
+        let value = self.right_end()?;
+        Ok(Statement::Assign(Assignment {
+            place,
+            target: name.place,
+            name: name.text,
+            value,
+        }))
+    }
+
+    /// An assignment to an element, after its name and `[`.
+    fn element_assigned(&mut self, name: Token<'a>, bracket: Place) -> Result<Statement<'a>, Fault>
+        ensures leads { (k : StatementTree → State)
+            → Leads (element_assigned (lexeme name.entry) bracket k) (λ s. k (statement_tree s)) result self.old self.new }
+        ensures shorter { OnOk result (length self.new.rest.now ≤ length self.old.rest.now) }
+    {
+        let index = self.expression(1)?;
+        self.expect(Wanted::CloseSquare)?;
+        let sign = self.expect(Wanted::Assign)?;
+        let value = self.right_end()?;
+        Ok(Statement::AssignElement(ElementAssignment {
+            place: sign.place,
+            bracket,
+            target: name.place,
+            name: name.text,
+            index,
+            value,
+        }))
+    }
+
+    /// A call as a statement, after its name.
+    fn called_alone(&mut self, name: Token<'a>) -> Result<Statement<'a>, Fault>
+        ensures leads { (k : StatementTree → State)
+            → Leads (called_alone (lexeme name.entry) k) (λ s. k (statement_tree s)) result self.old self.new }
+        ensures shorter { OnOk result (length self.new.rest.now ≤ length self.old.rest.now) }
+    {
+        self.expect(Wanted::OpenRound)?;
+        let call = self.call(name)?;
+        self.expect(Wanted::Semicolon)?;
+        Ok(Statement::Call(call))
+    }
+
+    /// A statement that begins with a name, after the name.
+    pub fn targeted(&mut self, name: Token<'a>) -> Result<Statement<'a>, Fault>
+        ensures leads { (k : StatementTree → State)
+            → Leads (targeted_state (lexeme name.entry) k) (λ s. k (statement_tree s)) result self.old self.new }
+        ensures shorter { OnOk result (length self.new.rest.now ≤ length self.old.rest.now) }
+    {
+        if let Some(sign) = self.takes(Wanted::Assign)? {
+            return self.assigned(name, sign.place);
+        }
+        match self.takes(Wanted::OpenSquare)? {
+            Some(opening) => self.element_assigned(name, opening.place),
+            None => self.called_alone(name),
+        }
+    }
+}

@@ -1,0 +1,89 @@
+ghost use Rattle.std.specs.Prelude.{◌≡◌, ◌≤◌, ◌<◌, List, OnOk, length, map};
+ghost use Rattle.syntax.specs.Lexeme.{lexeme};
+ghost use Rattle.syntax.specs.Machine.{State, some_exprs, arguments as arguments_state, call_of, right_from, right as right_state, right_end as right_end_state};
+ghost use Rattle.syntax.specs.ParserViews.{Leads};
+ghost use Rattle.syntax.specs.Tree.{ExprTree, CallTree, RightTree, expr_tree, call_tree, right_tree};
+
+use super::wanted::Wanted;
+use super::{Fault, Parser};
+use crate::{Call, Expr, RightSide, Token};
+
+impl<'t, 'a> Parser<'t, 'a> {
+    /// Expressions, each but the first after a comma, and the token that ends them.
+    pub fn expressions(&mut self, end: Wanted) -> Result<Vec<Expr<'a>>, Fault>
+        ensures leads { (k : List ExprTree → State)
+            → Leads (some_exprs end k) (λ es. k (map expr_tree es.items)) result self.old self.new }
+        ensures shorter { OnOk result (length self.new.rest.now < length self.old.rest.now) }
+    {
+        let mut expressions = Vec::new(self.alloc);
+        expressions.push(self.expression(1)?)?;
+        while self.takes(Wanted::Comma)?.is_some() {
+            expressions.push(self.expression(1)?)?;
+        }
+        self.expect(end)?;
+        Ok(expressions)
+    }
+
+    /// Arguments, after their opening bracket, and the closing one.
+    fn arguments(&mut self) -> Result<Vec<Expr<'a>>, Fault>
+        ensures leads { (k : List ExprTree → State)
+            → Leads (arguments_state k) (λ es. k (map expr_tree es.items)) result self.old self.new }
+        ensures shorter { OnOk result (length self.new.rest.now < length self.old.rest.now) }
+    {
+        match self.takes(Wanted::CloseRound)? {
+            Some(_) => Ok(Vec::new(self.alloc)),
+            None => self.expressions(Wanted::CloseRound),
+        }
+    }
+
+    /// A call, after its opening bracket.
+    pub fn call(&mut self, name: Token<'a>) -> Result<Call<'a>, Fault>
+        ensures leads { (k : CallTree → State)
+            → Leads (call_of (lexeme name.entry) k) (λ c. k (call_tree c)) result self.old self.new }
+        ensures shorter { OnOk result (length self.new.rest.now < length self.old.rest.now) }
+    {
+        let arguments = self.arguments()?;
+        Ok(Call {
+            place: name.place,
+            name: name.text,
+            arguments,
+        })
+    }
+
+    /// A right side that begins with a name, after the name.
+    fn right_side_from(&mut self, name: Token<'a>) -> Result<RightSide<'a>, Fault>
+        ensures leads { (k : RightTree → State)
+            → Leads (right_from (lexeme name.entry) k) (λ r. k (right_tree r)) result self.old self.new }
+        ensures shorter { OnOk result (length self.new.rest.now ≤ length self.old.rest.now) }
+    {
+        match self.takes(Wanted::OpenRound)? {
+            Some(_) => Ok(RightSide::Call(self.call(name)?)),
+            None => {
+                let first = self.named(name)?;
+                Ok(RightSide::Value(self.further(1, first)?))
+            }
+        }
+    }
+
+    fn right_side(&mut self) -> Result<RightSide<'a>, Fault>
+        ensures leads { (k : RightTree → State)
+            → Leads (right_state k) (λ r. k (right_tree r)) result self.old self.new }
+        ensures shorter { OnOk result (length self.new.rest.now < length self.old.rest.now) }
+    {
+        match self.takes(Wanted::Name)? {
+            Some(name) => self.right_side_from(name),
+            None => Ok(RightSide::Value(self.expression(1)?)),
+        }
+    }
+
+    /// A right side, after its `=`, and the semicolon.
+    pub fn right_end(&mut self) -> Result<RightSide<'a>, Fault>
+        ensures leads { (k : RightTree → State)
+            → Leads (right_end_state k) (λ r. k (right_tree r)) result self.old self.new }
+        ensures shorter { OnOk result (length self.new.rest.now < length self.old.rest.now) }
+    {
+        let right_side = self.right_side()?;
+        self.expect(Wanted::Semicolon)?;
+        Ok(right_side)
+    }
+}

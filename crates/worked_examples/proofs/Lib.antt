@@ -1,0 +1,4 @@
+pub mod Exports
+pub mod WorkedTrees
+pub mod WorkedTyping
+pub mod WorkedMeaning

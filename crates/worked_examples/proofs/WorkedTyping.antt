@@ -1,0 +1,46 @@
+-- What worked programs violate, computed on the definitions.
+use Rattle.std.proofs.Common.{◌≡◌, [], ◌∷◌, refl}
+use Rattle.word.specs.declared.place.Place.{Place}
+use Rattle.syntax.specs.declared.rule.Rule.{Rule}
+use Rattle.syntax.specs.declared.rule.Rule.TheVariants.{NotExactlyOneExport, WidthsDiffer, LiteralOutOfRange, ArrayPassedTwice, PublicAssignedUnderSecretControl, SecretDivisionOperand, CallAssignsPublicUnderSecretControl}
+use Rattle.syntax.specs.declared.signature.Kind.TheVariants.{Uint8}
+use Rattle.syntax.specs.Tree.{ProgramTree, number}
+use Rattle.syntax.specs.Typing.{violations}
+use Rattle.worked_examples.proofs.WorkedTrees.{on, at, plain, program, adds, condition_changes, element_under_both, no_turns, public_under_secret, call_under_secret, divides_secret, divides_public, divides_by_three, array_given_twice, nested_arms, sums_under_secret}
+
+-- it violates one rule, at one place
+abbrev Violates : ProgramTree → Place → Rule → Type 0
+Violates p place rule = violations p ≡ record { place = place; rule = rule } ∷ []
+
+abbrev IsWellTyped : ProgramTree → Type 0
+IsWellTyped p = violations p ≡ []
+
+no_export : Violates (program []) (at 1) NotExactlyOneExport
+no_export = refl
+
+one_added : IsWellTyped (adds (plain (at 54) 1))
+one_added = refl
+
+too_large_added : Violates (adds (number (at 54) 256 Uint8)) (at 54) LiteralOutOfRange
+too_large_added = refl
+
+narrow_added : Violates (adds (number (at 54) 1 Uint8)) (at 52) WidthsDiffer
+narrow_added = refl
+
+well_typed : IsWellTyped condition_changes × IsWellTyped element_under_both × IsWellTyped no_turns × IsWellTyped nested_arms × IsWellTyped sums_under_secret
+well_typed = (refl, refl, refl, refl, refl)
+
+public_assigned : Violates public_under_secret (on 65 3 12) PublicAssignedUnderSecretControl
+public_assigned = refl
+
+public_assigned_by_call : Violates call_under_secret (on 99 3 10) CallAssignsPublicUnderSecretControl
+public_assigned_by_call = refl
+
+secret_divided : Violates divides_secret (on 59 2 10) SecretDivisionOperand
+secret_divided = refl
+
+public_divided : IsWellTyped divides_public × IsWellTyped divides_by_three
+public_divided = (refl, refl)
+
+given_twice : Violates array_given_twice (on 108 3 1) ArrayPassedTwice
+given_twice = refl
