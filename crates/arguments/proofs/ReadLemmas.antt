@@ -6,13 +6,13 @@ use Rattle.std.proofs.lemmas.List.{length-map, take_more, map-append, append-nil
 use Rattle.std.proofs.lemmas.List.Elements.{filter_map-append}
 use Rattle.std.proofs.lemmas.Bool.{false≢true}
 use Rattle.std.proofs.lemmas.Bool.Decides.{Decides-eqb, Decides-ltb, Decides-like, same_from_decides, nat_tests}
-use Rattle.syntax.specs.declared.signature.Form.{Form}
-use Rattle.syntax.specs.declared.signature.Form.TheVariants.{SingleWord, FixedArray, MutableArray}
-use Rattle.syntax.specs.declared.signature.Kind.{Kind}
-use Rattle.syntax.specs.declared.signature.Kind.TheVariants.{Boolean, Uint8, Uint16, Uint32}
-use Rattle.syntax.specs.declared.signature.Param.{Param}
-use Rattle.syntax.specs.declared.values.Arg.{Arg}
-use Rattle.syntax.specs.declared.values.Arg.TheVariants.{Word, Array}
+use Rattle.language.specs.declared.signature.Form.{Form}
+use Rattle.language.specs.declared.signature.Form.TheVariants.{SingleWord, FixedArray, MutableArray}
+use Rattle.language.specs.declared.signature.Kind.{Kind}
+use Rattle.language.specs.declared.signature.Kind.TheVariants.{Boolean, Uint8, Uint16, Uint32}
+use Rattle.language.specs.declared.signature.Param.{Param}
+use Rattle.language.specs.declared.values.Arg.{Arg}
+use Rattle.language.specs.declared.values.Arg.TheVariants.{Word, Array}
 use Rattle.arguments.specs.Within.{greatest_of, words_of, HasShape, IsWithin, AreWithin}
 use Rattle.arguments.specs.Faults.{fault_at, fault_from, fault_by, count_fault}
 use Rattle.arguments.specs.Texts.{number_of, each_number, word_of, count_of, rule_of_numbers}

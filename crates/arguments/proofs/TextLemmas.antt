@@ -4,7 +4,7 @@ use Rattle.std.specs.List.{list_all}
 use Rattle.std.specs.Option.{option_map, option_and_then}
 use Rattle.std.proofs.lemmas.Bool.{false≢true}
 use Rattle.std.proofs.lemmas.Bool.Decides.{Decides-eqb, Decides-like, same_from_decides, nat_tests}
-use Rattle.syntax.specs.declared.signature.Param.{Param}
+use Rattle.language.specs.declared.signature.Param.{Param}
 use Rattle.arguments.specs.Within.{greatest_of}
 use Rattle.arguments.specs.Faults.{rule_of_words}
 use Rattle.arguments.specs.Texts.{number_of, each_number, count_of, rule_of_numbers}

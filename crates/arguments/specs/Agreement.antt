@@ -1,9 +1,9 @@
 -- Argument lists that an observer is allowed to tell apart by nothing.
 use Rattle.std.specs.Prelude.{◌≡◌, List, [], ◌∷◌}
 use Rattle.arguments.specs.Within.{AreWithin}
-use Rattle.syntax.specs.declared.signature.Label.TheVariants.{Public}
-use Rattle.syntax.specs.declared.signature.Param.{Param}
-use Rattle.syntax.specs.declared.values.Arg.{Arg}
+use Rattle.language.specs.declared.signature.Label.TheVariants.{Public}
+use Rattle.language.specs.declared.signature.Param.{Param}
+use Rattle.language.specs.declared.values.Arg.{Arg}
 
 -- they are equal at each public parameter
 abbrev pub EqualWherePublic : List Param → List Arg → List Arg → Type 0

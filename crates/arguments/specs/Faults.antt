@@ -2,12 +2,12 @@
 -- shape before its values.
 use Rattle.std.specs.Prelude.{ℕ, ◌+◌, Bool, true, false, if◌then◌else◌, nat_le, ◌==◌, List, [], ◌∷◌, length, Option, Some, None}
 use Rattle.std.specs.List.{list_all}
-use Rattle.syntax.specs.declared.signature.Form.{Form}
-use Rattle.syntax.specs.declared.signature.Form.TheVariants.{SingleWord, FixedArray, MutableArray}
-use Rattle.syntax.specs.declared.signature.Kind.{Kind}
-use Rattle.syntax.specs.declared.signature.Param.{Param}
-use Rattle.syntax.specs.declared.values.Arg.{Arg}
-use Rattle.syntax.specs.declared.values.Arg.TheVariants.{Word, Array}
+use Rattle.language.specs.declared.signature.Form.{Form}
+use Rattle.language.specs.declared.signature.Form.TheVariants.{SingleWord, FixedArray, MutableArray}
+use Rattle.language.specs.declared.signature.Kind.{Kind}
+use Rattle.language.specs.declared.signature.Param.{Param}
+use Rattle.language.specs.declared.values.Arg.{Arg}
+use Rattle.language.specs.declared.values.Arg.TheVariants.{Word, Array}
 use Rattle.arguments.specs.Within.{greatest_of, words_of}
 use Rattle.arguments.specs.declared.fault.ArgumentFault.{ArgumentFault}
 use Rattle.arguments.specs.declared.fault.ArgumentRule.{ArgumentRule}

@@ -4,9 +4,9 @@ use Rattle.std.specs.Prelude.{ℕ, ◌+◌, ◌*◌, ◌^◌, if◌then◌else�
 use Rattle.std.specs.Char.{digit_value}
 use Rattle.std.specs.List.{slice_split, starts_with}
 use Rattle.std.specs.Option.{option_map, option_and_then}
-use Rattle.syntax.specs.declared.signature.Form.{Form}
-use Rattle.syntax.specs.declared.signature.Form.TheVariants.{SingleWord, FixedArray, MutableArray}
-use Rattle.syntax.specs.declared.signature.Param.{Param}
+use Rattle.language.specs.declared.signature.Form.{Form}
+use Rattle.language.specs.declared.signature.Form.TheVariants.{SingleWord, FixedArray, MutableArray}
+use Rattle.language.specs.declared.signature.Param.{Param}
 use Rattle.arguments.specs.Faults.{fault_by, rule_of_words}
 use Rattle.arguments.specs.declared.fault.ArgumentFault.{ArgumentFault}
 use Rattle.arguments.specs.declared.fault.ArgumentRule.{ArgumentRule}

@@ -3,7 +3,7 @@ ghost use Rattle.arguments.specs.Faults.{fault_of, rule_of, rule_of_words};
 ghost use Rattle.arguments.specs.Within.{AreWithin, greatest_of};
 
 use crate::{ArgumentFault, ArgumentRule};
-use syntax::{Arg, Args, Form, Kind, Param};
+use language::{Arg, Args, Form, Kind, Param};
 
 /// The greatest value that a word of a kind has.
 pub(crate) fn greatest(kind: Kind) -> u32

@@ -3,8 +3,8 @@
 ghost use Rattle.std.specs.Prelude.{◌≡◌, ◌↔◌, List, length, None};
 ghost use Rattle.arguments.specs.Faults.{fault_of};
 ghost use Rattle.arguments.specs.Within.{AreWithin};
-ghost use Rattle.syntax.specs.declared.signature.Param.{Param};
-ghost use Rattle.syntax.specs.declared.values.Arg.{Arg};
+ghost use Rattle.language.specs.declared.signature.Param.{Param};
+ghost use Rattle.language.specs.declared.values.Arg.{Arg};
 
 /// Arguments that are within the parameter types are those that have no fault, and there is one for
 /// each parameter.

@@ -8,9 +8,9 @@ ghost use Rattle.arguments.specs.declared.texts.ReadError.TheVariants.{Memory};
 use crate::bounds::greatest;
 use crate::numerals::number;
 use crate::{ArgumentFault, ArgumentRule};
+use language::{Arg, Args, Form, Numbers, Param};
 use std::alloc::{AllocError, AllocFailed, Global};
 use std::fmt;
-use syntax::{Arg, Args, Form, Numbers, Param};
 
 /// Why texts give no arguments.
 #[derive(Clone, Copy, Debug, PartialEq, Eq)]

@@ -5,8 +5,8 @@ use Rattle.word.specs.Operators.{rotated_left, converted}
 use Rattle.inline.specs.Flat.{TermTree, number, truth, variable, prefix, binary, rotate, convert, select}
 use Rattle.inline.specs.FlatMeaning.{Values, with_value, value_in}
 use Rattle.inline.specs.FlatTyping.{Types, with_type, HasType, IsResult}
-use Rattle.syntax.specs.declared.typing.WordType.{WordType}
-use Rattle.syntax.specs.Operators.{operated, prefix_value, width_of}
+use Rattle.language.specs.declared.typing.WordType.{WordType}
+use Rattle.language.specs.Operators.{operated, prefix_value, width_of}
 
 -- two states agree on the variables in scope
 pub record Agree (types : Types) (m n : Values) : Type 0 where

@@ -2,8 +2,8 @@
 use Rattle.std.proofs.Common.{ℕ, ◌+◌, ◌<◌, ◌≤◌, length, max, arith}
 use Rattle.std.proofs.Math.Nat.{max-le}
 use Rattle.inline.specs.Numbering.{Numbers, statement, block, names_after, flattened, parameter_names}
-use Rattle.syntax.specs.Size.{nodes_in, statement_nodes, block_nodes, statement_words, block_words, nodes_of}
-use Rattle.syntax.specs.Tree.{ExprTree, number, truth, name, prefix, binary, rotate, convert, select, element, StatementTree, declaration, array, assignment, element_assignment, call, conditional, loop, BlockTree, nothing, first, ProcedureTree}
+use Rattle.language.specs.Size.{nodes_in, statement_nodes, block_nodes, statement_words, block_words, nodes_of}
+use Rattle.language.specs.Tree.{ExprTree, number, truth, name, prefix, binary, rotate, convert, select, element, StatementTree, declaration, array, assignment, element_assignment, call, conditional, loop, BlockTree, nothing, first, ProcedureTree}
 use Rattle.branch_removal.specs.Removal.{controls_in, controls_in_all}
 
 some_node : (e : ExprTree) → 0 < nodes_in e

@@ -6,14 +6,14 @@ use Rattle.inline.specs.Fitting.{Fits, IsWithinKind}
 use Rattle.inline.specs.Flat.{TermTree, number, truth, variable, prefix, binary, rotate, convert, select}
 use Rattle.inline.specs.FlatMeaning.{Values, with_value, value_in}
 use Rattle.inline.specs.FlatTyping.{Types, with_type, HasType, IsResult, Suits}
-use Rattle.syntax.specs.declared.rule.Rule.{Rule}
-use Rattle.syntax.specs.declared.signature.Kind.{Kind}
-use Rattle.syntax.specs.declared.signature.Kind.TheVariants.{Boolean, Uint8, Uint16, Uint32}
-use Rattle.syntax.specs.declared.typing.ValueType.{ValueType}
-use Rattle.syntax.specs.declared.typing.ValueType.TheVariants.{Word}
-use Rattle.syntax.specs.declared.typing.WordType.{WordType}
-use Rattle.syntax.specs.ExprTyping.{select_type}
-use Rattle.syntax.specs.Types.{is_number, are_alike, widths_differ, when, unless}
+use Rattle.language.specs.declared.rule.Rule.{Rule}
+use Rattle.language.specs.declared.signature.Kind.{Kind}
+use Rattle.language.specs.declared.signature.Kind.TheVariants.{Boolean, Uint8, Uint16, Uint32}
+use Rattle.language.specs.declared.typing.ValueType.{ValueType}
+use Rattle.language.specs.declared.typing.ValueType.TheVariants.{Word}
+use Rattle.language.specs.declared.typing.WordType.{WordType}
+use Rattle.language.specs.ExprTyping.{select_type}
+use Rattle.language.specs.Types.{is_number, are_alike, widths_differ, when, unless}
 use Rattle.branch_removal.specs.Fitness.{IsFit, IsFitResult}
 
 -- a value of any kind is a word

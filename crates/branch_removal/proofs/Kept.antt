@@ -4,9 +4,9 @@ use Rattle.std.proofs.lemmas.Bool.{cond-false, and_left}
 use Rattle.inline.specs.Flat.{FlatTree, declare, assign, branch, FlatBlock, nothing, first}
 use Rattle.inline.specs.FlatMeaning.{value_in}
 use Rattle.inline.specs.FlatTyping.{Types, IsTyped, AreTyped, types_after}
-use Rattle.syntax.specs.declared.signature.Label.{Label}
-use Rattle.syntax.specs.declared.typing.WordType.{WordType}
-use Rattle.syntax.specs.Types.{joined}
+use Rattle.language.specs.declared.signature.Label.{Label}
+use Rattle.language.specs.declared.typing.WordType.{WordType}
+use Rattle.language.specs.Types.{joined}
 use Rattle.branch_removal.specs.Removal.{removed, removed_all}
 use Rattle.branch_removal.specs.Straight.{StraightTree, take}
 use Rattle.branch_removal.specs.StraightMeaning.{StraightState, with_variable, after, after_all}

@@ -5,7 +5,7 @@ use Rattle.branch_removal.specs.Straight.{StraightTree, set, take, set_under, St
 use Rattle.branch_removal.specs.StraightMeaning.{StraightState, after, after_all, start}
 use Rattle.inline.specs.Flat.{TermTree, number, truth, variable, prefix, binary, rotate, convert, select}
 use Rattle.inline.specs.FlatMeaning.{Values}
-use Rattle.syntax.specs.declared.values.Arg.{Arg}
+use Rattle.language.specs.declared.values.Arg.{Arg}
 
 of_term : (m : Values) (e : TermTree) → path_in m e ≡ []
 of_term m (number value kind) = refl

@@ -5,10 +5,10 @@ use Rattle.inline.specs.Flat.{FlatTree, declare, assign, branch, FlatBlock, noth
 use Rattle.inline.specs.FlatMeaning.{Values, value_in, given}
 use Rattle.inline.specs.FlatMeaning as flat
 use Rattle.inline.specs.FlatTyping.{Types, IsTyped, AreTyped, types_after, types_after_all, IsTypedProgram, parameter_types}
-use Rattle.syntax.specs.declared.signature.Label.{Label}
-use Rattle.syntax.specs.declared.signature.Label.TheVariants.{Public}
-use Rattle.syntax.specs.declared.values.Arg.{Arg}
-use Rattle.syntax.specs.Types.{joined}
+use Rattle.language.specs.declared.signature.Label.{Label}
+use Rattle.language.specs.declared.signature.Label.TheVariants.{Public}
+use Rattle.language.specs.declared.values.Arg.{Arg}
+use Rattle.language.specs.Types.{joined}
 use Rattle.branch_removal.specs.Removal.{removed, removed_all, straightened}
 use Rattle.branch_removal.specs.Straight.{StraightTree, take}
 use Rattle.branch_removal.specs.StraightMeaning.{StraightState, holds, with_variable, with_controls, after, after_all, start}

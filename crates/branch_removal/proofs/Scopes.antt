@@ -4,8 +4,8 @@ use Rattle.std.proofs.lemmas.Bool.{eqb-true, false_from_ne_true, cond-false}
 use Rattle.std.proofs.lemmas.Option.{none-some}
 use Rattle.inline.specs.Flat.{FlatTree, declare, assign, branch, FlatBlock, nothing, first}
 use Rattle.inline.specs.FlatTyping.{Types, IsTyped, AreTyped, types_after, types_after_all}
-use Rattle.syntax.specs.declared.signature.Label.{Label}
-use Rattle.syntax.specs.declared.typing.WordType.{WordType}
+use Rattle.language.specs.declared.signature.Label.{Label}
+use Rattle.language.specs.declared.typing.WordType.{WordType}
 
 -- a new variable is none of those in scope
 pub apart : (types : Types) (x y : ℕ) (word : WordType) → types x ≡ None → types y ≡ Some word → (y == x) ≡ false

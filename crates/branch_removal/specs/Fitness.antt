@@ -4,8 +4,8 @@ use Rattle.inline.specs.Flat.{TermTree, number, truth, variable, prefix, binary,
 use Rattle.inline.specs.FlatMeaning.{Values, value_in}
 use Rattle.branch_removal.specs.Straight.{StraightTree, set, take, set_under, StraightProgram}
 use Rattle.branch_removal.specs.StraightMeaning.{StraightState, after, after_all, start}
-use Rattle.syntax.specs.declared.values.Arg.{Arg}
-use Rattle.syntax.specs.Operators.{divides}
+use Rattle.language.specs.declared.values.Arg.{Arg}
+use Rattle.language.specs.Operators.{divides}
 
 -- each part of an expression is a word, each part that chooses is 0 or 1, and no part divides
 abbrev pub IsFit : Values → TermTree → Type 0

@@ -4,7 +4,7 @@ use Rattle.inline.specs.Flat.{TermTree, number, truth, variable, prefix, binary,
 use Rattle.inline.specs.FlatMeaning.{Values}
 use Rattle.branch_removal.specs.Straight.{StraightTree, set, take, set_under, StraightProgram}
 use Rattle.branch_removal.specs.StraightMeaning.{StraightState, after, after_all, start}
-use Rattle.syntax.specs.declared.values.Arg.{Arg}
+use Rattle.language.specs.declared.values.Arg.{Arg}
 
 abbrev pub Path : Type 0
 Path = List ℕ

@@ -3,10 +3,10 @@ use Rattle.std.proofs.Common.{◌≡◌, ℕ, List, Option, ◌⊎◌, inl, inr,
 use Rattle.std.specs.Coded.{Coded, code_by, coded×, coded⊎, coded_ℕ, coded_list, coded_option}
 use Rattle.inline.specs.Codes.{coded_term}
 use Rattle.inline.specs.Flat.{TermTree}
-use Rattle.syntax.specs.contracts.signature.Param as param
-use Rattle.syntax.specs.contracts.typing.WordType as word
-use Rattle.syntax.specs.declared.signature.Param.{Param}
-use Rattle.syntax.specs.declared.typing.WordType.{WordType}
+use Rattle.language.specs.contracts.signature.Param as param
+use Rattle.language.specs.contracts.typing.WordType as word
+use Rattle.language.specs.declared.signature.Param.{Param}
+use Rattle.language.specs.declared.typing.WordType.{WordType}
 use Rattle.branch_removal.specs.Straight.{StraightTree, set, take, set_under, StraightProgram}
 
 -- the parts of a statement

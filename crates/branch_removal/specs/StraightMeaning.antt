@@ -4,8 +4,8 @@ use Rattle.std.specs.Prelude.{ℕ, ◌+◌, ◌==◌, Bool, true, false, not, �
 use Rattle.std.specs.Option.{option_map}
 use Rattle.inline.specs.FlatMeaning.{Values, with_value, value_in, given}
 use Rattle.branch_removal.specs.Straight.{StraightTree, set, take, set_under, StraightProgram}
-use Rattle.syntax.specs.Results.{Results}
-use Rattle.syntax.specs.declared.values.Arg.{Arg}
+use Rattle.language.specs.Results.{Results}
+use Rattle.language.specs.declared.values.Arg.{Arg}
 
 pub record StraightState : Type 0 where
   pub variables : Values

@@ -4,8 +4,8 @@ ghost use Rattle.inline.specs.Flat.{term_tree};
 ghost use Rattle.branch_removal.specs.Straight.{StraightProgram, straight_trees};
 
 use inline::{Flat, Term};
+use language::{Param, WordType};
 use std::marker::Model;
-use syntax::{Param, WordType};
 
 /// A statement of straight code.
 #[derive(Clone, Copy, Debug)]

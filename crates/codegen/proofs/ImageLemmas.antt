@@ -9,9 +9,9 @@ use Rattle.rv_code.specs.Words.{word_of}
 use Rattle.image.specs.Fields.{IsImage, AreSlots, IsResultSlot, slot_end, result_end, slots_end, slot_bytes}
 use Rattle.image.specs.declared.slot.Slot.{Slot}
 use Rattle.image.specs.declared.slot.ResultSlot.{ResultSlot}
-use Rattle.syntax.specs.declared.signature.Form.{Form}
-use Rattle.syntax.specs.declared.signature.Param.{Param}
-use Rattle.syntax.specs.declared.typing.WordType.{WordType}
+use Rattle.language.specs.declared.signature.Form.{Form}
+use Rattle.language.specs.declared.signature.Param.{Param}
+use Rattle.language.specs.declared.typing.WordType.{WordType}
 use Rattle.codegen.specs.Generated.{program_code, program_height, result_slot, image_of}
 use Rattle.codegen.specs.Layout.{slots_from, temporaries_offset}
 use Rattle.codegen.specs.Room.{IsWord, HasFrame, HasRoom}

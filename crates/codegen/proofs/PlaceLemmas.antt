@@ -11,9 +11,9 @@ use Rattle.inline.specs.Flat as flat
 use Rattle.inline.specs.Numbering.{Numbers, number_of, term, right, names_after, names_after_all, statement, block, with_parameters}
 use Rattle.inline.specs.declared.numbering.Numbered.{Numbered}
 use Rattle.names.specs.Scope.{found, declared}
-use Rattle.syntax.specs.declared.signature.Kind.TheVariants.{Boolean}
-use Rattle.syntax.specs.Size.{statement_words, block_words}
-use Rattle.syntax.specs.Tree.{ExprTree, number, truth, name, prefix, binary, rotate, convert, select, element, RightTree, called, computed, StatementTree, declaration, array, assignment, element_assignment, call, conditional, loop, BlockTree, nothing, first, ParameterTree}
+use Rattle.language.specs.declared.signature.Kind.TheVariants.{Boolean}
+use Rattle.language.specs.Size.{statement_words, block_words}
+use Rattle.language.specs.Tree.{ExprTree, number, truth, name, prefix, binary, rotate, convert, select, element, RightTree, called, computed, StatementTree, declaration, array, assignment, element_assignment, call, conditional, loop, BlockTree, nothing, first, ParameterTree}
 
 -- each number is at most this one
 abbrev pub AreUpTo : ℕ → Numbers → Type 0

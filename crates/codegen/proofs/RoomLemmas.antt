@@ -9,11 +9,11 @@ use Rattle.codegen.specs.Generated.{program_code, program_height, result_code, r
 use Rattle.codegen.specs.Room.{IsResultUpTo, IsWord, HasRoom}
 use Rattle.inline.specs.Numbering.{Numbers, term, param_of, parameter_names, return_names, flattened}
 use Rattle.rv_code.specs.declared.instructions.Instr.TheVariants.{Ecall}
-use Rattle.syntax.specs.declared.signature.Form.{Form}
-use Rattle.syntax.specs.declared.signature.Form.TheVariants.{SingleWord}
-use Rattle.syntax.specs.Grammatical.{HasLength, HasForm, IsGrammatical}
-use Rattle.syntax.specs.Size.{block_nodes, return_nodes, nodes_of, held_words, parameter_words, declared_bytes}
-use Rattle.syntax.specs.Tree.{ParameterTree, ReturnTree, ProcedureTree}
+use Rattle.language.specs.declared.signature.Form.{Form}
+use Rattle.language.specs.declared.signature.Form.TheVariants.{SingleWord}
+use Rattle.language.specs.Grammatical.{HasLength, HasForm, IsGrammatical}
+use Rattle.language.specs.Size.{block_nodes, return_nodes, nodes_of, held_words, parameter_words, declared_bytes}
+use Rattle.language.specs.Tree.{ParameterTree, ReturnTree, ProcedureTree}
 use Rattle.codegen.proofs.PlaceLemmas.{AreUpTo, term_fits, after_all_fits, parameters_fit, block_places}
 use Rattle.codegen.proofs.SizeLemmas.{greatest, result_height_fits, block_room, result_length, block_length}
 

@@ -11,13 +11,13 @@ use Rattle.inline.specs.Flat.{TermTree}
 use Rattle.inline.specs.Flat as flat
 use Rattle.inline.specs.Numbering.{Numbers, number_of, kind_in, term, right, names_after, statement, block}
 use Rattle.rv_code.specs.declared.instructions.Instr.{Instr}
-use Rattle.syntax.specs.declared.tree.BinaryOperator.{BinaryOperator}
-use Rattle.syntax.specs.declared.tree.BinaryOperator.TheVariants as operators
-use Rattle.syntax.specs.declared.tree.PrefixOperator.{PrefixOperator}
-use Rattle.syntax.specs.declared.tree.PrefixOperator.TheVariants as prefixes
-use Rattle.syntax.specs.Operators.{width_of}
-use Rattle.syntax.specs.Size.{nodes_in, right_nodes, return_nodes, statement_nodes, block_nodes, statement_words, block_words}
-use Rattle.syntax.specs.Tree.{ExprTree, number, truth, name, prefix, binary, rotate, convert, select, element, RightTree, called, computed, StatementTree, declaration, array, assignment, element_assignment, call, conditional, loop, BlockTree, nothing, first, ReturnTree}
+use Rattle.language.specs.declared.tree.BinaryOperator.{BinaryOperator}
+use Rattle.language.specs.declared.tree.BinaryOperator.TheVariants as operators
+use Rattle.language.specs.declared.tree.PrefixOperator.{PrefixOperator}
+use Rattle.language.specs.declared.tree.PrefixOperator.TheVariants as prefixes
+use Rattle.language.specs.Operators.{width_of}
+use Rattle.language.specs.Size.{nodes_in, right_nodes, return_nodes, statement_nodes, block_nodes, statement_words, block_words}
+use Rattle.language.specs.Tree.{ExprTree, number, truth, name, prefix, binary, rotate, convert, select, element, RightTree, called, computed, StatementTree, declaration, array, assignment, element_assignment, call, conditional, loop, BlockTree, nothing, first, ReturnTree}
 use Rattle.word.specs.declared.width.Width.{Width}
 use Rattle.word.specs.declared.width.Width.TheVariants.{W8, W16, W32}
 use Rattle.word.specs.Operators.{word_of}

@@ -13,11 +13,11 @@ use Rattle.rv_code.specs.declared.operations.MultiplyOperation.TheVariants.{Mul}
 use Rattle.rv_code.specs.declared.operations.DivideOperation.TheVariants.{Divu, Remu}
 use Rattle.rv_code.specs.declared.operations.LoadOperation.TheVariants.{Lw}
 use Rattle.rv_code.specs.declared.operations.StoreOperation.TheVariants.{Sw}
-use Rattle.syntax.specs.declared.tree.BinaryOperator.{BinaryOperator}
-use Rattle.syntax.specs.declared.tree.BinaryOperator.TheVariants as operators
-use Rattle.syntax.specs.declared.tree.PrefixOperator.{PrefixOperator}
-use Rattle.syntax.specs.declared.tree.PrefixOperator.TheVariants as prefixes
-use Rattle.syntax.specs.Operators.{width_of}
+use Rattle.language.specs.declared.tree.BinaryOperator.{BinaryOperator}
+use Rattle.language.specs.declared.tree.BinaryOperator.TheVariants as operators
+use Rattle.language.specs.declared.tree.PrefixOperator.{PrefixOperator}
+use Rattle.language.specs.declared.tree.PrefixOperator.TheVariants as prefixes
+use Rattle.language.specs.Operators.{width_of}
 use Rattle.word.specs.declared.width.Width.{Width}
 use Rattle.word.specs.declared.width.Width.TheVariants.{W8, W16, W32}
 use Rattle.word.specs.Operators.{word_of}

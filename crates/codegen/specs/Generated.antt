@@ -8,7 +8,7 @@ use Rattle.rv_code.specs.Words.{word_of}
 use Rattle.image.specs.Fields.{Fields}
 use Rattle.image.specs.declared.slot.ResultSlot.{ResultSlot}
 use Rattle.inline.specs.Flat.{TermTree}
-use Rattle.syntax.specs.declared.typing.WordType.{WordType}
+use Rattle.language.specs.declared.typing.WordType.{WordType}
 use Rattle.codegen.specs.Emitted.{expr_code, store_code, statements_code, height_of, height_in_all, value_register}
 use Rattle.codegen.specs.Layout.{slots_from, result_offset, temporaries_offset}
 

@@ -2,7 +2,7 @@
 -- result, the control values, and the temporaries.
 use Rattle.std.specs.Prelude.{ℕ, ◌+◌, ◌*◌, List, [], ◌∷◌}
 use Rattle.image.specs.declared.slot.Slot.{Slot}
-use Rattle.syntax.specs.declared.signature.Param.{Param}
+use Rattle.language.specs.declared.signature.Param.{Param}
 
 abbrev pub variable_offset : ℕ → ℕ
 variable_offset x = 4 * x

@@ -5,8 +5,8 @@ use Rattle.branch_removal.specs.Straight.{StraightTree, set, take, set_under, St
 use Rattle.codegen.specs.Generated.{program_code, program_height}
 use Rattle.codegen.specs.Layout.{temporaries_offset}
 use Rattle.inline.specs.Flat.{TermTree, number, truth, variable, prefix, binary, rotate, convert, select}
-use Rattle.syntax.specs.declared.signature.Form.TheVariants.{SingleWord}
-use Rattle.syntax.specs.declared.signature.Param.{Param}
+use Rattle.language.specs.declared.signature.Form.TheVariants.{SingleWord}
+use Rattle.language.specs.declared.signature.Param.{Param}
 
 -- its variables are numbered up to this one
 abbrev pub IsUpTo : ℕ → TermTree → Type 0

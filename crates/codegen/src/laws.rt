@@ -5,10 +5,10 @@ ghost use Rattle.std.specs.List.{AllByRecursion};
 ghost use Rattle.branch_removal.specs.Removal.{straightened};
 ghost use Rattle.codegen.specs.Room.{HasRoom};
 ghost use Rattle.inline.specs.Numbering.{flattened};
-ghost use Rattle.syntax.specs.declared.signature.Form.TheVariants.{SingleWord};
-ghost use Rattle.syntax.specs.Grammatical.{IsGrammatical};
-ghost use Rattle.syntax.specs.Size.{nodes_of, declared_bytes};
-ghost use Rattle.syntax.specs.Tree.{ParameterTree, ProcedureTree};
+ghost use Rattle.language.specs.declared.signature.Form.TheVariants.{SingleWord};
+ghost use Rattle.language.specs.Grammatical.{IsGrammatical};
+ghost use Rattle.language.specs.Size.{nodes_of, declared_bytes};
+ghost use Rattle.language.specs.Tree.{ParameterTree, ProcedureTree};
 
 /// There is room for the straight code of each procedure within the limits whose parameters are words.
 pub fn limits_leave_room()

@@ -4,8 +4,8 @@ ghost use Rattle.std.specs.Prelude.{◌≡◌, ◌≤◌, ◌<◌, ◌*◌, leng
 ghost use Rattle.codegen.specs.Layout.{variable_offset, result_offset, control_offset, temporaries_offset, slots_from};
 
 use image::Slot;
+use language::Param;
 use std::alloc::{AllocError, Global};
-use syntax::Param;
 
 /// The bytes of a slot that holds a word.
 pub const WORD_BYTES: u32 = 4;

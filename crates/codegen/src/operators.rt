@@ -4,16 +4,16 @@ ghost use Rattle.std.specs.Prelude.{◌≡◌, ◌++◌, ◌∷◌, ◌<◌, [],
 ghost use Rattle.rv_code.specs.declared.instructions.Instr.TheVariants.{Register, Multiply, Divide};
 ghost use Rattle.rv_code.specs.declared.operations.MultiplyOperation.TheVariants.{Mul};
 ghost use Rattle.codegen.specs.Emitted.{left_register, value_register, cut_code, is_zero_code, is_not_zero_code, both_truths_code, negation_code, operator_code, prefix_code, around_code, rotate_code};
-ghost use Rattle.syntax.specs.Operators.{width_of};
+ghost use Rattle.language.specs.Operators.{width_of};
 ghost use Rattle.word.specs.Widths.{bits};
 
 use crate::emit::MINUS_ONE;
+use language::{BinaryOperator, Kind, PrefixOperator};
 use rv_code::{
     DivideOperation, Immediate12, ImmediateOperation, Instr, MultiplyOperation, Reg,
     RegisterOperation, ShiftAmount, ShiftOperation,
 };
 use std::alloc::AllocError;
-use syntax::{BinaryOperator, Kind, PrefixOperator};
 use word::Width;
 
 /// The width of a number of this kind; a bool lies in the narrowest.

@@ -2,11 +2,11 @@
 use Rattle.std.proofs.Common.{◌≡◌, ℕ, suc, Bool, true, false, List, [], ◌∷◌, ◌++◌, length, Option, None, Some, is_some, cond, refl, ap, subst, arith}
 use Rattle.std.specs.List.{AllByRecursion}
 use Rattle.word.specs.declared.place.Place.{Place}
-use Rattle.syntax.specs.declared.signature.Form.{Form}
-use Rattle.syntax.specs.declared.signature.Form.TheVariants.{SingleWord, FixedArray, MutableArray}
-use Rattle.syntax.specs.Meaning.{exported}
-use Rattle.syntax.specs.Operators.{divides}
-use Rattle.syntax.specs.Tree.{ExprTree, number, truth, name, prefix, binary, rotate, convert, select, element, RightTree, called, computed, StatementTree, declaration, array, assignment, element_assignment, call, conditional, loop, BlockTree, nothing, first, ParameterTree, ReturnTree, ProcedureTree, ProgramTree}
+use Rattle.language.specs.declared.signature.Form.{Form}
+use Rattle.language.specs.declared.signature.Form.TheVariants.{SingleWord, FixedArray, MutableArray}
+use Rattle.language.specs.Meaning.{exported}
+use Rattle.language.specs.Operators.{divides}
+use Rattle.language.specs.Tree.{ExprTree, number, truth, name, prefix, binary, rotate, convert, select, element, RightTree, called, computed, StatementTree, declaration, array, assignment, element_assignment, call, conditional, loop, BlockTree, nothing, first, ParameterTree, ReturnTree, ProcedureTree, ProgramTree}
 use Rattle.coverage.specs.NotCompiled.{IsCompiledYet, is_array_form, place_if, uncompiled_block, uncompiled_expr, uncompiled_further, uncompiled_parameters, uncompiled_procedure, uncompiled_procedures, uncompiled_return, uncompiled_right, uncompiled_statement}
 use Rattle.coverage.specs.Compiled.{IsCompiledBlock, IsCompiledExpr, IsCompiledParameter, IsCompiledProcedure, IsCompiledReturn, IsCompiledRight, IsCompiledStatement}
 

@@ -2,11 +2,11 @@
 use Rattle.std.proofs.Common.{◌≡◌, Bool, true, Option, Vec, Global, List, ◌∷◌, [], ◌++◌, fold, ap, ◌∙◌}
 use Rattle.std.proofs.lemmas.List.Sums.{fold-append}
 use Rattle.word.specs.declared.place.Place.{Place}
-use Rattle.syntax.specs.declared.tree.Counter.{Counter}
-use Rattle.syntax.specs.declared.tree.Expr.{Expr}
-use Rattle.syntax.specs.declared.tree.Statement.{Statement, If, For}
-use Rattle.syntax.specs.Blocks.{RowsAreBlocks}
-use Rattle.syntax.specs.Tree.{block_tree, expr_tree, statement_tree}
+use Rattle.language.specs.declared.tree.Counter.{Counter}
+use Rattle.language.specs.declared.tree.Expr.{Expr}
+use Rattle.language.specs.declared.tree.Statement.{Statement, If, For}
+use Rattle.language.specs.Blocks.{RowsAreBlocks}
+use Rattle.language.specs.Tree.{block_tree, expr_tree, statement_tree}
 use Rattle.coverage.specs.Earliest.{sooner}
 use Rattle.coverage.specs.NotCompiled.{place_if, uncompiled_block, uncompiled_expr, uncompiled_statement}
 

@@ -1,9 +1,9 @@
 -- What a procedure looks like of which each node is compiled.
 use Rattle.std.specs.Prelude.{◌≡◌, false, Option, Some, None}
 use Rattle.std.specs.List.{AllByRecursion}
-use Rattle.syntax.specs.declared.signature.Form.TheVariants.{SingleWord}
-use Rattle.syntax.specs.Operators.{divides}
-use Rattle.syntax.specs.Tree.{ExprTree, number, truth, name, prefix, binary, rotate, convert, select, element, RightTree, called, computed, StatementTree, declaration, array, assignment, element_assignment, call, conditional, loop, BlockTree, nothing, first, ParameterTree, ReturnTree, ProcedureTree}
+use Rattle.language.specs.declared.signature.Form.TheVariants.{SingleWord}
+use Rattle.language.specs.Operators.{divides}
+use Rattle.language.specs.Tree.{ExprTree, number, truth, name, prefix, binary, rotate, convert, select, element, RightTree, called, computed, StatementTree, declaration, array, assignment, element_assignment, call, conditional, loop, BlockTree, nothing, first, ParameterTree, ReturnTree, ProcedureTree}
 
 -- no quotient, no remainder and no element
 abbrev pub IsCompiledExpr : ExprTree → Type 0

@@ -2,7 +2,7 @@ ghost use Rattle.std.specs.Prelude.{◌≡◌, [], ◌∷◌, fold};
 ghost use Rattle.coverage.specs.Earliest.{sooner};
 ghost use Rattle.coverage.specs.NotCompiled.{place_if};
 
-use syntax::Place;
+use language::Place;
 
 /// The earliest of the places noted so far.
 #[derive(Drop)]

@@ -1,11 +1,11 @@
 ghost use Rattle.std.specs.Prelude.{◌≡◌, fold, map};
-ghost use Rattle.syntax.specs.Tree.{expr_tree, call_tree, right_tree};
+ghost use Rattle.language.specs.Tree.{expr_tree, call_tree, right_tree};
 ghost use Rattle.coverage.specs.Earliest.{sooner};
 ghost use Rattle.coverage.specs.NotCompiled.{uncompiled_call, uncompiled_expr, uncompiled_exprs, uncompiled_right};
 
 use crate::earliest::Earliest;
 use crate::forms::divides;
-use syntax::{Call, Expr, RightSide};
+use language::{Call, Expr, RightSide};
 
 /// Notes the nodes of an expression that are not compiled.
 pub fn note_expr(earliest: &mut Earliest, expr: &Expr<'_>)

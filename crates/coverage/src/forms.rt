@@ -1,8 +1,8 @@
 ghost use Rattle.std.specs.Prelude.{◌≡◌};
-ghost use Rattle.syntax.specs.Operators.{divides};
+ghost use Rattle.language.specs.Operators.{divides};
 ghost use Rattle.coverage.specs.NotCompiled.{is_array_form};
 
-use syntax::{BinaryOperator, Form};
+use language::{BinaryOperator, Form};
 
 /// Whether it holds an array.
 pub fn is_array_form(form: Form) -> bool

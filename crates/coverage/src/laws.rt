@@ -1,6 +1,6 @@
 ghost use Rattle.std.specs.Prelude.{◌≡◌, List, [], Some};
-ghost use Rattle.syntax.specs.Meaning.{exported};
-ghost use Rattle.syntax.specs.Tree.{ProcedureTree, ProgramTree};
+ghost use Rattle.language.specs.Meaning.{exported};
+ghost use Rattle.language.specs.Tree.{ProcedureTree, ProgramTree};
 ghost use Rattle.coverage.specs.Compiled.{IsCompiledProcedure};
 ghost use Rattle.coverage.specs.NotCompiled.{IsCompiledYet};
 

@@ -1,5 +1,5 @@
 ghost use Rattle.std.specs.Prelude.{◌≡◌, fold, map, MatchOption};
-ghost use Rattle.syntax.specs.Tree.{parameter_tree, procedure_tree, program_tree};
+ghost use Rattle.language.specs.Tree.{parameter_tree, procedure_tree, program_tree};
 ghost use Rattle.coverage.specs.Earliest.{IsEarliest, sooner};
 ghost use Rattle.coverage.specs.NotCompiled.{IsCompiledYet, uncompiled, uncompiled_further, uncompiled_parameters, uncompiled_procedure};
 
@@ -7,7 +7,7 @@ use crate::earliest::Earliest;
 use crate::expressions::note_expr;
 use crate::forms::is_array_form;
 use crate::statements::note_statements;
-use syntax::{Parameter, Place, Procedure, Program};
+use language::{Parameter, Place, Procedure, Program};
 
 /// Notes the parameters that are not compiled.
 fn note_parameters(earliest: &mut Earliest, parameters: &[Parameter<'_>])

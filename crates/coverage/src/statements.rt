@@ -1,12 +1,12 @@
 ghost use Rattle.std.specs.Prelude.{◌≡◌, ◌∷◌, ◌++◌, fold, map};
 ghost use Rattle.std.specs.Option.{option_map};
-ghost use Rattle.syntax.specs.Tree.{block_tree, expr_tree, right_tree, statement_tree};
+ghost use Rattle.language.specs.Tree.{block_tree, expr_tree, right_tree, statement_tree};
 ghost use Rattle.coverage.specs.Earliest.{sooner};
 ghost use Rattle.coverage.specs.NotCompiled.{place_if, uncompiled_block, uncompiled_expr, uncompiled_right, uncompiled_statement, uncompiled_values};
 
 use crate::earliest::Earliest;
 use crate::expressions::{note_call, note_expr, note_exprs, note_right};
-use syntax::{ArrayDeclaration, ElementAssignment, Statement, rows_are_blocks};
+use language::{ArrayDeclaration, ElementAssignment, Statement, rows_are_blocks};
 
 /// Notes a declaration of an array, and the nodes of its first values.
 fn note_array(earliest: &mut Earliest, array: &ArrayDeclaration<'_>)

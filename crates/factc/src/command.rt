@@ -8,11 +8,12 @@ use arguments::ArgumentRule;
 use clap::error::ErrorKind;
 use hepurita::{RunFault, build, execute, judge, pair, read_args};
 use image::Image;
+use language::{Args, Param, Place, Refusal, Rule};
 use observing::Pairing;
 use rv_machine::NullRecorder;
 use std::alloc::Global;
 use streams::{ReadFault, Sink, get_up_to, put_all};
-use syntax::{Args, Param, Place, Refusal, Rule, TEXT_LIMIT};
+use syntax::TEXT_LIMIT;
 
 /// The path that stands for standard output.
 const STANDARD_OUTPUT: &str = "-";

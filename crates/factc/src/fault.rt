@@ -1,8 +1,8 @@
 use hepurita::RunFault;
 use image::ImageFault;
+use language::{Refusal, Rule};
 use std::alloc::{AllocError, AllocFailed};
 use std::fmt;
-use syntax::{Refusal, Rule};
 use thiserror::Error;
 
 /// What a file failed by, with its path; that of standard output is `-`.

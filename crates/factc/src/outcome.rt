@@ -1,6 +1,6 @@
+use language::{Form, Outcome, Param};
 use std::alloc::{AllocError, Global};
 use std::fmt::Write;
-use syntax::{Form, Outcome, Param};
 
 /// An outcome as lines: `return N` where there is a result, then for each `mut` array, in parameter
 /// order, `array K v1,v2,..` with its parameter's number from 0.
@@ -34,8 +34,8 @@ fn write_array(text: &mut String, number: usize, words: &[u32]) -> Result<(), Al
 #[cfg(test)]
 mod tests {
     use super::*;
+    use language::{Kind, Label, Numbers};
     use std::test::Fail;
-    use syntax::{Kind, Label, Numbers};
 
     #[test]
     fn lines_of_an_outcome(rt: HostRuntime) -> Result<(), Fail> {

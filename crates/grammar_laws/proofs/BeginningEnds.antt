@@ -1,16 +1,16 @@
 -- Each beginning of a phrase can be gone on with, to the end of the phrase.
 use Rattle.std.proofs.Common.{◌≡◌, ℕ, List, [], ◌∷◌, ◌++◌, Some, None, refl, sym, subst, append_assoc}
-use Rattle.syntax.specs.declared.signature.Kind.TheVariants as kind
-use Rattle.syntax.specs.declared.signature.Label.TheVariants as label
+use Rattle.language.specs.declared.signature.Kind.TheVariants as kind
+use Rattle.language.specs.declared.signature.Label.TheVariants as label
 use Rattle.syntax.specs.declared.token.Keyword.{Keyword}
 use Rattle.syntax.specs.declared.token.Keyword.TheVariants as keyword
 use Rattle.syntax.specs.declared.token.Sign.{Sign}
 use Rattle.syntax.specs.declared.token.Sign.TheVariants as sign
 use Rattle.syntax.specs.declared.token.TokenKind.{TokenKind}
 use Rattle.syntax.specs.declared.token.TokenKind.TheVariants as token
-use Rattle.syntax.specs.declared.tree.BinaryOperator.{BinaryOperator}
-use Rattle.syntax.specs.declared.tree.BinaryOperator.TheVariants as operator
-use Rattle.syntax.specs.declared.tree.PrefixOperator.TheVariants as prefix
+use Rattle.language.specs.declared.tree.BinaryOperator.{BinaryOperator}
+use Rattle.language.specs.declared.tree.BinaryOperator.TheVariants as operator
+use Rattle.language.specs.declared.tree.PrefixOperator.TheVariants as prefix
 use Rattle.syntax.specs.Beginning.{Whole, WholeParts, Begins, in_case, BeginsParts, no_token, past_token, past_phrase, in_phrase}
 use Rattle.syntax.specs.Cases as cases
 use Rattle.syntax.specs.Cases.{Single, of_kind, any_number, any_amount, any_length, any_label, any_word, any_conversion, any_prefix, the_operator, IsOne, Phrase, Part, one, all, Case}

@@ -4,7 +4,7 @@ use Rattle.syntax.specs.Beginning.{Whole, Begins, AreByCases}
 use Rattle.syntax.specs.Cases.{procedures}
 use Rattle.syntax.specs.Grammar.{IsProgram, a_program, IsBeginning}
 use Rattle.syntax.specs.Lexeme.{Lexeme}
-use Rattle.syntax.specs.Tree.{ProgramTree}
+use Rattle.language.specs.Tree.{ProgramTree}
 use Rattle.grammar_laws.proofs.BeginningEnds.{ends}
 use Rattle.grammar_laws.proofs.BeginningLaws.{front_begins}
 use Rattle.grammar_laws.proofs.CasesOfTrees.{whole_procedures}

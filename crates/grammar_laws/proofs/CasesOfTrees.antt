@@ -1,17 +1,17 @@
 -- What the grammar gives a tree is made by its cases.
 use Rattle.std.proofs.Common.{ℕ, ◌+◌, Bool, List, [], ◌∷◌, Option}
 use Rattle.word.specs.declared.place.Place.{Place}
-use Rattle.syntax.specs.declared.signature.Kind.{Kind}
+use Rattle.language.specs.declared.signature.Kind.{Kind}
 use Rattle.syntax.specs.declared.token.Sign.TheVariants.{CloseRound, CloseCurly}
 use Rattle.syntax.specs.declared.token.TokenKind.{TokenKind}
 use Rattle.syntax.specs.declared.token.TokenKind.TheVariants as token
-use Rattle.syntax.specs.declared.typing.WordType.{WordType}
+use Rattle.language.specs.declared.typing.WordType.{WordType}
 use Rattle.syntax.specs.Beginning.{Whole}
 use Rattle.syntax.specs.Cases as cases
 use Rattle.syntax.specs.Grammar as grammar
 use Rattle.syntax.specs.Grammar.{level_of, left_level_of, rotation_level, prefix_level, ExprAt, MoreExprs, SomeExprs, Arguments, Call, RightSide, Mutable, ArrayType, FirstValues, Statement, Conditional, Statements, Block, Otherwise, Parameter, MoreParameters, Parameters, ResultType, BodyEnd, Exported, Procedure, Procedures}
 use Rattle.syntax.specs.Lexeme.{Lexeme}
-use Rattle.syntax.specs.Tree.{ExprTree, CallTree, RightTree, StatementTree, BlockTree, ParameterTree, ReturnTree, ProcedureTree}
+use Rattle.language.specs.Tree.{ExprTree, CallTree, RightTree, StatementTree, BlockTree, ParameterTree, ReturnTree, ProcedureTree}
 use Rattle.grammar_laws.proofs.BeginningLaws.{ending, token_then, phrase_then, by}
 
 whole_expr : (level : ℕ) (tokens : List Lexeme) (tree : ExprTree) (rest : List Lexeme) → ExprAt level tokens tree rest → Whole (cases.expr level) tokens rest

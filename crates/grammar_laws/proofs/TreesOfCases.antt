@@ -1,15 +1,15 @@
 -- What the cases of the grammar make has a tree.
 use Rattle.std.proofs.Common.{◌≡◌, ℕ, Bool, List, [], ◌∷◌, Option}
 use Rattle.word.specs.declared.place.Place.{Place}
-use Rattle.syntax.specs.declared.signature.Kind.{Kind}
-use Rattle.syntax.specs.declared.typing.WordType.{WordType}
+use Rattle.language.specs.declared.signature.Kind.{Kind}
+use Rattle.language.specs.declared.typing.WordType.{WordType}
 use Rattle.syntax.specs.Beginning.{Whole, by_case, WholeParts, no_part, a_token, a_phrase}
 use Rattle.syntax.specs.Cases as cases
 use Rattle.syntax.specs.Cases.{Single, IsOne, Phrase, Part, one, all, Case}
 use Rattle.syntax.specs.Grammar as grammar
 use Rattle.syntax.specs.Grammar.{ExprAt, MoreExprs, SomeExprs, Arguments, Call, RightSide, Mutable, ArrayType, FirstValues, Statement, Conditional, Statements, Block, Otherwise, Parameter, MoreParameters, Parameters, ResultType, BodyEnd, Exported, Procedure, Procedures}
 use Rattle.syntax.specs.Lexeme.{Lexeme}
-use Rattle.syntax.specs.Tree.{ExprTree, CallTree, RightTree, StatementTree, BlockTree, ParameterTree, ReturnTree, ProcedureTree}
+use Rattle.language.specs.Tree.{ExprTree, CallTree, RightTree, StatementTree, BlockTree, ParameterTree, ReturnTree, ProcedureTree}
 
 -- the phrase that the tokens up to the rest are, with a tree
 abbrev pub HasTree : Phrase → List Lexeme → List Lexeme → Type 0

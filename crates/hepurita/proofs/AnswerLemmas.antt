@@ -21,15 +21,15 @@ use Rattle.arguments.specs.Agreement.{Agree}
 use Rattle.simulation.specs.Bases.{code_base, frame_base}
 use Rattle.simulation.specs.Compiled.{AreBases, IsCompiled, RunsTo}
 use Rattle.simulation.specs.Loaded.{params_of, code_at, loaded_at, results_in}
-use Rattle.syntax.specs.declared.signature.Label.TheVariants.{Public}
-use Rattle.syntax.specs.declared.signature.Param.{Param}
-use Rattle.syntax.specs.declared.typing.WordType.{WordType}
-use Rattle.syntax.specs.declared.values.Arg.{Arg}
-use Rattle.syntax.specs.Meaning.{Ending, Gives, gives}
+use Rattle.language.specs.declared.signature.Label.TheVariants.{Public}
+use Rattle.language.specs.declared.signature.Param.{Param}
+use Rattle.language.specs.declared.typing.WordType.{WordType}
+use Rattle.language.specs.declared.values.Arg.{Arg}
+use Rattle.language.specs.Meaning.{Ending, Gives, gives}
 use Rattle.syntax.specs.Reading.{OneAnswer}
-use Rattle.syntax.specs.Results.{Results}
-use Rattle.syntax.specs.Size.{nodes_of}
-use Rattle.syntax.specs.Tree.{ProcedureTree, ProgramTree}
+use Rattle.language.specs.Results.{Results}
+use Rattle.language.specs.Size.{nodes_of}
+use Rattle.language.specs.Tree.{ProcedureTree, ProgramTree}
 use Rattle.hepurita.specs.declared.fault.RunFault.{RunFault}
 use Rattle.hepurita.specs.Answers.{Builds, IsTheOutcome, IsSame}
 use Rattle.hepurita.specs.Executed.{Executed, answer_at, refused, out_of_memory, ran}

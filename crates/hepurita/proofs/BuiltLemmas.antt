@@ -5,15 +5,15 @@ use Rattle.coverage.specs.NotCompiled.{uncompiled, IsCompiledYet}
 use Rattle.inline.specs.Flat.{FlatProgram}
 use Rattle.inline.specs.Numbering.{flattened}
 use Rattle.word.specs.declared.place.Place.{Place}
-use Rattle.syntax.specs.declared.refusal.Refusal.{Refusal}
-use Rattle.syntax.specs.declared.rule.Rule.{Rule}
-use Rattle.syntax.specs.declared.rule.Rule.TheVariants.{NotCompiledYet}
-use Rattle.syntax.specs.FirstViolation.{IsRefusedFor}
-use Rattle.syntax.specs.Meaning.{exported}
+use Rattle.language.specs.declared.refusal.Refusal.{Refusal}
+use Rattle.language.specs.declared.rule.Rule.{Rule}
+use Rattle.language.specs.declared.rule.Rule.TheVariants.{NotCompiledYet}
+use Rattle.language.specs.FirstViolation.{IsRefusedFor}
+use Rattle.language.specs.Meaning.{exported}
 use Rattle.syntax.specs.Reading.{Reads, accepted, IsRefusedAs}
-use Rattle.syntax.specs.Size.{size_violations}
-use Rattle.syntax.specs.Tree.{ProcedureTree, ProgramTree}
-use Rattle.syntax.specs.Typing.{violations}
+use Rattle.language.specs.Size.{size_violations}
+use Rattle.language.specs.Tree.{ProcedureTree, ProgramTree}
+use Rattle.language.specs.Typing.{violations}
 use Rattle.hepurita.specs.Built.{JudgesProgram, Judges, accepts, refuses, not_compiled_yet, ill_typed, too_large, fine, unreadable, readable, IsRefusal}
 
 -- a refusal of what is not compiled yet

@@ -3,11 +3,11 @@ use Rattle.std.proofs.Common.{◌≡◌, ℕ, suc, ◌+◌, ◌<◌, Bool, true,
 use Rattle.std.specs.List.{find}
 use Rattle.std.specs.Option.{option_map}
 use Rattle.word.specs.declared.place.Place.{Place}
-use Rattle.syntax.specs.declared.tree.Procedure.{Procedure}
-use Rattle.syntax.specs.declared.tree.Program.{Program}
-use Rattle.syntax.specs.Meaning.{exported}
-use Rattle.syntax.specs.Tree.{ProcedureTree, procedure_tree, ProgramTree, program_tree}
-use Rattle.syntax.specs.Typing.{exports, export_place, export_violations, procedures_violations, violations}
+use Rattle.language.specs.declared.tree.Procedure.{Procedure}
+use Rattle.language.specs.declared.tree.Program.{Program}
+use Rattle.language.specs.Meaning.{exported}
+use Rattle.language.specs.Tree.{ProcedureTree, procedure_tree, ProgramTree, program_tree}
+use Rattle.language.specs.Typing.{exports, export_place, export_violations, procedures_violations, violations}
 
 -- the exported procedure, and those before it, if there is one
 abbrev pub Export : Type 0

@@ -5,8 +5,8 @@ use Rattle.arguments.specs.declared.fault.ArgumentFault.{ArgumentFault}
 use Rattle.arguments.specs.declared.fault.ArgumentRule.{ArgumentRule}
 use Rattle.arguments.specs.declared.texts.ReadError.{ReadError}
 use Rattle.arguments.specs.declared.texts.ReadError.TheVariants as errors
-use Rattle.syntax.specs.declared.signature.Param.{Param}
-use Rattle.syntax.specs.declared.values.Arg.{Arg}
+use Rattle.language.specs.declared.signature.Param.{Param}
+use Rattle.language.specs.declared.values.Arg.{Arg}
 use Rattle.hepurita.specs.declared.fault.RunFault.{RunFault}
 use Rattle.hepurita.specs.declared.fault.RunFault.TheVariants.{Argument}
 use Rattle.hepurita.specs.Faults.{run_fault_of}

@@ -3,14 +3,14 @@ use Rattle.std.proofs.Common.{◌≡◌, ℕ, ◌≤◌, Bool, true, false, nat_
 use Rattle.std.proofs.lemmas.Bool.Decides.{nat_tests}
 use Rattle.std.proofs.lemmas.List.{length-map}
 use Rattle.word.specs.declared.place.Place.{Place}
-use Rattle.syntax.specs.declared.rule.Rule.{Rule}
-use Rattle.syntax.specs.declared.rule.Rule.TheVariants.{InlinedSize, DeclaredBytes}
-use Rattle.syntax.specs.declared.typing.Violation.{Violation}
-use Rattle.syntax.specs.Meaning.{exported}
+use Rattle.language.specs.declared.rule.Rule.{Rule}
+use Rattle.language.specs.declared.rule.Rule.TheVariants.{InlinedSize, DeclaredBytes}
+use Rattle.language.specs.declared.typing.Violation.{Violation}
+use Rattle.language.specs.Meaning.{exported}
 use Rattle.syntax.specs.Reading.{accepted, refused, OneAnswer}
-use Rattle.syntax.specs.Size.{nodes_of, declared_bytes, most_nodes, most_declared_bytes, size_violations}
-use Rattle.syntax.specs.Tree.{ProcedureTree, ProgramTree}
-use Rattle.syntax.specs.Types.{when}
+use Rattle.language.specs.Size.{nodes_of, declared_bytes, most_nodes, most_declared_bytes, size_violations}
+use Rattle.language.specs.Tree.{ProcedureTree, ProgramTree}
+use Rattle.language.specs.Types.{when}
 use Rattle.hepurita.specs.Built.{Judges, JudgesProgram, accepts, refuses, not_compiled_yet, ill_typed, too_large, fine, unreadable, readable}
 use Rattle.hepurita.proofs.Exports.{Export, export_or}
 

@@ -5,11 +5,11 @@ use Rattle.arguments.specs.Within.{AreWithin}
 use Rattle.image.specs.Fields.{AreSlots, IsSlot, slot_end, slot_bytes}
 use Rattle.image.specs.declared.slot.Slot.{Slot}
 use Rattle.rv_machine.specs.Bytes.{ByteMap, zeros}
-use Rattle.syntax.specs.declared.signature.Form.TheVariants.{SingleWord}
-use Rattle.syntax.specs.declared.signature.Kind.TheVariants.{Boolean}
-use Rattle.syntax.specs.declared.signature.Label.TheVariants.{Public}
-use Rattle.syntax.specs.declared.signature.Param.{Param}
-use Rattle.syntax.specs.declared.values.Arg.{Arg}
+use Rattle.language.specs.declared.signature.Form.TheVariants.{SingleWord}
+use Rattle.language.specs.declared.signature.Kind.TheVariants.{Boolean}
+use Rattle.language.specs.declared.signature.Label.TheVariants.{Public}
+use Rattle.language.specs.declared.signature.Param.{Param}
+use Rattle.language.specs.declared.values.Arg.{Arg}
 use Rattle.simulation.specs.Loaded.{with_argument, with_arguments, HoldsWord}
 use Rattle.hepurita.proofs.DataLemmas.{is_some-zeros}
 

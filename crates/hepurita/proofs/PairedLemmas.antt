@@ -5,7 +5,7 @@ use Rattle.image.specs.Fields.{Fields}
 use Rattle.observing.specs.Entries.{Entry, IsFirstDifference}
 use Rattle.observing.specs.declared.pairing.Pairing.{Pairing}
 use Rattle.observing.specs.declared.pairing.Pairing.TheVariants.{Same, Differ}
-use Rattle.syntax.specs.declared.values.Arg.{Arg}
+use Rattle.language.specs.declared.values.Arg.{Arg}
 use Rattle.hepurita.specs.declared.fault.RunFault.{RunFault}
 use Rattle.hepurita.specs.declared.fault.RunFault.TheVariants.{Argument, Memory}
 use Rattle.simulation.specs.Loaded.{params_of}

@@ -6,11 +6,11 @@ use Rattle.codegen.specs.Room.{HasRoom}
 use Rattle.coverage.specs.Compiled.{IsCompiledProcedure}
 use Rattle.coverage.specs.NotCompiled.{IsCompiledYet}
 use Rattle.inline.specs.Numbering.{flattened}
-use Rattle.syntax.specs.declared.signature.Form.TheVariants.{SingleWord}
-use Rattle.syntax.specs.Grammatical.{IsGrammatical}
-use Rattle.syntax.specs.Meaning.{exported}
-use Rattle.syntax.specs.Size.{nodes_of, declared_bytes}
-use Rattle.syntax.specs.Tree.{ParameterTree, ProcedureTree, ProgramTree}
+use Rattle.language.specs.declared.signature.Form.TheVariants.{SingleWord}
+use Rattle.language.specs.Grammatical.{IsGrammatical}
+use Rattle.language.specs.Meaning.{exported}
+use Rattle.language.specs.Size.{nodes_of, declared_bytes}
+use Rattle.language.specs.Tree.{ParameterTree, ProcedureTree, ProgramTree}
 use Rattle.hepurita.specs.Built.{JudgesProgram, accepts, fine}
 use Rattle.hepurita.proofs.JudgementLemmas.{sizes}
 

@@ -5,11 +5,11 @@ use Rattle.codegen.specs.Generated.{image_of}
 use Rattle.coverage.specs.NotCompiled.{IsCompiledYet}
 use Rattle.inline.specs.Numbering.{flattened}
 use Rattle.simulation.specs.Compiled.{IsCompiled}
-use Rattle.syntax.specs.Meaning.{exported}
+use Rattle.language.specs.Meaning.{exported}
 use Rattle.syntax.specs.Reading.{Reads, accepted}
-use Rattle.syntax.specs.Size.{size_violations}
-use Rattle.syntax.specs.Tree.{ProcedureTree, ProgramTree}
-use Rattle.syntax.specs.Typing.{violations}
+use Rattle.language.specs.Size.{size_violations}
+use Rattle.language.specs.Tree.{ProcedureTree, ProgramTree}
+use Rattle.language.specs.Typing.{violations}
 use Rattle.hepurita.specs.Built.{Judges, accepts, readable, fine}
 
 -- what the exports of accepted texts are

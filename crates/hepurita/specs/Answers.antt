@@ -5,10 +5,10 @@ use Rattle.image.specs.Spelling.{spelling}
 use Rattle.observing.specs.declared.pairing.Pairing.{Pairing}
 use Rattle.observing.specs.declared.pairing.Pairing.TheVariants.{Same}
 use Rattle.rv_machine.specs.declared.stops.Stop.TheVariants.{RecorderRefused}
-use Rattle.syntax.specs.declared.values.Arg.{Arg}
-use Rattle.syntax.specs.Meaning.{Ending, Gives, gives}
-use Rattle.syntax.specs.Results.{Results}
-use Rattle.syntax.specs.Tree.{ProcedureTree, ProgramTree}
+use Rattle.language.specs.declared.values.Arg.{Arg}
+use Rattle.language.specs.Meaning.{Ending, Gives, gives}
+use Rattle.language.specs.Results.{Results}
+use Rattle.language.specs.Tree.{ProcedureTree, ProgramTree}
 use Rattle.hepurita.specs.declared.fault.RunFault.{RunFault}
 use Rattle.hepurita.specs.declared.fault.RunFault.TheVariants.{Memory, Stopped}
 use Rattle.hepurita.specs.Built.{Judges, accepts, IsBuilt}

@@ -6,17 +6,17 @@ use Rattle.image.specs.Fields.{Fields, IsImage}
 use Rattle.image.specs.Spelling.{spelling}
 use Rattle.simulation.specs.Compiled.{IsCompiled}
 use Rattle.word.specs.declared.place.Place.{Place}
-use Rattle.syntax.specs.declared.refusal.Refusal.{Refusal}
-use Rattle.syntax.specs.declared.rule.Rule.{Rule}
-use Rattle.syntax.specs.declared.rule.Rule.TheVariants.{NotCompiledYet}
-use Rattle.syntax.specs.declared.typing.Violation.{Violation}
-use Rattle.syntax.specs.FirstViolation.{IsFirst}
-use Rattle.syntax.specs.Meaning.{exported}
+use Rattle.language.specs.declared.refusal.Refusal.{Refusal}
+use Rattle.language.specs.declared.rule.Rule.{Rule}
+use Rattle.language.specs.declared.rule.Rule.TheVariants.{NotCompiledYet}
+use Rattle.language.specs.declared.typing.Violation.{Violation}
+use Rattle.language.specs.FirstViolation.{IsFirst}
+use Rattle.language.specs.Meaning.{exported}
 use Rattle.syntax.specs.Reading.{Reads, accepted, refused}
-use Rattle.syntax.specs.Size.{size_violations}
-use Rattle.syntax.specs.Tree.{ProcedureTree, ProgramTree}
-use Rattle.syntax.specs.Typing.{violations}
-use Rattle.syntax.specs.WantOfMemory.{IsWantOfMemory}
+use Rattle.language.specs.Size.{size_violations}
+use Rattle.language.specs.Tree.{ProcedureTree, ProgramTree}
+use Rattle.language.specs.Typing.{violations}
+use Rattle.language.specs.WantOfMemory.{IsWantOfMemory}
 
 pub data Judgement : Type 0 where
   -- a program with this export

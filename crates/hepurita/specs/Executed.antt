@@ -9,8 +9,8 @@ use Rattle.rv_machine.specs.Machine.{State}
 use Rattle.rv_machine.specs.declared.observation.Observation.{Observation}
 use Rattle.rv_machine.specs.declared.stops.Stop.{Stop}
 use Rattle.rv_machine.specs.declared.stops.Stop.TheVariants.{Ecall, Break, Illegal, AccessFault, Misaligned, Budget, RecorderRefused}
-use Rattle.syntax.specs.Results.{Results}
-use Rattle.syntax.specs.declared.values.Arg.{Arg}
+use Rattle.language.specs.Results.{Results}
+use Rattle.language.specs.declared.values.Arg.{Arg}
 use Rattle.hepurita.specs.declared.fault.RunFault.{RunFault}
 use Rattle.hepurita.specs.declared.fault.RunFault.TheVariants.{Argument, Memory, Stopped}
 use Rattle.simulation.specs.Bases.{code_base, frame_base}

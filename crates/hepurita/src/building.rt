@@ -5,21 +5,22 @@ ghost use Rattle.branch_removal.specs.Removal.{straightened};
 ghost use Rattle.codegen.specs.Generated.{image_of};
 ghost use Rattle.image.specs.Fields.{IsImage};
 ghost use Rattle.inline.specs.Numbering.{flattened};
-ghost use Rattle.syntax.specs.Grammatical.{IsGrammatical};
-ghost use Rattle.syntax.specs.Meaning.{exported};
-ghost use Rattle.syntax.specs.Tree.{ProcedureTree, ProgramTree, program_tree};
+ghost use Rattle.language.specs.Grammatical.{IsGrammatical};
+ghost use Rattle.language.specs.Meaning.{exported};
+ghost use Rattle.language.specs.Tree.{ProcedureTree, ProgramTree, program_tree};
 ghost use Rattle.word.specs.declared.place.Place.{Place};
-ghost use Rattle.syntax.specs.declared.rule.Rule.{Rule};
+ghost use Rattle.language.specs.declared.rule.Rule.{Rule};
 ghost use Rattle.hepurita.specs.Built.{Judges, JudgesProgram, IsRefusal, IsBuilt, accepts, refuses};
 
 use crate::judging::flat_of;
+use crate::laws::texts_are_compiled;
 use branch_removal::{controls_are_few, remove};
 use codegen::{generate, limits_leave_room};
 use coverage::compiled_procedures_have_compiled_parts;
 use image::{Image, write};
-use simulation::texts_are_compiled;
+use language::{Program, Refusal};
 use std::alloc::Global;
-use syntax::{Program, Refusal, one_answer_for_a_text, parse, texts_are_grammatical};
+use syntax::{one_answer_for_a_text, parse, texts_are_grammatical};
 
 /// The image of a program that violates no rule, or the first refusal.
 fn compile(alloc: Global, program: &Program<'_>) -> Result<Image, Refusal>

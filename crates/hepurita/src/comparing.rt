@@ -10,10 +10,10 @@ use crate::fault::RunFault;
 use crate::loading::{load, params};
 use arguments::{ArgumentFault, first_fault};
 use image::Image;
+use language::{Args, Param};
 use observing::{Pairing, first_difference};
 use rv_machine::{ListRecorder, Stop, run};
 use std::alloc::Global;
-use syntax::{Args, Param};
 
 /// The first fault of two lists of arguments; those of the second are numbered after the first's.
 fn fault_of_both(params: &[Param], one: &Args, other: &Args) -> Option<ArgumentFault>

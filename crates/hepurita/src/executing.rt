@@ -10,10 +10,10 @@ use crate::fault::RunFault;
 use crate::loading::{load, outcome, params};
 use arguments::first_fault;
 use image::Image;
+use language::{Args, Outcome};
 use rv_machine::recording::Recorder;
 use rv_machine::{FlatMemory, Stop, run};
 use std::alloc::Global;
-use syntax::{Args, Outcome};
 
 /// What is answered where the machine stops so.
 fn answer(alloc: Global, image: &Image, stop: Stop, frame: &FlatMemory) -> Result<Outcome, RunFault>

@@ -3,15 +3,16 @@
 ghost use Rattle.std.specs.Prelude.{◌≡◌, [], map, IfOk, IfErr};
 ghost use Rattle.std.specs.Option.{option_map};
 ghost use Rattle.inline.specs.Numbering.{flattened, param_of};
-ghost use Rattle.syntax.specs.Meaning.{exported};
-ghost use Rattle.syntax.specs.Tree.{ProcedureTree, procedure_tree, program_tree};
+ghost use Rattle.language.specs.Meaning.{exported};
+ghost use Rattle.language.specs.Tree.{ProcedureTree, procedure_tree, program_tree};
 ghost use Rattle.hepurita.specs.Built.{Judges, JudgesProgram, IsRefusal, accepts};
 
 use coverage::{compiled_procedures_have_compiled_parts, first_uncompiled};
 use inline::{Flat, inline};
 use labels::check;
+use language::{Param, Procedure, Program, Refusal, Rule};
 use std::alloc::Global;
-use syntax::{Param, Procedure, Program, Refusal, Rule, parse};
+use syntax::parse;
 
 /// The exported procedure, where there is one.
 fn exported_of<'p, 'a>(program: &'p Program<'a>) -> Option<&'p Procedure<'a>>

@@ -1,27 +1,50 @@
 // What the answers of the calls are to each other.
 
-ghost use Rattle.std.specs.Prelude.{◌≡◌, ℕ, Bool, List, Result, Ok, IfSome};
+ghost use Rattle.std.specs.Prelude.{◌≡◌, ℕ, Bool, [], List, length, Result, Ok, Some, IfSome};
 ghost use Rattle.arguments.specs.Within.{AreWithin};
+ghost use Rattle.branch_removal.specs.Removal.{straightened};
+ghost use Rattle.codegen.specs.Generated.{image_of};
+ghost use Rattle.coverage.specs.NotCompiled.{IsCompiledYet};
 ghost use Rattle.image.specs.Fields.{Fields};
+ghost use Rattle.inline.specs.Numbering.{flattened};
 ghost use Rattle.observing.specs.declared.pairing.Pairing.{Pairing};
 ghost use Rattle.rv_machine.specs.declared.observation.Observation.{Observation};
 ghost use Rattle.arguments.specs.Agreement.{Agree};
+ghost use Rattle.language.specs.Meaning.{exported};
+ghost use Rattle.language.specs.Size.{size_violations};
+ghost use Rattle.language.specs.Typing.{violations};
+ghost use Rattle.simulation.specs.Compiled.{IsCompiled};
 ghost use Rattle.simulation.specs.Loaded.{params_of};
-ghost use Rattle.syntax.specs.declared.signature.Label.{Label};
-ghost use Rattle.syntax.specs.declared.values.Arg.{Arg};
-ghost use Rattle.syntax.specs.Results.{Results};
-ghost use Rattle.syntax.specs.declared.typing.WordType.{WordType};
-ghost use Rattle.syntax.specs.Tree.{ProcedureTree, ProgramTree};
+ghost use Rattle.syntax.specs.Reading.{Reads, accepted};
+ghost use Rattle.language.specs.declared.signature.Label.{Label};
+ghost use Rattle.language.specs.declared.values.Arg.{Arg};
+ghost use Rattle.language.specs.Results.{Results};
+ghost use Rattle.language.specs.declared.typing.WordType.{WordType};
+ghost use Rattle.language.specs.Tree.{ProcedureTree, ProgramTree};
 ghost use Rattle.hepurita.specs.declared.fault.RunFault.{RunFault};
 ghost use Rattle.hepurita.specs.Answers.{Builds, IsTheOutcome, IsSame};
 ghost use Rattle.hepurita.specs.Executed.{Executed};
 ghost use Rattle.hepurita.specs.Paired.{Paired};
 
 use arguments::faultless_arguments;
+use coverage::compiled_procedures_have_compiled_parts;
 use image::one_spelling;
 use inline::one_outcome;
-use simulation::bases_fit;
-use syntax::{Label, one_answer_for_a_text};
+use language::Label;
+use simulation::{bases_fit, images_are_compiled};
+use syntax::{one_answer_for_a_text, texts_are_grammatical};
+
+/// The image that is generated for the export of a text, where the text is a program of which each node
+/// is compiled and that violates no rule and no limit, is that export, compiled.
+pub fn texts_are_compiled()
+    ensures { (text : List ℕ) (program : ProgramTree) (before : List ProcedureTree) (p : ProcedureTree) → Reads text (accepted program)
+        → exported [] program.procedures ≡ Some (before, p) → IsCompiledYet program
+        → length (violations program) ≡ 0 → length (size_violations p) ≡ 0 → IsCompiled program p (image_of (straightened (flattened p))) }
+{
+    texts_are_grammatical();
+    compiled_procedures_have_compiled_parts();
+    images_are_compiled();
+}
 
 /// The calls, one after another. The image of an accepted text, read from the bytes that `build`
 /// answers and executed on arguments within the parameter types, gives the one outcome that the text

@@ -7,16 +7,16 @@ ghost use Rattle.rv_machine.specs.Bytes.{number_at};
 ghost use Rattle.rv_machine.specs.Flat.{flat_bytes};
 ghost use Rattle.rv_machine.specs.Harts.{state_of};
 ghost use Rattle.rv_machine.specs.Regions.{code_of};
-ghost use Rattle.syntax.specs.Results.{Results};
+ghost use Rattle.language.specs.Results.{Results};
 ghost use Rattle.simulation.specs.Bases.{code_base, frame_base};
 ghost use Rattle.simulation.specs.Loaded.{params_of, with_argument, with_arguments, code_at, loaded_at, results_in, HoldsWord};
 
 use image::{Image, Slot};
+use language::{Arg, Args, Outcome, Param};
 use rv_machine::hart::Hart;
 use rv_machine::memory::{Memory, Size};
 use rv_machine::{CodeRegion, FlatMemory};
 use std::alloc::{AllocError, Global};
-use syntax::{Arg, Args, Outcome, Param};
 
 /// Where an image's code begins.
 pub const CODE_BASE: u32 = 0x0001_0000;

@@ -7,8 +7,8 @@ ghost use Rattle.arguments.specs.Within.{words_of, AreWithin};
 
 use crate::fault::RunFault;
 use arguments::read;
+use language::{Args, Param};
 use std::alloc::Global;
-use syntax::{Args, Param};
 
 /// The arguments that texts spell for these parameters, or their first fault. A text is numbers
 /// joined by commas, each in decimal digits or `0x` and hexadecimal digits.

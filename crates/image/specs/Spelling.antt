@@ -2,12 +2,12 @@
 use Rattle.std.specs.Prelude.{ℕ, List, [], ◌∷◌, ◌++◌, length, Option, Some, None, codes}
 use Rattle.std.specs.List.{flat_map}
 use Rattle.byteorder.specs.Endian.{little_bytes}
-use Rattle.syntax.specs.declared.signature.Kind.{Kind}
-use Rattle.syntax.specs.declared.signature.Kind.TheVariants.{Boolean, Uint8, Uint16, Uint32}
-use Rattle.syntax.specs.declared.signature.Label.{Label}
-use Rattle.syntax.specs.declared.signature.Label.TheVariants.{Public, Secret}
-use Rattle.syntax.specs.declared.signature.Form.{Form}
-use Rattle.syntax.specs.declared.signature.Form.TheVariants.{SingleWord, FixedArray, MutableArray}
+use Rattle.language.specs.declared.signature.Kind.{Kind}
+use Rattle.language.specs.declared.signature.Kind.TheVariants.{Boolean, Uint8, Uint16, Uint32}
+use Rattle.language.specs.declared.signature.Label.{Label}
+use Rattle.language.specs.declared.signature.Label.TheVariants.{Public, Secret}
+use Rattle.language.specs.declared.signature.Form.{Form}
+use Rattle.language.specs.declared.signature.Form.TheVariants.{SingleWord, FixedArray, MutableArray}
 use Rattle.image.specs.declared.slot.Slot.{Slot}
 use Rattle.image.specs.declared.slot.ResultSlot.{ResultSlot}
 use Rattle.image.specs.Fields.{Fields}

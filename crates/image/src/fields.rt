@@ -6,8 +6,8 @@ ghost use Rattle.image.specs.Reading.{Gives, Fails, byte_at, number_at, field_at
 
 use crate::{ImageRule, ResultSlot, Slot};
 use byteorder::{ByteOrder, LittleEndian};
+use language::{Form, Kind, Label, Param};
 use std::alloc::{AllocError, AllocFailed};
-use syntax::{Form, Kind, Label, Param};
 
 /// The bytes `FACI`, as a number.
 const MAGIC: u32 = 0x4943_4146;

@@ -1,7 +1,7 @@
 ghost use Rattle.std.specs.Prelude.{◌≡◌, ◌+◌};
 ghost use Rattle.image.specs.Fields.{slot_end, result_end, slot_bytes, element_bytes};
 
-use syntax::{Form, Kind, Label, Param};
+use language::{Form, Kind, Label, Param};
 
 /// Where a parameter lies in the frame.
 #[derive(Clone, Copy, Debug, PartialEq, Eq)]

@@ -5,8 +5,8 @@ ghost use Rattle.image.specs.Spelling.{spelling, preamble, kind_code, label_code
 
 use crate::{Image, ResultSlot, Slot};
 use byteorder::{ByteOrder, LittleEndian};
+use language::{Form, Kind, Label, Refusal, Rule};
 use std::alloc::{AllocError, Global};
-use syntax::{Form, Kind, Label, Refusal, Rule};
 
 /// How many bytes an image takes at most beside its parameters and its code words.
 const FIXED_BYTES: usize = 33;

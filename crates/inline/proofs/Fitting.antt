@@ -10,19 +10,19 @@ use Rattle.inline.specs.Fitting.{IsWithinKind, Fits}
 use Rattle.inline.specs.Flat.{TermTree, number, truth, variable, prefix, binary, rotate, convert, select}
 use Rattle.inline.specs.FlatMeaning.{Values, value_in}
 use Rattle.inline.specs.FlatTyping.{Types, HasType, Suits}
-use Rattle.syntax.specs.declared.signature.Kind.{Kind}
-use Rattle.syntax.specs.declared.signature.Kind.TheVariants.{Boolean, Uint8, Uint16, Uint32}
-use Rattle.syntax.specs.declared.signature.Label.{Label}
-use Rattle.syntax.specs.declared.tree.BinaryOperator.{BinaryOperator}
-use Rattle.syntax.specs.declared.tree.BinaryOperator.TheVariants.{Either, Both, Equal, Unequal, Less, LessOrEqual, Greater, GreaterOrEqual, BitOr, BitXor, BitAnd, ShiftLeft, ShiftRight, Add, Subtract, Multiply, Divide, Remainder}
-use Rattle.syntax.specs.declared.tree.PrefixOperator.{PrefixOperator}
-use Rattle.syntax.specs.declared.tree.PrefixOperator.TheVariants.{Not, Complement, Negate}
-use Rattle.syntax.specs.declared.typing.WordType.{WordType}
-use Rattle.syntax.specs.declared.rule.Rule.TheVariants.{WrongKind}
-use Rattle.syntax.specs.ExprTyping.{operation_of, operation_kind, operation_rules, prefix_rules}
-use Rattle.syntax.specs.Grammatical.{IsNumberKind}
-use Rattle.syntax.specs.Operators.{divides, operated, prefix_value, truth_of, width_of}
-use Rattle.syntax.specs.Types.{is_number, word}
+use Rattle.language.specs.declared.signature.Kind.{Kind}
+use Rattle.language.specs.declared.signature.Kind.TheVariants.{Boolean, Uint8, Uint16, Uint32}
+use Rattle.language.specs.declared.signature.Label.{Label}
+use Rattle.language.specs.declared.tree.BinaryOperator.{BinaryOperator}
+use Rattle.language.specs.declared.tree.BinaryOperator.TheVariants.{Either, Both, Equal, Unequal, Less, LessOrEqual, Greater, GreaterOrEqual, BitOr, BitXor, BitAnd, ShiftLeft, ShiftRight, Add, Subtract, Multiply, Divide, Remainder}
+use Rattle.language.specs.declared.tree.PrefixOperator.{PrefixOperator}
+use Rattle.language.specs.declared.tree.PrefixOperator.TheVariants.{Not, Complement, Negate}
+use Rattle.language.specs.declared.typing.WordType.{WordType}
+use Rattle.language.specs.declared.rule.Rule.TheVariants.{WrongKind}
+use Rattle.language.specs.ExprTyping.{operation_of, operation_kind, operation_rules, prefix_rules}
+use Rattle.language.specs.Grammatical.{IsNumberKind}
+use Rattle.language.specs.Operators.{divides, operated, prefix_value, truth_of, width_of}
+use Rattle.language.specs.Types.{is_number, word}
 use Rattle.inline.proofs.NodeTypes.{prefix_typed, binary_typed, rotate_typed, convert_typed, select_typed}
 use Rattle.inline.proofs.OperandKinds.{a_number, a_bool, arithmetic_kinds, shifted_kind, rotated_kind, choice_kinds}
 use Rattle.inline.proofs.Rules.{is_met}

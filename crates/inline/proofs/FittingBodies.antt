@@ -6,15 +6,15 @@ use Rattle.inline.specs.Fitting.{IsWithinKind, Fits}
 use Rattle.inline.specs.Flat.{TermTree, FlatTree, declare, assign, branch, FlatBlock, nothing, first, FlatProgram}
 use Rattle.inline.specs.FlatMeaning.{Values, with_value, value_in, after, after_all, given, word_in}
 use Rattle.inline.specs.FlatTyping.{Types, with_type, IsTyped, AreTyped, IsTypedProgram, IsResult, types_after, types_after_all, parameter_types}
-use Rattle.syntax.specs.declared.signature.Kind.{Kind}
-use Rattle.syntax.specs.declared.signature.Kind.TheVariants.{Boolean, Uint8, Uint16, Uint32}
-use Rattle.syntax.specs.declared.signature.Label.{Label}
-use Rattle.syntax.specs.declared.signature.Label.TheVariants.{Public}
-use Rattle.syntax.specs.declared.signature.Param.{Param}
-use Rattle.syntax.specs.declared.typing.WordType.{WordType}
-use Rattle.syntax.specs.declared.values.Arg.{Arg}
-use Rattle.syntax.specs.declared.values.Arg.TheVariants.{Word, Array}
-use Rattle.syntax.specs.Types.{joined}
+use Rattle.language.specs.declared.signature.Kind.{Kind}
+use Rattle.language.specs.declared.signature.Kind.TheVariants.{Boolean, Uint8, Uint16, Uint32}
+use Rattle.language.specs.declared.signature.Label.{Label}
+use Rattle.language.specs.declared.signature.Label.TheVariants.{Public}
+use Rattle.language.specs.declared.signature.Param.{Param}
+use Rattle.language.specs.declared.typing.WordType.{WordType}
+use Rattle.language.specs.declared.values.Arg.{Arg}
+use Rattle.language.specs.declared.values.Arg.TheVariants.{Word, Array}
+use Rattle.language.specs.Types.{joined}
 use Rattle.inline.proofs.Fitting.{suited_fits}
 use Rattle.inline.proofs.TypesKept.{types_kept}
 

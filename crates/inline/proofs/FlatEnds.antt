@@ -12,16 +12,16 @@ use Rattle.inline.specs.FlatTyping.{Types, with_type, AreTyped, types_after, typ
 use Rattle.inline.specs.Numbering as numbering
 use Rattle.inline.specs.Numbering.{Numbers, number_of, term, block, names_after, names_after_all}
 use Rattle.names.specs.Scope.{found, declared}
-use Rattle.syntax.specs.declared.signature.Kind.{Kind}
-use Rattle.syntax.specs.declared.signature.Label.{Label}
-use Rattle.syntax.specs.declared.typing.WordType.{WordType}
-use Rattle.syntax.specs.Grammatical.{IsPlain, ArePlain}
-use Rattle.syntax.specs.Meaning.{Evaluates, gives, of_expr, Runs, declares, assigns, accepts, declines, RunsAll, ends, goes_on}
-use Rattle.syntax.specs.Size.{statement_words, block_words}
-use Rattle.syntax.specs.State.{State, Word, single, with_value}
-use Rattle.syntax.specs.Tree.{ExprTree, called, computed, StatementTree, declaration, array, assignment, element_assignment, call, conditional, loop, BlockTree, nothing, first, ProcedureTree}
-use Rattle.syntax.specs.Types.{Scope, joined}
-use Rattle.syntax.specs.Typing.{statement_violations, block_violations, scope_after}
+use Rattle.language.specs.declared.signature.Kind.{Kind}
+use Rattle.language.specs.declared.signature.Label.{Label}
+use Rattle.language.specs.declared.typing.WordType.{WordType}
+use Rattle.language.specs.Grammatical.{IsPlain, ArePlain}
+use Rattle.language.specs.Meaning.{Evaluates, gives, of_expr, Runs, declares, assigns, accepts, declines, RunsAll, ends, goes_on}
+use Rattle.language.specs.Size.{statement_words, block_words}
+use Rattle.language.specs.State.{State, Word, single, with_value}
+use Rattle.language.specs.Tree.{ExprTree, called, computed, StatementTree, declaration, array, assignment, element_assignment, call, conditional, loop, BlockTree, nothing, first, ProcedureTree}
+use Rattle.language.specs.Types.{Scope, joined}
+use Rattle.language.specs.Typing.{statement_violations, block_violations, scope_after}
 use Rattle.inline.proofs.FlatTypes as flat_types
 use Rattle.inline.proofs.FlatTypes.{linked_after, typed_block}
 use Rattle.inline.proofs.Linked.{Linked, entry, later, number_known, with_type-same, with_type-other}

@@ -8,18 +8,18 @@ use Rattle.coverage.specs.Compiled.{IsCompiledProcedure, IsCompiledParameter, Is
 use Rattle.inline.specs.FlatMeaning.{Values, given, value_in, after_all, outcome_of}
 use Rattle.inline.specs.FlatTyping.{Types, parameter_types, types_after_all}
 use Rattle.inline.specs.Numbering.{Numbers, param_of, parameter_names, return_names, flattened, block, term}
-use Rattle.syntax.specs.declared.signature.Label.TheVariants.{Public}
-use Rattle.syntax.specs.declared.typing.WordType.{WordType}
-use Rattle.syntax.specs.declared.values.Arg.{Arg}
-use Rattle.syntax.specs.ExprTyping.{type_of, expr_violations}
-use Rattle.syntax.specs.Grammatical.{IsGrammatical, IsSmallReturn}
-use Rattle.syntax.specs.Meaning.{Bodies, Gives, RunsAll, ends_well, exported, final_array, final_arrays, gives, holding, returns, returns_nothing}
-use Rattle.syntax.specs.Results.{Results}
-use Rattle.syntax.specs.Size.{block_words}
-use Rattle.syntax.specs.State.{State, Value, Word, single}
-use Rattle.syntax.specs.Tree.{ParameterTree, ProcedureTree, ProgramTree, ReturnTree}
-use Rattle.syntax.specs.Types.{Scope, at, of_one}
-use Rattle.syntax.specs.Typing.{body_scope, return_rules, return_violations, scope_after_all, violations}
+use Rattle.language.specs.declared.signature.Label.TheVariants.{Public}
+use Rattle.language.specs.declared.typing.WordType.{WordType}
+use Rattle.language.specs.declared.values.Arg.{Arg}
+use Rattle.language.specs.ExprTyping.{type_of, expr_violations}
+use Rattle.language.specs.Grammatical.{IsGrammatical, IsSmallReturn}
+use Rattle.language.specs.Meaning.{Bodies, Gives, RunsAll, ends_well, exported, final_array, final_arrays, gives, holding, returns, returns_nothing}
+use Rattle.language.specs.Results.{Results}
+use Rattle.language.specs.Size.{block_words}
+use Rattle.language.specs.State.{State, Value, Word, single}
+use Rattle.language.specs.Tree.{ParameterTree, ProcedureTree, ProgramTree, ReturnTree}
+use Rattle.language.specs.Types.{Scope, at, of_one}
+use Rattle.language.specs.Typing.{body_scope, return_rules, return_violations, scope_after_all, violations}
 use Rattle.inline.proofs.FlatEnds.{same_ends}
 use Rattle.inline.proofs.FlatPrograms.{own_rules, parts, linked_body, linked_return}
 use Rattle.inline.proofs.Linked.{Linked}

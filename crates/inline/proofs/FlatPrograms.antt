@@ -7,21 +7,21 @@ use Rattle.coverage.specs.Compiled.{IsCompiledProcedure, IsCompiledReturn}
 use Rattle.inline.specs.FlatTyping.{Types, IsTypedProgram, IsResult, parameter_types, types_after_all}
 use Rattle.inline.specs.Numbering.{Numbers, param_of, parameter_names, return_names, flattened, block, term}
 use Rattle.names.specs.Scope.{found}
-use Rattle.syntax.specs.declared.rule.Rule.TheVariants.{NameDeclaredTwice, ReturnMismatch}
-use Rattle.syntax.specs.declared.signature.Label.TheVariants.{Public}
-use Rattle.syntax.specs.declared.typing.Callee.{Callee}
-use Rattle.syntax.specs.declared.typing.Declared.{Declared}
-use Rattle.syntax.specs.declared.typing.Declared.TheVariants.{Procedure, Variable}
-use Rattle.syntax.specs.declared.typing.ValueType.TheVariants.{Word}
-use Rattle.syntax.specs.declared.typing.VariableType.{VariableType}
-use Rattle.syntax.specs.declared.typing.WordType.{WordType}
-use Rattle.syntax.specs.ExprTyping.{type_of, expr_violations}
-use Rattle.syntax.specs.Grammatical.{IsGrammatical, IsSmallReturn}
-use Rattle.syntax.specs.Meaning.{exported}
-use Rattle.syntax.specs.Size.{block_words}
-use Rattle.syntax.specs.Tree.{ProcedureTree, ProgramTree, ReturnTree}
-use Rattle.syntax.specs.Types.{Scope, at, when, of_one}
-use Rattle.syntax.specs.Typing.{value_rules, block_violations, parameter_violations, with_procedure, body_scope, assigns_public, return_rules, return_violations, procedure_violations, procedures_violations, export_violations, exports, violations, scope_after_all}
+use Rattle.language.specs.declared.rule.Rule.TheVariants.{NameDeclaredTwice, ReturnMismatch}
+use Rattle.language.specs.declared.signature.Label.TheVariants.{Public}
+use Rattle.language.specs.declared.typing.Callee.{Callee}
+use Rattle.language.specs.declared.typing.Declared.{Declared}
+use Rattle.language.specs.declared.typing.Declared.TheVariants.{Procedure, Variable}
+use Rattle.language.specs.declared.typing.ValueType.TheVariants.{Word}
+use Rattle.language.specs.declared.typing.VariableType.{VariableType}
+use Rattle.language.specs.declared.typing.WordType.{WordType}
+use Rattle.language.specs.ExprTyping.{type_of, expr_violations}
+use Rattle.language.specs.Grammatical.{IsGrammatical, IsSmallReturn}
+use Rattle.language.specs.Meaning.{exported}
+use Rattle.language.specs.Size.{block_words}
+use Rattle.language.specs.Tree.{ProcedureTree, ProgramTree, ReturnTree}
+use Rattle.language.specs.Types.{Scope, at, when, of_one}
+use Rattle.language.specs.Typing.{value_rules, block_violations, parameter_violations, with_procedure, body_scope, assigns_public, return_rules, return_violations, procedure_violations, procedures_violations, export_violations, exports, violations, scope_after_all}
 use Rattle.inline.proofs.FlatTypes.{typed_block, linked_after_all}
 use Rattle.inline.proofs.Linked.{Linked}
 use Rattle.inline.proofs.Lookup.{first_of_two, found_declared}

@@ -5,19 +5,19 @@ use Rattle.coverage.specs.Compiled.{IsCompiledExpr, IsCompiledStatement, IsCompi
 use Rattle.inline.specs.FlatTyping.{Types, Suits, IsTyped, AreTyped, types_after, types_after_all}
 use Rattle.inline.specs.Numbering.{Numbers, term, statement, block, names_after, names_after_all}
 use Rattle.names.specs.Scope.{found}
-use Rattle.syntax.specs.declared.rule.Rule.TheVariants.{NameDeclaredTwice, NotMutable, WrongKind, PublicAssignedUnderSecretControl}
-use Rattle.syntax.specs.declared.signature.Kind.{Kind}
-use Rattle.syntax.specs.declared.signature.Kind.TheVariants.{Boolean}
-use Rattle.syntax.specs.declared.signature.Label.{Label}
-use Rattle.syntax.specs.declared.signature.Label.TheVariants.{Public, Secret}
-use Rattle.syntax.specs.declared.typing.ValueType.TheVariants.{Word}
-use Rattle.syntax.specs.declared.typing.VariableType.{VariableType}
-use Rattle.syntax.specs.ExprTyping.{type_of, name_rules, expr_violations}
-use Rattle.syntax.specs.Grammatical.{AreSmall, IsPlain, ArePlain}
-use Rattle.syntax.specs.Size.{statement_words, block_words}
-use Rattle.syntax.specs.Tree.{ExprTree, called, computed, StatementTree, declaration, array, assignment, element_assignment, call, conditional, loop, BlockTree, nothing, first, ProcedureTree}
-use Rattle.syntax.specs.Types.{Scope, at, when, is_number, is_secret, joined, label_of, of_one, variable}
-use Rattle.syntax.specs.Typing.{value_rules, target_rules, change_rules, declaration_rules, declaration_control_rules, assignment_rules, condition_rules, control_under, statement_violations, block_violations, scope_after, scope_after_all}
+use Rattle.language.specs.declared.rule.Rule.TheVariants.{NameDeclaredTwice, NotMutable, WrongKind, PublicAssignedUnderSecretControl}
+use Rattle.language.specs.declared.signature.Kind.{Kind}
+use Rattle.language.specs.declared.signature.Kind.TheVariants.{Boolean}
+use Rattle.language.specs.declared.signature.Label.{Label}
+use Rattle.language.specs.declared.signature.Label.TheVariants.{Public, Secret}
+use Rattle.language.specs.declared.typing.ValueType.TheVariants.{Word}
+use Rattle.language.specs.declared.typing.VariableType.{VariableType}
+use Rattle.language.specs.ExprTyping.{type_of, name_rules, expr_violations}
+use Rattle.language.specs.Grammatical.{AreSmall, IsPlain, ArePlain}
+use Rattle.language.specs.Size.{statement_words, block_words}
+use Rattle.language.specs.Tree.{ExprTree, called, computed, StatementTree, declaration, array, assignment, element_assignment, call, conditional, loop, BlockTree, nothing, first, ProcedureTree}
+use Rattle.language.specs.Types.{Scope, at, when, is_number, is_secret, joined, label_of, of_one, variable}
+use Rattle.language.specs.Typing.{value_rules, target_rules, change_rules, declaration_rules, declaration_control_rules, assignment_rules, condition_rules, control_under, statement_violations, block_violations, scope_after, scope_after_all}
 use Rattle.inline.proofs.Linked.{Linked, Known, later, linked_declared, number_known}
 use Rattle.inline.proofs.Lookup as lookup
 use Rattle.inline.proofs.OperandKinds.{a_bool, value_kinds}

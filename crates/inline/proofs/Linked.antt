@@ -7,12 +7,12 @@ use Rattle.inline.specs.declared.numbering.Numbered.{Numbered}
 use Rattle.inline.specs.FlatTyping.{Types, with_type}
 use Rattle.inline.specs.Numbering.{Numbers, number_of, numbered}
 use Rattle.names.specs.Scope.{found, declared}
-use Rattle.syntax.specs.declared.signature.Kind.TheVariants.{Boolean}
-use Rattle.syntax.specs.declared.typing.ValueType.TheVariants.{Word}
-use Rattle.syntax.specs.declared.typing.VariableType.{VariableType}
-use Rattle.syntax.specs.declared.typing.WordType.{WordType}
-use Rattle.syntax.specs.declared.typing.Declared.TheVariants.{Variable}
-use Rattle.syntax.specs.Types.{Scope}
+use Rattle.language.specs.declared.signature.Kind.TheVariants.{Boolean}
+use Rattle.language.specs.declared.typing.ValueType.TheVariants.{Word}
+use Rattle.language.specs.declared.typing.VariableType.{VariableType}
+use Rattle.language.specs.declared.typing.WordType.{WordType}
+use Rattle.language.specs.declared.typing.Declared.TheVariants.{Variable}
+use Rattle.language.specs.Types.{Scope}
 use Rattle.inline.proofs.Lookup.{found-new, found-other}
 
 -- what stands for a variable of this number and type

@@ -1,12 +1,12 @@
 -- What the type of a node says: no rule is violated, and which type the node has.
 use Rattle.std.proofs.Common.{◌≡◌, ℕ, length, Some}
-use Rattle.syntax.specs.declared.signature.Kind.{Kind}
-use Rattle.syntax.specs.declared.tree.BinaryOperator.{BinaryOperator}
-use Rattle.syntax.specs.declared.tree.PrefixOperator.{PrefixOperator}
-use Rattle.syntax.specs.declared.typing.ValueType.TheVariants.{Word}
-use Rattle.syntax.specs.declared.typing.WordType.{WordType}
-use Rattle.syntax.specs.ExprTyping.{operation_of, operation_kind, prefix_rules, prefix_type, binary_rules, binary_type, rotate_rules, rotate_type, convert_rules, convert_type, select_rules, select_type}
-use Rattle.syntax.specs.Types.{joined}
+use Rattle.language.specs.declared.signature.Kind.{Kind}
+use Rattle.language.specs.declared.tree.BinaryOperator.{BinaryOperator}
+use Rattle.language.specs.declared.tree.PrefixOperator.{PrefixOperator}
+use Rattle.language.specs.declared.typing.ValueType.TheVariants.{Word}
+use Rattle.language.specs.declared.typing.WordType.{WordType}
+use Rattle.language.specs.ExprTyping.{operation_of, operation_kind, prefix_rules, prefix_type, binary_rules, binary_type, rotate_rules, rotate_type, convert_rules, convert_type, select_rules, select_type}
+use Rattle.language.specs.Types.{joined}
 use Rattle.inline.proofs.Rules.{met}
 
 same_word : (a b : WordType) → Word a ≡ Word b → a ≡ b

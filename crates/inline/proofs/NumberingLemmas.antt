@@ -10,11 +10,11 @@ use Rattle.inline.specs.Flat.{FlatBlock, nothing, first, flat_block, flat_tree, 
 use Rattle.inline.specs.Numbering.{Numbers, block, names_after, names_after_all, statement, term}
 use Rattle.names.specs.Scope.{declared, found}
 use Rattle.word.specs.declared.place.Place.{Place}
-use Rattle.syntax.specs.declared.tree.Expr.{Expr}
-use Rattle.syntax.specs.declared.tree.Statement.{Statement, If}
-use Rattle.syntax.specs.Size.{block_words, statement_words}
-use Rattle.syntax.specs.Tree.{StatementTree, declaration, assignment, conditional, BlockTree, expr_tree, statement_tree, block_tree}
-use Rattle.syntax.specs.Tree as source
+use Rattle.language.specs.declared.tree.Expr.{Expr}
+use Rattle.language.specs.declared.tree.Statement.{Statement, If}
+use Rattle.language.specs.Size.{block_words, statement_words}
+use Rattle.language.specs.Tree.{StatementTree, declaration, assignment, conditional, BlockTree, expr_tree, statement_tree, block_tree}
+use Rattle.language.specs.Tree as source
 
 -- one block, then another
 abbrev pub joined : FlatBlock → FlatBlock → FlatBlock

@@ -3,12 +3,12 @@ use Rattle.std.proofs.Common.{◌≡◌, ◌≢◌, ℕ, ◌+◌, true, false, L
 use Rattle.std.proofs.lemmas.Option.{none-some, same_Some}
 use Rattle.std.specs.Option.{option_map}
 use Rattle.word.specs.declared.place.Place.{Place}
-use Rattle.syntax.specs.declared.values.Arg.{Arg}
-use Rattle.syntax.specs.Meaning.{Ending, gives, faults, operands, applied, Evaluates, by_operands, operand_faults, EvaluatesAll, none_left, one_more, this_faults, later_faults, Returned, word_arguments, begun, copied_out, named, exported, holding, final_arrays, word_given, made_array, written, with_some, with_element, counting, Calls, argument_faults, body_faults, body_ends, Bodies, statements_fault, returns_nothing, returns, return_faults, Rights, of_call, of_expr, expr_faults, Runs, declares, declaration_faults, declares_array, first_value_faults, assigns, assignment_faults, target_faults, right_faults, assigns_element, calls, call_faults, condition_faults, accepts, declines, bounds_fault, loops, Turns, no_turn, turn_faults, a_turn, RunsAll, ends, stops, goes_on, Gives, ends_well, meets_fault}
-use Rattle.syntax.specs.Operators.{truth_of}
-use Rattle.syntax.specs.Results.{Results}
-use Rattle.syntax.specs.State.{State, Word, single, with_value}
-use Rattle.syntax.specs.Tree.{ExprTree, element, CallTree, RightTree, called, computed, StatementTree, declaration, array, assignment, element_assignment, call, conditional, loop, BlockTree, nothing, first, ProcedureTree, ProgramTree, ReturnTree}
+use Rattle.language.specs.declared.values.Arg.{Arg}
+use Rattle.language.specs.Meaning.{Ending, gives, faults, operands, applied, Evaluates, by_operands, operand_faults, EvaluatesAll, none_left, one_more, this_faults, later_faults, Returned, word_arguments, begun, copied_out, named, exported, holding, final_arrays, word_given, made_array, written, with_some, with_element, counting, Calls, argument_faults, body_faults, body_ends, Bodies, statements_fault, returns_nothing, returns, return_faults, Rights, of_call, of_expr, expr_faults, Runs, declares, declaration_faults, declares_array, first_value_faults, assigns, assignment_faults, target_faults, right_faults, assigns_element, calls, call_faults, condition_faults, accepts, declines, bounds_fault, loops, Turns, no_turn, turn_faults, a_turn, RunsAll, ends, stops, goes_on, Gives, ends_well, meets_fault}
+use Rattle.language.specs.Operators.{truth_of}
+use Rattle.language.specs.Results.{Results}
+use Rattle.language.specs.State.{State, Word, single, with_value}
+use Rattle.language.specs.Tree.{ExprTree, element, CallTree, RightTree, called, computed, StatementTree, declaration, array, assignment, element_assignment, call, conditional, loop, BlockTree, nothing, first, ProcedureTree, ProgramTree, ReturnTree}
 
 gave : {A : Type 0} (a b : A) → gives a ≡ gives b → a ≡ b
 gave a b h = cc

@@ -1,16 +1,16 @@
 -- What the rules ask of the kinds of a node's operands.
 use Rattle.std.proofs.Common.{◌≡◌, ℕ, Bool, true, false, not, ◌&&◌, ◌||◌, ◌++◌, length, refl, sym, ap, true≢false}
-use Rattle.syntax.specs.declared.rule.Rule.TheVariants.{WidthsDiffer, WrongKind, SecretToPublic, LiteralOutOfRange}
-use Rattle.syntax.specs.declared.signature.Kind.{Kind}
-use Rattle.syntax.specs.declared.signature.Kind.TheVariants.{Boolean, Uint8, Uint16, Uint32}
-use Rattle.syntax.specs.declared.signature.Label.{Label}
-use Rattle.syntax.specs.declared.signature.Label.TheVariants.{Public, Secret}
-use Rattle.syntax.specs.declared.typing.Operation.{Operation}
-use Rattle.syntax.specs.declared.typing.Operation.TheVariants.{Arithmetic, Shift}
-use Rattle.syntax.specs.ExprTyping.{operation_rules, rotate_rules, rotates_within, select_rules, is_uneven, takes}
-use Rattle.syntax.specs.Grammatical.{IsNumberKind}
-use Rattle.syntax.specs.Types.{when, word, is_number, is_secret, widths_differ, are_alike}
-use Rattle.syntax.specs.Typing.{value_rules}
+use Rattle.language.specs.declared.rule.Rule.TheVariants.{WidthsDiffer, WrongKind, SecretToPublic, LiteralOutOfRange}
+use Rattle.language.specs.declared.signature.Kind.{Kind}
+use Rattle.language.specs.declared.signature.Kind.TheVariants.{Boolean, Uint8, Uint16, Uint32}
+use Rattle.language.specs.declared.signature.Label.{Label}
+use Rattle.language.specs.declared.signature.Label.TheVariants.{Public, Secret}
+use Rattle.language.specs.declared.typing.Operation.{Operation}
+use Rattle.language.specs.declared.typing.Operation.TheVariants.{Arithmetic, Shift}
+use Rattle.language.specs.ExprTyping.{operation_rules, rotate_rules, rotates_within, select_rules, is_uneven, takes}
+use Rattle.language.specs.Grammatical.{IsNumberKind}
+use Rattle.language.specs.Types.{when, word, is_number, is_secret, widths_differ, are_alike}
+use Rattle.language.specs.Typing.{value_rules}
 use Rattle.inline.proofs.Rules.{none_left, none_right, not_when, is_met}
 
 pub a_number : (kind : Kind) → is_number kind ≡ true → IsNumberKind kind

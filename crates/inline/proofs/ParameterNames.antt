@@ -12,20 +12,20 @@ use Rattle.inline.specs.FlatTyping.{parameter_types}
 use Rattle.inline.specs.Numbering as numbering
 use Rattle.inline.specs.Numbering.{Numbers, param_of, parameter_names}
 use Rattle.names.specs.Scope.{found, declared}
-use Rattle.syntax.specs.declared.typing.VariableType.{VariableType}
-use Rattle.syntax.specs.declared.typing.Callee.{Callee}
-use Rattle.syntax.specs.declared.typing.Declared.{Declared}
-use Rattle.syntax.specs.declared.typing.Declared.TheVariants.{Procedure, Variable}
-use Rattle.syntax.specs.declared.values.Arg.{Arg}
-use Rattle.syntax.specs.declared.values.Arg.TheVariants.{Word, Array}
-use Rattle.syntax.specs.declared.signature.Form.TheVariants.{SingleWord}
-use Rattle.syntax.specs.declared.typing.ValueType.TheVariants.{Word as AWord}
-use Rattle.syntax.specs.declared.typing.WordType.{WordType}
-use Rattle.syntax.specs.Meaning.{holding, argument_value}
-use Rattle.syntax.specs.State.{single}
-use Rattle.syntax.specs.Tree.{ParameterTree, ProcedureTree}
-use Rattle.syntax.specs.Types.{Scope}
-use Rattle.syntax.specs.Typing.{with_parameters, parameter_as, parameter_value, is_mutable}
+use Rattle.language.specs.declared.typing.VariableType.{VariableType}
+use Rattle.language.specs.declared.typing.Callee.{Callee}
+use Rattle.language.specs.declared.typing.Declared.{Declared}
+use Rattle.language.specs.declared.typing.Declared.TheVariants.{Procedure, Variable}
+use Rattle.language.specs.declared.values.Arg.{Arg}
+use Rattle.language.specs.declared.values.Arg.TheVariants.{Word, Array}
+use Rattle.language.specs.declared.signature.Form.TheVariants.{SingleWord}
+use Rattle.language.specs.declared.typing.ValueType.TheVariants.{Word as AWord}
+use Rattle.language.specs.declared.typing.WordType.{WordType}
+use Rattle.language.specs.Meaning.{holding, argument_value}
+use Rattle.language.specs.State.{single}
+use Rattle.language.specs.Tree.{ParameterTree, ProcedureTree}
+use Rattle.language.specs.Types.{Scope}
+use Rattle.language.specs.Typing.{with_parameters, parameter_as, parameter_value, is_mutable}
 use Rattle.inline.proofs.Lookup.{first_of_two, first-assoc, first-none, first-cond, found_declared}
 use Rattle.inline.proofs.Linked.{Linked, entry, same_variable}
 

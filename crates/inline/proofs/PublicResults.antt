@@ -7,10 +7,10 @@ use Rattle.arguments.specs.Within.{AreWithin}
 use Rattle.inline.specs.Flat.{TermTree, FlatProgram}
 use Rattle.inline.specs.FlatMeaning.{Values, value_in, given, word_in, after_all, outcome_of}
 use Rattle.inline.specs.FlatTyping.{Types, IsResult, IsTypedProgram, parameter_types, types_after_all}
-use Rattle.syntax.specs.declared.signature.Label.TheVariants.{Public}
-use Rattle.syntax.specs.declared.signature.Param.{Param}
-use Rattle.syntax.specs.declared.typing.WordType.{WordType}
-use Rattle.syntax.specs.declared.values.Arg.{Arg}
+use Rattle.language.specs.declared.signature.Label.TheVariants.{Public}
+use Rattle.language.specs.declared.signature.Param.{Param}
+use Rattle.language.specs.declared.typing.WordType.{WordType}
+use Rattle.language.specs.declared.values.Arg.{Arg}
 use Rattle.inline.proofs.PublicTerms.{SamePublic, public_suited}
 use Rattle.inline.proofs.PublicValues.{same_after_all}
 

@@ -4,11 +4,11 @@ use Rattle.word.specs.Operators.{converted, rotated_left}
 use Rattle.inline.specs.Flat.{TermTree, number, truth, variable, prefix, binary, rotate, convert, select}
 use Rattle.inline.specs.FlatMeaning.{Values, value_in}
 use Rattle.inline.specs.FlatTyping.{Types, HasType, Suits}
-use Rattle.syntax.specs.declared.signature.Label.{Label}
-use Rattle.syntax.specs.declared.signature.Label.TheVariants.{Public, Secret}
-use Rattle.syntax.specs.declared.typing.WordType.{WordType}
-use Rattle.syntax.specs.Operators.{operated, prefix_value, width_of}
-use Rattle.syntax.specs.Types.{joined}
+use Rattle.language.specs.declared.signature.Label.{Label}
+use Rattle.language.specs.declared.signature.Label.TheVariants.{Public, Secret}
+use Rattle.language.specs.declared.typing.WordType.{WordType}
+use Rattle.language.specs.Operators.{operated, prefix_value, width_of}
+use Rattle.language.specs.Types.{joined}
 use Rattle.inline.proofs.NodeTypes.{prefix_typed, binary_typed, rotate_typed, convert_typed, select_typed}
 use Rattle.inline.proofs.Rules.{secret≢public}
 

@@ -4,10 +4,10 @@ use Rattle.std.proofs.lemmas.Option.{same_Some}
 use Rattle.inline.specs.Flat.{TermTree, FlatTree, declare, assign, branch, FlatBlock, nothing, first}
 use Rattle.inline.specs.FlatMeaning.{Values, with_value, value_in, after, after_all}
 use Rattle.inline.specs.FlatTyping.{Types, with_type, HasType, IsTyped, AreTyped, types_after, types_after_all}
-use Rattle.syntax.specs.declared.signature.Label.{Label}
-use Rattle.syntax.specs.declared.signature.Label.TheVariants.{Public, Secret}
-use Rattle.syntax.specs.declared.typing.WordType.{WordType}
-use Rattle.syntax.specs.Types.{joined}
+use Rattle.language.specs.declared.signature.Label.{Label}
+use Rattle.language.specs.declared.signature.Label.TheVariants.{Public, Secret}
+use Rattle.language.specs.declared.typing.WordType.{WordType}
+use Rattle.language.specs.Types.{joined}
 use Rattle.inline.proofs.PublicTerms.{SamePublic, public_value, public_suited}
 use Rattle.inline.proofs.Rules.{secret≢public}
 use Rattle.inline.proofs.TypesKept.{with_value-other, new_number, type_kept, types_kept}

@@ -2,10 +2,10 @@
 use Rattle.std.proofs.Common.{◌≡◌, Vec, Global, refl, ap, ap₂, ◌∙◌}
 use mathlib.Core.Former.{Count}
 use Rattle.word.specs.declared.place.Place.{Place}
-use Rattle.syntax.specs.declared.tree.Counter.{Counter}
-use Rattle.syntax.specs.declared.tree.Expr.{Expr}
-use Rattle.syntax.specs.declared.tree.Statement.{Statement, If, If', For, For', Row_of-Statement, end_of-Statement, more_of-Statement, items-the_row-Statement, items_hidden-the_row-Statement-0}
-use Rattle.syntax.specs.Tree.{expr_tree, statement_tree, row_tree, block_tree, conditional, loop, first}
+use Rattle.language.specs.declared.tree.Counter.{Counter}
+use Rattle.language.specs.declared.tree.Expr.{Expr}
+use Rattle.language.specs.declared.tree.Statement.{Statement, If, If', For, For', Row_of-Statement, end_of-Statement, more_of-Statement, items-the_row-Statement, items_hidden-the_row-Statement-0}
+use Rattle.language.specs.Tree.{expr_tree, statement_tree, row_tree, block_tree, conditional, loop, first}
 use Rattle.inline.specs.declared.flat.FlatStatement.{FlatStatement, Branch, Branch', Row_of-FlatStatement, end_of-FlatStatement, more_of-FlatStatement, items-the_row-FlatStatement, items_hidden-the_row-FlatStatement-0}
 use Rattle.inline.specs.declared.flat.Term.{Term}
 use Rattle.inline.specs.Flat.{term_tree, flat_tree, flat_block, branch}

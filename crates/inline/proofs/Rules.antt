@@ -2,14 +2,14 @@
 use Rattle.std.proofs.Common.{◌≡◌, ◌≢◌, Bool, true, false, not, List, [], ◌∷◌, ◌++◌, length, Option, Some, None, is_some, refl, ap, arith, length-append, true≢false}
 use Rattle.std.proofs.lemmas.Option.{none-some, same_Some}
 use Rattle.word.specs.declared.place.Place.{Place}
-use Rattle.syntax.specs.declared.rule.Rule.{Rule}
-use Rattle.syntax.specs.declared.rule.Rule.TheVariants.{UndeclaredName}
-use Rattle.syntax.specs.declared.signature.Label.TheVariants.{Public, Secret}
-use Rattle.syntax.specs.declared.typing.Declared.{Declared}
-use Rattle.syntax.specs.declared.typing.Declared.TheVariants.{Procedure, Variable}
-use Rattle.syntax.specs.declared.typing.ValueType.{ValueType}
-use Rattle.syntax.specs.declared.typing.VariableType.{VariableType}
-use Rattle.syntax.specs.Types.{at, when, unless, is_secret, variable}
+use Rattle.language.specs.declared.rule.Rule.{Rule}
+use Rattle.language.specs.declared.rule.Rule.TheVariants.{UndeclaredName}
+use Rattle.language.specs.declared.signature.Label.TheVariants.{Public, Secret}
+use Rattle.language.specs.declared.typing.Declared.{Declared}
+use Rattle.language.specs.declared.typing.Declared.TheVariants.{Procedure, Variable}
+use Rattle.language.specs.declared.typing.ValueType.{ValueType}
+use Rattle.language.specs.declared.typing.VariableType.{VariableType}
+use Rattle.language.specs.Types.{at, when, unless, is_secret, variable}
 
 pub none_left : {A : Type 0} (xs ys : List A) → length (xs ++ ys) ≡ 0 → length xs ≡ 0
 none_left xs ys h = let e = length-append xs ys in omega (arith, e, h)

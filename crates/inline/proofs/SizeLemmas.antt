@@ -6,16 +6,16 @@ use Rattle.coverage.specs.Compiled.{IsCompiledBlock, IsCompiledExpr, IsCompiledP
 use Rattle.std.proofs.lemmas.Bool.Decides.{nat_tests}
 use Rattle.std.proofs.lemmas.List.Elements.{All-cons, All-nil}
 use Rattle.word.specs.declared.place.Place.{Place}
-use Rattle.syntax.specs.declared.rule.Rule.{Rule}
-use Rattle.syntax.specs.declared.rule.Rule.TheVariants.{InlinedSize, DeclaredBytes}
-use Rattle.syntax.specs.declared.tree.Counter.{Counter}
-use Rattle.syntax.specs.declared.tree.Expr.{Expr}
-use Rattle.syntax.specs.declared.tree.Statement.{Statement, If, For}
-use Rattle.syntax.specs.declared.typing.Violation.{Violation}
-use Rattle.syntax.specs.FirstViolation.{IsFirst, IsNoLaterThan}
-use Rattle.syntax.specs.Size.{nodes_in, statement_nodes, block_nodes, nodes_of, statement_words, block_words, size_violations, declared_bytes, most_nodes, most_declared_bytes, held_words, parameter_words}
-use Rattle.syntax.specs.Tree.{ExprTree, number, truth, name, prefix, binary, rotate, convert, select, element, StatementTree, declaration, array, assignment, element_assignment, call, conditional, loop, ProcedureTree, ParameterTree, expr_tree, statement_tree, block_tree}
-use Rattle.syntax.specs.Types.{at, when}
+use Rattle.language.specs.declared.rule.Rule.{Rule}
+use Rattle.language.specs.declared.rule.Rule.TheVariants.{InlinedSize, DeclaredBytes}
+use Rattle.language.specs.declared.tree.Counter.{Counter}
+use Rattle.language.specs.declared.tree.Expr.{Expr}
+use Rattle.language.specs.declared.tree.Statement.{Statement, If, For}
+use Rattle.language.specs.declared.typing.Violation.{Violation}
+use Rattle.language.specs.FirstViolation.{IsFirst, IsNoLaterThan}
+use Rattle.language.specs.Size.{nodes_in, statement_nodes, block_nodes, nodes_of, statement_words, block_words, size_violations, declared_bytes, most_nodes, most_declared_bytes, held_words, parameter_words}
+use Rattle.language.specs.Tree.{ExprTree, number, truth, name, prefix, binary, rotate, convert, select, element, StatementTree, declaration, array, assignment, element_assignment, call, conditional, loop, ProcedureTree, ParameterTree, expr_tree, statement_tree, block_tree}
+use Rattle.language.specs.Types.{at, when}
 use Rattle.inline.proofs.RowLemmas.{conditional_tree, loop_tree}
 
 -- an expression has a node

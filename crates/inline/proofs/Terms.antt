@@ -9,22 +9,22 @@ use Rattle.inline.specs.FlatMeaning.{Values, value_in}
 use Rattle.inline.specs.FlatTyping.{Types, HasType, Suits}
 use Rattle.inline.specs.Numbering.{Numbers, kind_in, term}
 use Rattle.names.specs.Scope.{found}
-use Rattle.syntax.specs.declared.rule.Rule.TheVariants.{LiteralOutOfRange}
-use Rattle.syntax.specs.declared.signature.Kind.{Kind}
-use Rattle.syntax.specs.declared.signature.Kind.TheVariants.{Boolean}
-use Rattle.syntax.specs.declared.signature.Label.TheVariants.{Public}
-use Rattle.syntax.specs.declared.typing.ValueType.TheVariants.{Word}
-use Rattle.syntax.specs.declared.typing.VariableType.{VariableType}
-use Rattle.syntax.specs.declared.typing.WordType.{WordType}
-use Rattle.syntax.specs.ExprTyping.{type_of, expr_violations, number_rules, operation_of, operation_kind, prefix_rules, prefix_type, binary_rules, binary_type, rotate_rules, rotate_type, convert_rules, convert_type, select_rules, select_type}
-use Rattle.syntax.specs.Grammatical.{AreSmall}
-use Rattle.syntax.specs.Meaning.{Evaluates, by_operands, none_left as none_evaluated, one_more, gives, faults, word_held}
-use Rattle.syntax.specs.Operators.{operated, prefix_value, width_of, binary_word}
-use Rattle.syntax.specs.State.{State, single}
-use Rattle.syntax.specs.State as state
-use Rattle.syntax.specs.Tree.{ExprTree, number, truth, name, prefix, binary, rotate, convert, select, element}
-use Rattle.syntax.specs.Types.{Scope, at, bits_of, joined, of_one, of_two, of_three, variable, word}
-use Rattle.syntax.specs.Typing.{value_rules}
+use Rattle.language.specs.declared.rule.Rule.TheVariants.{LiteralOutOfRange}
+use Rattle.language.specs.declared.signature.Kind.{Kind}
+use Rattle.language.specs.declared.signature.Kind.TheVariants.{Boolean}
+use Rattle.language.specs.declared.signature.Label.TheVariants.{Public}
+use Rattle.language.specs.declared.typing.ValueType.TheVariants.{Word}
+use Rattle.language.specs.declared.typing.VariableType.{VariableType}
+use Rattle.language.specs.declared.typing.WordType.{WordType}
+use Rattle.language.specs.ExprTyping.{type_of, expr_violations, number_rules, operation_of, operation_kind, prefix_rules, prefix_type, binary_rules, binary_type, rotate_rules, rotate_type, convert_rules, convert_type, select_rules, select_type}
+use Rattle.language.specs.Grammatical.{AreSmall}
+use Rattle.language.specs.Meaning.{Evaluates, by_operands, none_left as none_evaluated, one_more, gives, faults, word_held}
+use Rattle.language.specs.Operators.{operated, prefix_value, width_of, binary_word}
+use Rattle.language.specs.State.{State, single}
+use Rattle.language.specs.State as state
+use Rattle.language.specs.Tree.{ExprTree, number, truth, name, prefix, binary, rotate, convert, select, element}
+use Rattle.language.specs.Types.{Scope, at, bits_of, joined, of_one, of_two, of_three, variable, word}
+use Rattle.language.specs.Typing.{value_rules}
 use Rattle.inline.proofs.Linked.{Linked, entry, number_known, kind_known}
 use Rattle.inline.proofs.OperandKinds.{choice_kinds, value_kinds}
 use Rattle.inline.proofs.Rules.{none_left, none_right, no_rules, is_met, well_typed, a_variable}

@@ -4,8 +4,8 @@ use Rattle.std.proofs.lemmas.Option.{none-some}
 use Rattle.inline.specs.Flat.{FlatTree, declare, assign, branch, FlatBlock, nothing, first}
 use Rattle.inline.specs.FlatMeaning.{Values, with_value}
 use Rattle.inline.specs.FlatTyping.{Types, IsTyped, AreTyped, types_after, types_after_all}
-use Rattle.syntax.specs.declared.signature.Label.{Label}
-use Rattle.syntax.specs.declared.typing.WordType.{WordType}
+use Rattle.language.specs.declared.signature.Label.{Label}
+use Rattle.language.specs.declared.typing.WordType.{WordType}
 use Rattle.inline.proofs.Linked.{with_type-other}
 
 pub with_value-other : (m : Values) (x y v : ℕ) → (y ≡ x → ⊥) → with_value m x v y ≡ m y

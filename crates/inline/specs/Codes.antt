@@ -3,14 +3,14 @@ use Rattle.std.proofs.Common.{◌≡◌, ℕ, List, Option, refl, ap}
 use Rattle.std.specs.Coded.{Coded, code_by, coded×, coded_ℕ, coded_bool, coded_list, coded_option}
 use base.Stored.{Gv, gnil, gnum, gcons}
 use Rattle.inline.specs.Flat.{TermTree, number, truth, variable, prefix, binary, rotate, convert, select, FlatTree, declare, assign, branch, FlatBlock, nothing, first, FlatProgram}
-use Rattle.syntax.specs.contracts.signature.Param as param
-use Rattle.syntax.specs.contracts.signature.Kind as kind
-use Rattle.syntax.specs.contracts.tree.BinaryOperator as operator
-use Rattle.syntax.specs.contracts.tree.PrefixOperator as prefix_operator
-use Rattle.syntax.specs.contracts.typing.WordType as word
+use Rattle.language.specs.contracts.signature.Param as param
+use Rattle.language.specs.contracts.signature.Kind as kind
+use Rattle.language.specs.contracts.tree.BinaryOperator as operator
+use Rattle.language.specs.contracts.tree.PrefixOperator as prefix_operator
+use Rattle.language.specs.contracts.typing.WordType as word
 use Rattle.word.specs.contracts.width.Width as width
-use Rattle.syntax.specs.declared.signature.Param.{Param}
-use Rattle.syntax.specs.declared.typing.WordType.{WordType}
+use Rattle.language.specs.declared.signature.Param.{Param}
+use Rattle.language.specs.declared.typing.WordType.{WordType}
 
 abbrev head : Gv → Gv
 head gnil = gnil

@@ -2,11 +2,11 @@
 use Rattle.std.specs.Prelude.{ℕ, Bool, List, [], ◌∷◌, Option}
 use Rattle.inline.specs.declared.flat.Term.{Term, Number, Truth, Variable, Prefix', Binary', Rotate', Convert', Select'}
 use Rattle.inline.specs.declared.flat.FlatStatement.{FlatStatement, Declare, Assign, Branch', Row_of-FlatStatement, end_of-FlatStatement, more_of-FlatStatement}
-use Rattle.syntax.specs.declared.signature.Param.{Param}
-use Rattle.syntax.specs.declared.signature.Kind.{Kind}
-use Rattle.syntax.specs.declared.tree.BinaryOperator.{BinaryOperator}
-use Rattle.syntax.specs.declared.tree.PrefixOperator.{PrefixOperator}
-use Rattle.syntax.specs.declared.typing.WordType.{WordType}
+use Rattle.language.specs.declared.signature.Param.{Param}
+use Rattle.language.specs.declared.signature.Kind.{Kind}
+use Rattle.language.specs.declared.tree.BinaryOperator.{BinaryOperator}
+use Rattle.language.specs.declared.tree.PrefixOperator.{PrefixOperator}
+use Rattle.language.specs.declared.typing.WordType.{WordType}
 use Rattle.word.specs.declared.width.Width.{Width}
 
 -- an expression; where the width of an operand decides what a node means, the node has it: the left operand's

@@ -2,10 +2,10 @@
 use Rattle.std.specs.Prelude.{ℕ, zero, suc, ◌==◌, List, [], ◌∷◌, if◌then◌else◌}
 use Rattle.std.specs.Option.{option_map}
 use Rattle.inline.specs.Flat.{TermTree, number, truth, variable, prefix, binary, rotate, convert, select, FlatTree, declare, assign, branch, FlatBlock, nothing, first, FlatProgram}
-use Rattle.syntax.specs.Operators.{operated, prefix_value, width_of}
-use Rattle.syntax.specs.Results.{Results}
-use Rattle.syntax.specs.declared.values.Arg.{Arg}
-use Rattle.syntax.specs.declared.values.Arg.TheVariants.{Word, Array}
+use Rattle.language.specs.Operators.{operated, prefix_value, width_of}
+use Rattle.language.specs.Results.{Results}
+use Rattle.language.specs.declared.values.Arg.{Arg}
+use Rattle.language.specs.declared.values.Arg.TheVariants.{Word, Array}
 use Rattle.word.specs.Operators.{rotated_left, converted, word_of}
 
 -- what the variables hold; a bool is 0 or 1

@@ -1,16 +1,16 @@
 -- Types of numbered variables: what is known of a well-typed body once its names are gone.
 use Rattle.std.specs.Prelude.{◌≡◌, ℕ, zero, suc, false, ◌^◌, ◌<◌, ◌==◌, List, [], ◌∷◌, Option, None, Some, if◌then◌else◌}
 use Rattle.inline.specs.Flat.{TermTree, number, truth, variable, prefix, binary, rotate, convert, select, FlatTree, declare, assign, branch, FlatBlock, nothing, first, FlatProgram}
-use Rattle.syntax.specs.declared.signature.Kind.TheVariants.{Boolean}
-use Rattle.syntax.specs.declared.signature.Label.{Label}
-use Rattle.syntax.specs.declared.signature.Label.TheVariants.{Public, Secret}
-use Rattle.syntax.specs.declared.signature.Param.{Param}
-use Rattle.syntax.specs.declared.typing.WordType.{WordType}
-use Rattle.syntax.specs.declared.typing.ValueType.TheVariants.{Word}
-use Rattle.syntax.specs.ExprTyping.{prefix_type, binary_type, rotate_type, convert_type, select_type}
-use Rattle.syntax.specs.Grammatical.{IsNumberKind}
-use Rattle.syntax.specs.Operators.{divides, width_of}
-use Rattle.syntax.specs.Types.{bits_of, joined}
+use Rattle.language.specs.declared.signature.Kind.TheVariants.{Boolean}
+use Rattle.language.specs.declared.signature.Label.{Label}
+use Rattle.language.specs.declared.signature.Label.TheVariants.{Public, Secret}
+use Rattle.language.specs.declared.signature.Param.{Param}
+use Rattle.language.specs.declared.typing.WordType.{WordType}
+use Rattle.language.specs.declared.typing.ValueType.TheVariants.{Word}
+use Rattle.language.specs.ExprTyping.{prefix_type, binary_type, rotate_type, convert_type, select_type}
+use Rattle.language.specs.Grammatical.{IsNumberKind}
+use Rattle.language.specs.Operators.{divides, width_of}
+use Rattle.language.specs.Types.{bits_of, joined}
 
 -- the types of the variables in scope
 abbrev pub Types : Type 0

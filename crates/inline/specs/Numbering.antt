@@ -6,13 +6,13 @@ use Rattle.names.specs.Scope.{found, declared}
 use Rattle.inline.specs.Flat.{TermTree, FlatTree, FlatBlock, FlatProgram}
 use Rattle.inline.specs.Flat as flat
 use Rattle.inline.specs.declared.numbering.Numbered.{Numbered}
-use Rattle.syntax.specs.declared.signature.Kind.{Kind}
-use Rattle.syntax.specs.declared.signature.Kind.TheVariants.{Boolean}
-use Rattle.syntax.specs.declared.signature.Param.{Param}
-use Rattle.syntax.specs.ExprTyping.{operation_of, operation_kind}
-use Rattle.syntax.specs.Operators.{width_of}
-use Rattle.syntax.specs.Size.{statement_words, block_words, nodes_of}
-use Rattle.syntax.specs.Tree.{ExprTree, number, truth, name, prefix, binary, rotate, convert, select, element, RightTree, called, computed, StatementTree, declaration, array, assignment, element_assignment, call, conditional, loop, BlockTree, nothing, first, ParameterTree, ReturnTree, ProcedureTree}
+use Rattle.language.specs.declared.signature.Kind.{Kind}
+use Rattle.language.specs.declared.signature.Kind.TheVariants.{Boolean}
+use Rattle.language.specs.declared.signature.Param.{Param}
+use Rattle.language.specs.ExprTyping.{operation_of, operation_kind}
+use Rattle.language.specs.Operators.{width_of}
+use Rattle.language.specs.Size.{statement_words, block_words, nodes_of}
+use Rattle.language.specs.Tree.{ExprTree, number, truth, name, prefix, binary, rotate, convert, select, element, RightTree, called, computed, StatementTree, declaration, array, assignment, element_assignment, call, conditional, loop, BlockTree, nothing, first, ParameterTree, ReturnTree, ProcedureTree}
 
 -- the names in scope, each with its number and its kind
 abbrev pub Numbers : Type 0

@@ -1,4 +1,4 @@
-use syntax::{BinaryOperator, Kind, PrefixOperator, WordType};
+use language::{BinaryOperator, Kind, PrefixOperator, WordType};
 use word::Width;
 
 /// An expression over numbered variables. Where the width of an operand decides what a node means, the

@@ -1,15 +1,15 @@
 ghost use Rattle.std.specs.Prelude.{◌≡◌, ◌*◌, ◌≤◌, length, IfOk, IfErr};
 ghost use Rattle.coverage.specs.Compiled.{IsCompiledProcedure};
 ghost use Rattle.inline.specs.Numbering.{flattened};
-ghost use Rattle.syntax.specs.FirstViolation.{IsRefusedFor};
-ghost use Rattle.syntax.specs.Size.{size_violations};
-ghost use Rattle.syntax.specs.Tree.{procedure_tree};
+ghost use Rattle.language.specs.FirstViolation.{IsRefusedFor};
+ghost use Rattle.language.specs.Size.{size_violations};
+ghost use Rattle.language.specs.Tree.{procedure_tree};
 
 use crate::Flat;
 use crate::numbering::Numbering;
 use crate::sizes::measure;
+use language::{Procedure, Refusal};
 use std::alloc::Global;
-use syntax::{Procedure, Refusal};
 
 /// The export as one body with numbered variables, where it passes no limit on its size.
 pub fn inline(alloc: Global, export: &Procedure<'_>) -> Result<Flat, Refusal>

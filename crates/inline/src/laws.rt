@@ -9,16 +9,16 @@ ghost use Rattle.inline.specs.Flat.{FlatBlock, FlatProgram, FlatTree, TermTree};
 ghost use Rattle.inline.specs.FlatMeaning.{Values, after, after_all, given, outcome_of, value_in};
 ghost use Rattle.inline.specs.FlatTyping.{AreTyped, HasType, IsTyped, IsTypedProgram, Suits, Types, parameter_types, types_after, types_after_all};
 ghost use Rattle.inline.specs.Numbering.{flattened, param_of};
-ghost use Rattle.syntax.specs.declared.signature.Label.{Label};
-ghost use Rattle.syntax.specs.declared.signature.Label.TheVariants.{Public};
-ghost use Rattle.syntax.specs.declared.signature.Param.{Param};
-ghost use Rattle.syntax.specs.declared.typing.WordType.{WordType};
-ghost use Rattle.syntax.specs.declared.values.Arg.{Arg};
-ghost use Rattle.syntax.specs.Grammatical.{IsGrammatical};
-ghost use Rattle.syntax.specs.Meaning.{Ending, Gives, exported, gives};
-ghost use Rattle.syntax.specs.Results.{Results};
-ghost use Rattle.syntax.specs.Tree.{ProcedureTree, ProgramTree};
-ghost use Rattle.syntax.specs.Typing.{violations};
+ghost use Rattle.language.specs.declared.signature.Label.{Label};
+ghost use Rattle.language.specs.declared.signature.Label.TheVariants.{Public};
+ghost use Rattle.language.specs.declared.signature.Param.{Param};
+ghost use Rattle.language.specs.declared.typing.WordType.{WordType};
+ghost use Rattle.language.specs.declared.values.Arg.{Arg};
+ghost use Rattle.language.specs.Grammatical.{IsGrammatical};
+ghost use Rattle.language.specs.Meaning.{Ending, Gives, exported, gives};
+ghost use Rattle.language.specs.Results.{Results};
+ghost use Rattle.language.specs.Tree.{ProcedureTree, ProgramTree};
+ghost use Rattle.language.specs.Typing.{violations};
 
 /// A program comes to at most one end on the same arguments.
 pub fn one_outcome()

@@ -4,15 +4,15 @@ ghost use Rattle.inline.specs.Flat as flat;
 ghost use Rattle.inline.specs.Flat.{flat_block, flat_tree, term_tree};
 ghost use Rattle.inline.specs.Numbering as numbered;
 ghost use Rattle.names.specs.Scope.{declared};
-ghost use Rattle.syntax.specs.ExprTyping.{operation_kind, operation_of};
-ghost use Rattle.syntax.specs.Operators.{width_of};
-ghost use Rattle.syntax.specs.Size.{block_words, statement_words};
-ghost use Rattle.syntax.specs.Tree.{block_tree, expr_tree, parameter_tree, right_tree, statement_tree};
+ghost use Rattle.language.specs.ExprTyping.{operation_kind, operation_of};
+ghost use Rattle.language.specs.Operators.{width_of};
+ghost use Rattle.language.specs.Size.{block_words, statement_words};
+ghost use Rattle.language.specs.Tree.{block_tree, expr_tree, parameter_tree, right_tree, statement_tree};
 
 use crate::{FlatStatement, Term};
+use language::{BinaryOperator, Expr, Kind, Param, Parameter, RightSide, Statement, WordType};
 use names::Names;
 use std::alloc::{AllocError, Global};
-use syntax::{BinaryOperator, Expr, Kind, Param, Parameter, RightSide, Statement, WordType};
 use word::Width;
 
 /// What a name stands for: a variable's number, and its kind.

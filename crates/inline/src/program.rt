@@ -3,8 +3,8 @@ ghost use Rattle.std.specs.Option.{option_map};
 ghost use Rattle.inline.specs.Flat.{FlatProgram, term_tree, flat_block};
 
 use crate::{FlatStatement, Term};
+use language::{Param, WordType};
 use std::marker::Model;
-use syntax::{Param, WordType};
 
 /// The export as one body with numbered variables. Its parameters are the first variables.
 #[derive(Debug, Drop)]

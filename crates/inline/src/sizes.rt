@@ -2,11 +2,11 @@
 
 ghost use Rattle.std.specs.Prelude.{◌≡◌, ◌+◌, ◌-◌, ◌≤◌, ◌↔◌, length, map, IsTrue, IfOk, IfErr};
 ghost use Rattle.std.specs.Option.{SomeIff};
-ghost use Rattle.syntax.specs.FirstViolation.{IsRefusedFor};
-ghost use Rattle.syntax.specs.Size.{nodes_in, nodes_in_all, nodes_passed, call_nodes, right_nodes, return_nodes, statement_nodes, block_nodes, nodes_of, array_words, element_bytes, held_words, parameter_words, statement_words, block_words, size_violations};
-ghost use Rattle.syntax.specs.Tree.{block_tree, call_tree, expr_tree, parameter_tree, procedure_tree, right_tree, statement_tree};
+ghost use Rattle.language.specs.FirstViolation.{IsRefusedFor};
+ghost use Rattle.language.specs.Size.{nodes_in, nodes_in_all, nodes_passed, call_nodes, right_nodes, return_nodes, statement_nodes, block_nodes, nodes_of, array_words, element_bytes, held_words, parameter_words, statement_words, block_words, size_violations};
+ghost use Rattle.language.specs.Tree.{block_tree, call_tree, expr_tree, parameter_tree, procedure_tree, right_tree, statement_tree};
 
-use syntax::{Call, Expr, Form, Kind, Parameter, Procedure, Refusal, RightSide, Rule, Statement};
+use language::{Call, Expr, Form, Kind, Parameter, Procedure, Refusal, RightSide, Rule, Statement};
 
 /// The most nodes that a program may have.
 const MOST_NODES: u32 = 6000;

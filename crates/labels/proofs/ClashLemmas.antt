@@ -7,11 +7,11 @@ use Rattle.std.proofs.lemmas.Slice.Eq.{bytes_eq-Decides}
 use Rattle.std.specs.List.{list_any}
 use Rattle.std.specs.Str.{bytes_eq}
 use Rattle.names.specs.Scope.{found, declared}
-use Rattle.syntax.specs.declared.tree.Expr.{Expr}
-use Rattle.syntax.specs.declared.tree.Parameter.{Parameter}
-use Rattle.syntax.specs.declared.typing.ValueType.{ValueType}
-use Rattle.syntax.specs.Tree.{ExprTree, ParameterTree, expr_tree, parameter_tree}
-use Rattle.syntax.specs.Typing.{Passed, array_name, clash, clashes, is_mutable, passed, same_name}
+use Rattle.language.specs.declared.tree.Expr.{Expr}
+use Rattle.language.specs.declared.tree.Parameter.{Parameter}
+use Rattle.language.specs.declared.typing.ValueType.{ValueType}
+use Rattle.language.specs.Tree.{ExprTree, ParameterTree, expr_tree, parameter_tree}
+use Rattle.language.specs.Typing.{Passed, array_name, clash, clashes, is_mutable, passed, same_name}
 
 abbrev pub Names : Type 0
 Names = List (List ℕ × Bool)

@@ -4,14 +4,14 @@ use Rattle.std.proofs.Math.ListN.{get_or}
 use Rattle.std.proofs.lemmas.List.{drop_more, map-append}
 use Rattle.std.proofs.lemmas.List.Sums.{fold-append}
 use Rattle.word.specs.declared.place.Place.{Place}
-use Rattle.syntax.specs.declared.rule.Rule.{Rule}
-use Rattle.syntax.specs.declared.tree.Expr.{Expr}
-use Rattle.syntax.specs.declared.tree.Parameter.{Parameter}
-use Rattle.syntax.specs.declared.typing.ValueType.{ValueType}
-use Rattle.syntax.specs.declared.typing.Violation.{Violation}
-use Rattle.syntax.specs.Tree.{expr_tree, parameter_tree}
-use Rattle.syntax.specs.Types.{Scope, are_met, at}
-use Rattle.syntax.specs.Typing.{all_passed_rules, passed, passed_rules}
+use Rattle.language.specs.declared.rule.Rule.{Rule}
+use Rattle.language.specs.declared.tree.Expr.{Expr}
+use Rattle.language.specs.declared.tree.Parameter.{Parameter}
+use Rattle.language.specs.declared.typing.ValueType.{ValueType}
+use Rattle.language.specs.declared.typing.Violation.{Violation}
+use Rattle.language.specs.Tree.{expr_tree, parameter_tree}
+use Rattle.language.specs.Types.{Scope, are_met, at}
+use Rattle.language.specs.Typing.{all_passed_rules, passed, passed_rules}
 use Rattle.labels.specs.Sooner.{sooner}
 
 pub are_met-append : (one rest : List Rule) → are_met (one ++ rest) ≡ (are_met one && are_met rest)

@@ -2,9 +2,9 @@
 use Rattle.std.proofs.Common.{◌≡◌, ◌≢◌, ◌<◌, ◌≤◌, ◌⊎◌, inr, ℕ, suc, zero, Bool, true, false, ◌==◌, ◌&&◌, ◌||◌, nat_lt, List, [], ◌∷◌, length, None, Some, cond, fold, Contains, refl, subst, arith}
 use Rattle.std.proofs.lemmas.Bool.Decides.{nat_tests}
 use Rattle.std.proofs.lemmas.List.Elements.{All-cons, All-nil, All-head, All-tail, Contains-append_right}
-use Rattle.syntax.specs.declared.typing.Violation.{Violation}
-use Rattle.syntax.specs.RuleOrder.{rank_of}
-use Rattle.syntax.specs.FirstViolation.{IsNoLaterThan, IsFirst}
+use Rattle.language.specs.declared.typing.Violation.{Violation}
+use Rattle.language.specs.RuleOrder.{rank_of}
+use Rattle.language.specs.FirstViolation.{IsNoLaterThan, IsFirst}
 use Rattle.labels.specs.Sooner.{comes_before, sooner}
 
 earlier : (a b c d : ℕ) → (nat_lt a b || ((a == b) && nat_lt c d)) ≡ true → (a < b) ⊎ ((a ≡ b) × (c ≤ d))

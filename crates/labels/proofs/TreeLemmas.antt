@@ -5,18 +5,18 @@ use Rattle.std.proofs.lemmas.List.{append_assoc, append-nil}
 use Rattle.std.proofs.Math.Seq.{take-append_seam}
 use mathlib.Core.Former.{Count}
 use Rattle.word.specs.declared.place.Place.{Place}
-use Rattle.syntax.specs.declared.rule.Rule.TheVariants.{NameDeclaredTwice}
-use Rattle.syntax.specs.declared.tree.Counter.{Counter}
-use Rattle.syntax.specs.declared.tree.Expr.{Expr}
-use Rattle.syntax.specs.declared.tree.Statement.{Statement, If, If', For, For', Row_of-Statement, end_of-Statement, more_of-Statement, items-the_row-Statement, items_hidden-the_row-Statement-0}
-use Rattle.syntax.specs.declared.typing.Declared.{Declared}
-use Rattle.syntax.specs.Tree.{expr_tree, statement_tree, row_tree, block_tree, StatementTree, declaration, array, assignment, element_assignment, call, conditional, loop, BlockTree, nothing, first, ParameterTree, ProcedureTree}
-use Rattle.syntax.specs.declared.signature.Label.{Label}
-use Rattle.syntax.specs.declared.typing.Violation.{Violation}
-use Rattle.syntax.specs.declared.typing.ValueType.{ValueType}
-use Rattle.syntax.specs.ExprTyping.{expr_violations, type_of}
-use Rattle.syntax.specs.Types.{Scope, at, declared, found, of_one, of_two, when}
-use Rattle.syntax.specs.Typing.{block_assigns, block_violations, bounds_rules, condition_rules, control_under, counter_as, declared_array, declared_as, parameter_as, scope_after, scope_after_all, statement_assigns, statement_violations, with_parameters}
+use Rattle.language.specs.declared.rule.Rule.TheVariants.{NameDeclaredTwice}
+use Rattle.language.specs.declared.tree.Counter.{Counter}
+use Rattle.language.specs.declared.tree.Expr.{Expr}
+use Rattle.language.specs.declared.tree.Statement.{Statement, If, If', For, For', Row_of-Statement, end_of-Statement, more_of-Statement, items-the_row-Statement, items_hidden-the_row-Statement-0}
+use Rattle.language.specs.declared.typing.Declared.{Declared}
+use Rattle.language.specs.Tree.{expr_tree, statement_tree, row_tree, block_tree, StatementTree, declaration, array, assignment, element_assignment, call, conditional, loop, BlockTree, nothing, first, ParameterTree, ProcedureTree}
+use Rattle.language.specs.declared.signature.Label.{Label}
+use Rattle.language.specs.declared.typing.Violation.{Violation}
+use Rattle.language.specs.declared.typing.ValueType.{ValueType}
+use Rattle.language.specs.ExprTyping.{expr_violations, type_of}
+use Rattle.language.specs.Types.{Scope, at, declared, found, of_one, of_two, when}
+use Rattle.language.specs.Typing.{block_assigns, block_violations, bounds_rules, condition_rules, control_under, counter_as, declared_array, declared_as, parameter_as, scope_after, scope_after_all, statement_assigns, statement_violations, with_parameters}
 use Rattle.labels.specs.Sooner.{sooner}
 
 rows : (n : _) (row : Row_of-Statement n) → row_tree row ≡ block_tree (items-the_row-Statement n row)

@@ -1,6 +1,6 @@
 -- Types of parts, found one after the other.
 use Rattle.std.proofs.Common.{Bool, true, false, Option, None, Some, List, ◌++◌}
-use Rattle.syntax.specs.declared.typing.ValueType.{ValueType}
+use Rattle.language.specs.declared.typing.ValueType.{ValueType}
 
 -- those found so far, if each part had one, before those of what is left
 abbrev pub found_before : Bool → List ValueType → Option (List ValueType) → Option (List ValueType)

@@ -1,17 +1,17 @@
 ghost use Rattle.std.specs.Prelude.{◌≡◌, ◌++◌, [], fold, length, map};
-ghost use Rattle.syntax.specs.Tree.{expr_tree, parameter_tree};
-ghost use Rattle.syntax.specs.Types.{are_met, at};
-ghost use Rattle.syntax.specs.Typing.{all_passed_rules, argument_variable, is_immutable, parameter_value, passed, passed_rules};
+ghost use Rattle.language.specs.Tree.{expr_tree, parameter_tree};
+ghost use Rattle.language.specs.Types.{are_met, at};
+ghost use Rattle.language.specs.Typing.{all_passed_rules, argument_variable, is_immutable, parameter_value, passed, passed_rules};
 ghost use Rattle.labels.specs.Sooner.{sooner};
 
 use crate::first::First;
 use crate::kinds::{is_mutable, variable};
 use crate::types::{is_array, word};
 use crate::values::note_argument;
-use names::Names;
-use syntax::{
+use language::{
     ArrayType, Declared, Expr, Form, Parameter, Place, Rule, ValueType, VariableType, WordType,
 };
+use names::Names;
 
 /// What a parameter is.
 pub fn parameter_value(parameter: &Parameter<'_>) -> ValueType

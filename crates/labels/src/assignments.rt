@@ -1,8 +1,8 @@
 ghost use Rattle.std.specs.Prelude.{◌≡◌, ◌++◌, fold, map, OnOk};
-ghost use Rattle.syntax.specs.Tree.{procedure_tree, statement_tree};
-ghost use Rattle.syntax.specs.Types.{at};
-ghost use Rattle.syntax.specs.declared.tree.Statement.{Assign, AssignElement};
-ghost use Rattle.syntax.specs.Typing.{assignment_rules, change_rules, element_assignment_rules, statement_violations, target_rules};
+ghost use Rattle.language.specs.Tree.{procedure_tree, statement_tree};
+ghost use Rattle.language.specs.Types.{at};
+ghost use Rattle.language.specs.declared.tree.Statement.{Assign, AssignElement};
+ghost use Rattle.language.specs.Typing.{assignment_rules, change_rules, element_assignment_rules, statement_violations, target_rules};
 ghost use Rattle.labels.specs.Sooner.{sooner};
 
 use crate::declarations::right_side;
@@ -12,12 +12,12 @@ use crate::kinds::variable;
 use crate::nodes::element;
 use crate::types::{kind_of, label_of};
 use crate::values::{note_control, note_value};
-use names::Names;
-use std::alloc::{AllocError, Global};
-use syntax::{
+use language::{
     Assignment, Declared, ElementAssignment, Label, Place, Procedure, Rule, ValueType,
     VariableType, WordType,
 };
+use names::Names;
+use std::alloc::{AllocError, Global};
 
 /// Notes what a value violates that is put into a target. An array as a whole is none.
 fn note_target(first: &mut First, place: Place, target: ValueType, given: ValueType)

@@ -1,9 +1,9 @@
 ghost use Rattle.std.specs.Prelude.{◌≡◌, ◌++◌, None, Some, fold, length, map, IfOk, OnOk};
 ghost use Rattle.std.specs.Option.{option_map};
-ghost use Rattle.syntax.specs.Tree.{call_tree, expr_tree, parameter_tree, procedure_tree};
-ghost use Rattle.syntax.specs.Types.{are_met, at, unless, when};
-ghost use Rattle.syntax.specs.Typing.{arguments_rules, call_type, call_violations, called_one, result_value};
-ghost use Rattle.syntax.specs.declared.rule.Rule.TheVariants.{CallAssignsPublicUnderSecretControl};
+ghost use Rattle.language.specs.Tree.{call_tree, expr_tree, parameter_tree, procedure_tree};
+ghost use Rattle.language.specs.Types.{are_met, at, unless, when};
+ghost use Rattle.language.specs.Typing.{arguments_rules, call_type, call_violations, called_one, result_value};
+ghost use Rattle.language.specs.declared.rule.Rule.TheVariants.{CallAssignsPublicUnderSecretControl};
 ghost use Rattle.labels.specs.Sooner.{sooner};
 
 use crate::arguments::note_all_passed;
@@ -11,9 +11,9 @@ use crate::clashes::arrays_clash;
 use crate::expressions::expressions;
 use crate::first::First;
 use crate::kinds::{callee, is_secret};
+use language::{Call, Callee, Declared, Label, Parameter, Procedure, Rule, ValueType, WordType};
 use names::Names;
 use std::alloc::{AllocError, Global};
-use syntax::{Call, Callee, Declared, Label, Parameter, Procedure, Rule, ValueType, WordType};
 
 /// What a procedure gives.
 fn result_value(of: Option<WordType>) -> ValueType

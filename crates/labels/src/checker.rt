@@ -1,14 +1,14 @@
 ghost use Rattle.std.specs.Prelude.{◌≡◌, None, [], fold, length, map, IfOk, IfErr, OnOk};
-ghost use Rattle.syntax.specs.FirstViolation.{IsRefusedFor};
-ghost use Rattle.syntax.specs.Tree.{procedure_tree, program_tree};
-ghost use Rattle.syntax.specs.Typing.{export_violations, exports, procedures_violations, violations};
+ghost use Rattle.language.specs.FirstViolation.{IsRefusedFor};
+ghost use Rattle.language.specs.Tree.{procedure_tree, program_tree};
+ghost use Rattle.language.specs.Typing.{export_violations, exports, procedures_violations, violations};
 ghost use Rattle.labels.specs.Sooner.{sooner};
 
 use crate::first::First;
 use crate::procedures::procedure;
+use language::{Place, Procedure, Program, Refusal, Rule, Violation};
 use names::Names;
 use std::alloc::{AllocError, Global};
-use syntax::{Place, Procedure, Program, Refusal, Rule, Violation};
 
 /// A program whose every node is well typed.
 #[derive(Drop)]

@@ -1,13 +1,13 @@
 ghost use Rattle.std.specs.Prelude.{◌≡◌, ◌&&◌, ◌||◌, [], is_some, true, length, map, IfOk, OnOk, if◌then◌else◌};
 ghost use Rattle.std.specs.Option.{option_map};
 ghost use Rattle.names.specs.Scope.{declared, found};
-ghost use Rattle.syntax.specs.Tree.{expr_tree, parameter_tree};
-ghost use Rattle.syntax.specs.Typing.{array_name, clashes, passed};
+ghost use Rattle.language.specs.Tree.{expr_tree, parameter_tree};
+ghost use Rattle.language.specs.Typing.{array_name, clashes, passed};
 
 use crate::kinds::is_mutable;
+use language::{Expr, Parameter, ValueType};
 use names::Names;
 use std::alloc::{AllocError, Global};
-use syntax::{Expr, Parameter, ValueType};
 
 /// The array that an argument is the bare name of.
 fn array_name<'a>(given: ValueType, argument: &Expr<'a>) -> Option<&'a str>

@@ -1,10 +1,10 @@
 ghost use Rattle.std.specs.Prelude.{◌≡◌, ◌++◌, [], fold, is_some, map, OnOk, IfOk};
 ghost use Rattle.std.specs.Option.{option_map};
-ghost use Rattle.syntax.specs.ExprTyping.{exprs_violations, type_of, types_of};
-ghost use Rattle.syntax.specs.Tree.{procedure_tree, right_tree, statement_tree};
-ghost use Rattle.syntax.specs.declared.tree.Statement.{Declare, DeclareArray};
-ghost use Rattle.syntax.specs.Types.{at, found, of_all, of_one};
-ghost use Rattle.syntax.specs.Typing.{array_rules, count_rules, declaration_control_rules, declaration_rules, right_type, right_violations, scope_after, statement_violations, values_rules, written};
+ghost use Rattle.language.specs.ExprTyping.{exprs_violations, type_of, types_of};
+ghost use Rattle.language.specs.Tree.{procedure_tree, right_tree, statement_tree};
+ghost use Rattle.language.specs.declared.tree.Statement.{Declare, DeclareArray};
+ghost use Rattle.language.specs.Types.{at, found, of_all, of_one};
+ghost use Rattle.language.specs.Typing.{array_rules, count_rules, declaration_control_rules, declaration_rules, right_type, right_violations, scope_after, statement_violations, values_rules, written};
 ghost use Rattle.labels.specs.Sooner.{sooner};
 ghost use Rattle.labels.specs.Written.{values_tree};
 
@@ -13,12 +13,12 @@ use crate::expressions::{expression, expressions};
 use crate::first::First;
 use crate::types::word;
 use crate::values::{note_control, note_value};
-use names::Names;
-use std::alloc::{AllocError, Global};
-use syntax::{
+use language::{
     ArrayDeclaration, ArrayType, Declaration, Declared, Expr, Label, Place, Procedure, RightSide,
     Rule, ValueType, VariableType, WordType,
 };
+use names::Names;
+use std::alloc::{AllocError, Global};
 
 /// Notes what a right side violates, and gives its type where it is well typed.
 pub fn right_side(

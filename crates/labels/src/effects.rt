@@ -1,10 +1,10 @@
 ghost use Rattle.std.specs.Prelude.{◌≡◌, map};
-ghost use Rattle.syntax.specs.Tree.{block_tree, call_tree, parameter_tree, procedure_tree, right_tree, statement_tree};
-ghost use Rattle.syntax.specs.Typing.{assigns_public, block_assigns, calls_one, is_public_mutable, parameters_assign, right_assigns, statement_assigns};
+ghost use Rattle.language.specs.Tree.{block_tree, call_tree, parameter_tree, procedure_tree, right_tree, statement_tree};
+ghost use Rattle.language.specs.Typing.{assigns_public, block_assigns, calls_one, is_public_mutable, parameters_assign, right_assigns, statement_assigns};
 
 use crate::kinds::{callee, is_mutable, is_secret};
+use language::{Call, Declared, Label, Parameter, Procedure, RightSide, Statement};
 use names::Names;
-use syntax::{Call, Declared, Label, Parameter, Procedure, RightSide, Statement};
 
 /// Whether it is public and may be assigned to.
 fn is_public_mutable(label: Label, mutable: bool) -> bool

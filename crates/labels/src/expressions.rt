@@ -1,17 +1,17 @@
 ghost use Rattle.std.specs.Prelude.{◌≡◌, fold, length, map, IfOk, IfSome, OnOk};
 ghost use Rattle.std.specs.Option.{option_map};
-ghost use Rattle.syntax.specs.ExprTyping.{expr_violations, exprs_violations, name_rules, name_type, type_of, types_of};
-ghost use Rattle.syntax.specs.Tree.{expr_tree};
-ghost use Rattle.syntax.specs.Types.{at};
+ghost use Rattle.language.specs.ExprTyping.{expr_violations, exprs_violations, name_rules, name_type, type_of, types_of};
+ghost use Rattle.language.specs.Tree.{expr_tree};
+ghost use Rattle.language.specs.Types.{at};
 ghost use Rattle.labels.specs.Sooner.{sooner};
 
 use crate::first::First;
 use crate::kinds::variable;
 use crate::nodes::{binary, choice, convert, element, number, prefix, rotate};
 use crate::types::word;
+use language::{Declared, Expr, Kind, Label, Place, Rule, ValueType};
 use names::Names;
 use std::alloc::{AllocError, Global};
-use syntax::{Declared, Expr, Kind, Label, Place, Rule, ValueType};
 
 /// Notes a name that is no variable's, and gives the type of the variable.
 pub fn name(

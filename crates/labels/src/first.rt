@@ -1,8 +1,8 @@
 ghost use Rattle.std.specs.Prelude.{◌≡◌, ◌==◌, ◌&&◌, ◌||◌, nat_lt, fold};
-ghost use Rattle.syntax.specs.Types.{at, when};
+ghost use Rattle.language.specs.Types.{at, when};
 ghost use Rattle.labels.specs.Sooner.{comes_before, sooner};
 
-use syntax::{Place, Rule, Violation};
+use language::{Place, Rule, Violation};
 
 /// Whether one violation is named rather than another.
 fn precedes(one: Violation, other: Violation) -> bool

@@ -1,8 +1,8 @@
 ghost use Rattle.std.specs.Prelude.{◌≡◌};
-ghost use Rattle.syntax.specs.Types.{bits_of, callee, is_number, is_secret, joined, same_kind, same_label, variable};
-ghost use Rattle.syntax.specs.Typing.{is_mutable};
+ghost use Rattle.language.specs.Types.{bits_of, callee, is_number, is_secret, joined, same_kind, same_label, variable};
+ghost use Rattle.language.specs.Typing.{is_mutable};
 
-use syntax::{Callee, Declared, Form, Kind, Label, VariableType};
+use language::{Callee, Declared, Form, Kind, Label, VariableType};
 
 /// How many bits a number has; a bool has one.
 pub fn bits(kind: Kind) -> u32

@@ -1,7 +1,7 @@
 ghost use Rattle.std.specs.Prelude.{◌≡◌, fold, nat_lt, ◌^◌, None, []};
-ghost use Rattle.syntax.specs.ExprTyping.{binary_rules, binary_type, convert_rules, convert_type, element_rules, element_type, number_rules, prefix_rules, prefix_type, rotate_rules, rotate_type, select_rules, select_type};
-ghost use Rattle.syntax.specs.Types.{at, bits_of, of_one, of_two, of_three, unless, word};
-ghost use Rattle.syntax.specs.declared.signature.Label.TheVariants.{Public};
+ghost use Rattle.language.specs.ExprTyping.{binary_rules, binary_type, convert_rules, convert_type, element_rules, element_type, number_rules, prefix_rules, prefix_type, rotate_rules, rotate_type, select_rules, select_type};
+ghost use Rattle.language.specs.Types.{at, bits_of, of_one, of_two, of_three, unless, word};
+ghost use Rattle.language.specs.declared.signature.Label.TheVariants.{Public};
 ghost use Rattle.labels.specs.Sooner.{sooner};
 
 use crate::first::First;
@@ -11,7 +11,7 @@ use crate::types::{
     are_alike, is_array, is_bool, is_hidden, is_narrow, is_numeric, kind_of, label_of,
     widths_differ, word,
 };
-use syntax::{BinaryOperator, Kind, Label, Place, PrefixOperator, Rule, ValueType};
+use language::{BinaryOperator, Kind, Label, Place, PrefixOperator, Rule, ValueType};
 
 /// Whether a number is one of its kind.
 fn is_within(value: u32, kind: Kind) -> bool

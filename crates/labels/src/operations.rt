@@ -1,8 +1,8 @@
 ghost use Rattle.std.specs.Prelude.{◌≡◌};
-ghost use Rattle.syntax.specs.ExprTyping.{divides_secret, is_uneven, operation_kind, operation_of, takes};
+ghost use Rattle.language.specs.ExprTyping.{divides_secret, is_uneven, operation_kind, operation_of, takes};
 
 use crate::types::{are_alike, is_bool, is_hidden, is_narrow, is_numeric, widths_differ};
-use syntax::{BinaryOperator, Kind, Operation, ValueType};
+use language::{BinaryOperator, Kind, Operation, ValueType};
 
 /// What an operator makes of its operands.
 pub fn operation(operator: BinaryOperator) -> Operation

@@ -1,8 +1,8 @@
 ghost use Rattle.std.specs.Prelude.{◌≡◌, [], fold, length, map, OnOk};
 ghost use Rattle.std.specs.Option.{option_map};
-ghost use Rattle.syntax.specs.Tree.{parameter_tree, procedure_tree, return_tree};
-ghost use Rattle.syntax.specs.Types.{at, of_one};
-ghost use Rattle.syntax.specs.Typing.{parameter_violations, procedure_rules, procedure_violations, return_rules, return_violations, with_parameters, with_procedure};
+ghost use Rattle.language.specs.Tree.{parameter_tree, procedure_tree, return_tree};
+ghost use Rattle.language.specs.Types.{at, of_one};
+ghost use Rattle.language.specs.Typing.{parameter_violations, procedure_rules, procedure_violations, return_rules, return_violations, with_parameters, with_procedure};
 ghost use Rattle.labels.specs.Sooner.{sooner};
 
 use crate::arguments::parameter_value;
@@ -12,12 +12,12 @@ use crate::first::First;
 use crate::kinds::is_mutable;
 use crate::statements::statements;
 use crate::values::note_value;
-use names::Names;
-use std::alloc::{AllocError, Global};
-use syntax::{
+use language::{
     Callee, Declared, Label, Parameter, Place, Procedure, Return, Rule, ValueType, VariableType,
     WordType,
 };
+use names::Names;
+use std::alloc::{AllocError, Global};
 
 /// Declares the parameters, and notes the names that are taken.
 fn parameters<'a>(

@@ -1,8 +1,8 @@
 ghost use Rattle.std.specs.Prelude.{◌≡◌, ◌++◌, [], fold, is_some, map, OnOk};
-ghost use Rattle.syntax.specs.Tree.{block_tree, procedure_tree, statement_tree};
-ghost use Rattle.syntax.specs.Types.{at, declared, found, of_one, of_two, when};
-ghost use Rattle.syntax.specs.Typing.{block_violations, bounds_rules, condition_rules, control_under, counter_as, scope_after, scope_after_all, statement_violations};
-ghost use Rattle.syntax.specs.declared.rule.Rule.TheVariants.{NameDeclaredTwice};
+ghost use Rattle.language.specs.Tree.{block_tree, procedure_tree, statement_tree};
+ghost use Rattle.language.specs.Types.{at, declared, found, of_one, of_two, when};
+ghost use Rattle.language.specs.Typing.{block_violations, bounds_rules, condition_rules, control_under, counter_as, scope_after, scope_after_all, statement_violations};
+ghost use Rattle.language.specs.declared.rule.Rule.TheVariants.{NameDeclaredTwice};
 ghost use Rattle.labels.specs.Sooner.{sooner};
 
 use crate::assignments::{assignment, element_assignment};
@@ -12,11 +12,11 @@ use crate::expressions::expression;
 use crate::first::First;
 use crate::kinds::join;
 use crate::types::{is_bool, is_hidden, is_narrow, is_numeric, label_of, word};
-use names::Names;
-use std::alloc::{AllocError, Global};
-use syntax::{
+use language::{
     Counter, Declared, Kind, Label, Place, Procedure, Rule, Statement, ValueType, VariableType,
 };
+use names::Names;
+use std::alloc::{AllocError, Global};
 
 /// Notes what a condition of this type violates.
 fn note_condition(first: &mut First, place: Place, condition: Option<ValueType>)

@@ -1,8 +1,8 @@
 ghost use Rattle.std.specs.Prelude.{◌≡◌};
-ghost use Rattle.syntax.specs.Types.{are_alike, is_array, is_bool, is_hidden, is_narrow, is_numeric, kind_of, label_of, widths_differ, word};
+ghost use Rattle.language.specs.Types.{are_alike, is_array, is_bool, is_hidden, is_narrow, is_numeric, kind_of, label_of, widths_differ, word};
 
 use crate::kinds::{is_number, is_same_kind, is_secret};
-use syntax::{Kind, Label, ValueType, WordType};
+use language::{Kind, Label, ValueType, WordType};
 
 /// The type of a word.
 pub fn word(kind: Kind, label: Label) -> ValueType

@@ -1,12 +1,12 @@
 ghost use Rattle.std.specs.Prelude.{◌≡◌, fold};
-ghost use Rattle.syntax.specs.Types.{are_met, at};
-ghost use Rattle.syntax.specs.Typing.{argument_rules, control_rules, same_array, shape_rules, value_rules};
+ghost use Rattle.language.specs.Types.{are_met, at};
+ghost use Rattle.language.specs.Typing.{argument_rules, control_rules, same_array, shape_rules, value_rules};
 ghost use Rattle.labels.specs.Sooner.{sooner};
 
 use crate::first::First;
 use crate::kinds::{is_same_kind, is_same_label, is_secret};
 use crate::types::{are_alike, is_hidden, widths_differ};
-use syntax::{ArrayType, Label, Place, Rule, ValueType, WordType};
+use language::{ArrayType, Label, Place, Rule, ValueType, WordType};
 
 /// Notes what a value of one type violates where a word of another is wanted, and says whether it
 /// violates nothing.

@@ -10,6 +10,3 @@ pub mod laws;
 mod pairing;
 
 pub use pairing::{Pairing, first_difference};
-
-#[cfg(test)]
-mod tests;

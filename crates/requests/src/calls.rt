@@ -7,15 +7,15 @@ ghost use Rattle.image.specs.Spelling.{spelling};
 ghost use Rattle.image.specs.declared.fault.ImageFault.{ImageFault};
 ghost use Rattle.rv_machine.specs.ListRecording.{recorded};
 ghost use Rattle.rv_machine.specs.declared.observation.Observation.{Observation};
-ghost use Rattle.syntax.specs.declared.refusal.Refusal.{Refusal};
+ghost use Rattle.language.specs.declared.refusal.Refusal.{Refusal};
 
 use crate::fault::Fault;
 use hepurita::{build, execute};
 use image::Image;
+use language::{Arg, Args, Outcome};
 use rv_machine::ListRecorder;
 use std::alloc::Global;
 use streams::{ByteSink, put_all};
-use syntax::{Arg, Args, Outcome};
 
 /// The bytes of the image of an accepted text.
 pub fn bytes_of(alloc: Global, text: &str) -> Result<Vec<u8>, Fault>

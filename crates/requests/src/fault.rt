@@ -1,6 +1,6 @@
 use hepurita::RunFault;
 use image::ImageFault;
-use syntax::Rule;
+use language::Rule;
 use thiserror::Error;
 
 /// Which call gave no answer, and why.

@@ -25,6 +25,3 @@ pub use operations::{
 pub use rv_fields::{
     BranchOffset, FenceBits, Immediate12, JumpOffset, Reg, ShiftAmount, UpperImmediate,
 };
-
-#[cfg(test)]
-mod tests;

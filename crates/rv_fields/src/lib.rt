@@ -16,6 +16,3 @@ pub use offsets::{BranchOffset, JumpOffset};
 pub use registers::Reg;
 pub use small_fields::{FenceBits, ShiftAmount};
 pub use upper_immediates::UpperImmediate;
-
-#[cfg(test)]
-mod tests;

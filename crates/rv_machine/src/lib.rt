@@ -28,8 +28,3 @@ pub use memory::Size;
 pub use observation::{Event, Observation};
 pub use recorders::{ListRecorder, NullRecorder};
 pub use stops::Stop;
-
-#[cfg(test)]
-mod instruction_tests;
-#[cfg(test)]
-mod tests;

@@ -1,8 +1,8 @@
 -- The standard bases serve each compiled image.
 use Rattle.std.proofs.Common.{ℕ, ◌+◌, ◌*◌, ◌<◌, ◌≤◌, arith}
 use Rattle.image.specs.Fields.{Fields}
-use Rattle.syntax.specs.Size.{nodes_of}
-use Rattle.syntax.specs.Tree.{ProcedureTree, ProgramTree}
+use Rattle.language.specs.Size.{nodes_of}
+use Rattle.language.specs.Tree.{ProcedureTree, ProgramTree}
 use Rattle.simulation.specs.Bases.{code_base, frame_base}
 use Rattle.simulation.specs.Compiled.{AreBases, IsCompiled}
 

@@ -23,13 +23,13 @@ use Rattle.rv_machine.specs.declared.stops.Stop.TheVariants.{Ecall}
 use Rattle.rv_machine.specs.Leakage.{Halts}
 use Rattle.rv_machine.specs.Machine.{State}
 use Rattle.rv_machine.specs.RunLaws.{Halts-determined}
-use Rattle.syntax.specs.declared.signature.Label.TheVariants.{Public}
-use Rattle.syntax.specs.declared.signature.Param.{Param}
-use Rattle.syntax.specs.declared.typing.WordType.{WordType}
-use Rattle.syntax.specs.declared.values.Arg.{Arg}
-use Rattle.syntax.specs.Meaning.{Gives, gives}
-use Rattle.syntax.specs.Results.{Results}
-use Rattle.syntax.specs.Tree.{ProcedureTree, ProgramTree}
+use Rattle.language.specs.declared.signature.Label.TheVariants.{Public}
+use Rattle.language.specs.declared.signature.Param.{Param}
+use Rattle.language.specs.declared.typing.WordType.{WordType}
+use Rattle.language.specs.declared.values.Arg.{Arg}
+use Rattle.language.specs.Meaning.{Gives, gives}
+use Rattle.language.specs.Results.{Results}
+use Rattle.language.specs.Tree.{ProcedureTree, ProgramTree}
 use Rattle.simulation.specs.Compiled.{AreBases, RunsTo, type_in, IsCompiled}
 use Rattle.simulation.specs.Followed.{RunsAs, IsFollowed}
 use Rattle.simulation.specs.Loaded.{params_of, code_at, loaded_at, results_in}

@@ -16,9 +16,9 @@ use Rattle.rv_code.specs.declared.instructions.Instr.{Instr}
 use Rattle.rv_machine.specs.Bytes.{ByteMap, number_at}
 use Rattle.rv_machine.specs.Machine as machine
 use Rattle.rv_machine.specs.Machine.{Code}
-use Rattle.syntax.specs.declared.signature.Kind.{Kind}
-use Rattle.syntax.specs.declared.tree.BinaryOperator.{BinaryOperator}
-use Rattle.syntax.specs.Operators.{divides, operated, prefix_value, width_of}
+use Rattle.language.specs.declared.signature.Kind.{Kind}
+use Rattle.language.specs.declared.tree.BinaryOperator.{BinaryOperator}
+use Rattle.language.specs.Operators.{divides, operated, prefix_value, width_of}
 use Rattle.word.specs.declared.width.Width.{Width}
 use Rattle.word.specs.Operators.{converted, rotated_left, word_of}
 use Rattle.simulation.proofs.Straight.{none, Steps, Before, After, Then, Runs, seq, quiet, weaken, never}

@@ -18,4 +18,4 @@ pub mod Placing
 pub mod WholeRuns
 pub mod BaseLemmas
 mod Compiler
-mod TextLemmas
+mod LimitLemmas

@@ -5,7 +5,7 @@ use Rattle.std.specs.Int.Bits.{and_zero_r, xor_zero_r}
 use Rattle.std.proofs.lemmas.Nat.{and_mask, xor_of_32}
 use Rattle.std.proofs.lemmas.Nat.Bits.{bit_at_xor, bit_at-lt, same_from_bits}
 use Rattle.rv_machine.specs.Effects.{sum_of, difference_of}
-use Rattle.syntax.specs.Operators.{width_of}
+use Rattle.language.specs.Operators.{width_of}
 use Rattle.branch_removal.specs.Fitness.{IsFit}
 use Rattle.inline.specs.Flat.{TermTree, number, truth, variable, prefix, binary, rotate, convert, select}
 use Rattle.inline.specs.FlatMeaning.{Values, value_in}

@@ -11,11 +11,11 @@ use Rattle.rv_code.specs.declared.operations.ShiftOperation.TheVariants.{Slli, S
 use Rattle.rv_code.specs.declared.operations.RegisterOperation.TheVariants as register
 use Rattle.rv_machine.specs.Effects.{sum_of, sign_extended, register_value, shift_value}
 use Rattle.codegen.specs.Emitted.{upper_part, lower_part, constant_code, cut_code, operator_code, prefix_code, around_code, rotate_code}
-use Rattle.syntax.specs.declared.tree.BinaryOperator.{BinaryOperator}
-use Rattle.syntax.specs.declared.tree.BinaryOperator.TheVariants.{Either, Both, Equal, Unequal, Less, LessOrEqual, Greater, GreaterOrEqual, BitOr, BitXor, BitAnd, ShiftLeft, ShiftRight, Add, Subtract, Multiply, Divide, Remainder}
-use Rattle.syntax.specs.declared.tree.PrefixOperator.{PrefixOperator}
-use Rattle.syntax.specs.declared.tree.PrefixOperator.TheVariants.{Not, Complement, Negate}
-use Rattle.syntax.specs.Operators.{divides, operated, prefix_value}
+use Rattle.language.specs.declared.tree.BinaryOperator.{BinaryOperator}
+use Rattle.language.specs.declared.tree.BinaryOperator.TheVariants.{Either, Both, Equal, Unequal, Less, LessOrEqual, Greater, GreaterOrEqual, BitOr, BitXor, BitAnd, ShiftLeft, ShiftRight, Add, Subtract, Multiply, Divide, Remainder}
+use Rattle.language.specs.declared.tree.PrefixOperator.{PrefixOperator}
+use Rattle.language.specs.declared.tree.PrefixOperator.TheVariants.{Not, Complement, Negate}
+use Rattle.language.specs.Operators.{divides, operated, prefix_value}
 use Rattle.word.specs.declared.width.Width.{Width}
 use Rattle.word.specs.declared.width.Width.TheVariants.{W8, W16, W32}
 use Rattle.word.specs.Operators.{converted, rotated_left}

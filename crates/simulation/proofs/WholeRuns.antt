@@ -22,8 +22,8 @@ use Rattle.rv_machine.specs.Leakage.{Halts}
 use Rattle.rv_machine.specs.Machine as machine
 use Rattle.rv_machine.specs.RunLaws.{Halts-after}
 use Rattle.rv_machine.specs.TurnLaws.{IsAt, ecall_halts}
-use Rattle.syntax.specs.declared.typing.WordType.{WordType}
-use Rattle.syntax.specs.declared.values.Arg.{Arg}
+use Rattle.language.specs.declared.typing.WordType.{WordType}
+use Rattle.language.specs.declared.values.Arg.{Arg}
 use Rattle.simulation.specs.Compiled.{IsInside, AreBases}
 use Rattle.simulation.specs.Followed.{HasResult, RunsAs, IsFollowed}
 use Rattle.simulation.specs.Loaded.{code_at, loaded_at, results_in, word_in}

@@ -12,12 +12,12 @@ use Rattle.rv_machine.specs.declared.observation.Event.{Event}
 use Rattle.rv_machine.specs.declared.observation.Event.TheVariants.{Load, Store, Div}
 use Rattle.rv_machine.specs.declared.observation.Observation.{Observation}
 use Rattle.rv_machine.specs.declared.stops.Stop.TheVariants.{Ecall}
-use Rattle.syntax.specs.declared.signature.Label.TheVariants.{Public}
-use Rattle.syntax.specs.declared.values.Arg.{Arg}
-use Rattle.syntax.specs.Meaning.{Gives, gives}
-use Rattle.syntax.specs.Size.{nodes_of, work_of}
-use Rattle.syntax.specs.declared.typing.WordType.{WordType}
-use Rattle.syntax.specs.Tree.{ProcedureTree, ProgramTree}
+use Rattle.language.specs.declared.signature.Label.TheVariants.{Public}
+use Rattle.language.specs.declared.values.Arg.{Arg}
+use Rattle.language.specs.Meaning.{Gives, gives}
+use Rattle.language.specs.Size.{nodes_of, work_of}
+use Rattle.language.specs.declared.typing.WordType.{WordType}
+use Rattle.language.specs.Tree.{ProcedureTree, ProgramTree}
 use Rattle.arguments.specs.Agreement.{Agree}
 use Rattle.simulation.specs.Loaded.{params_of, code_at, loaded_at, results_in}
 

@@ -11,7 +11,7 @@ use Rattle.rv_machine.specs.Leakage.{Halts}
 use Rattle.rv_machine.specs.Machine.{State}
 use Rattle.rv_machine.specs.declared.observation.Observation.{Observation}
 use Rattle.rv_machine.specs.declared.stops.Stop.TheVariants.{Ecall}
-use Rattle.syntax.specs.declared.values.Arg.{Arg}
+use Rattle.language.specs.declared.values.Arg.{Arg}
 use Rattle.simulation.specs.Compiled.{IsInside}
 use Rattle.simulation.specs.Loaded.{code_at, loaded_at, results_in}
 

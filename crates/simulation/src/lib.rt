@@ -5,4 +5,4 @@
 
 mod laws;
 
-pub use laws::{bases_fit, images_are_compiled, straight_code_is_followed, texts_are_compiled};
+pub use laws::{bases_fit, images_are_compiled, straight_code_is_followed};

@@ -1,7 +1,7 @@
 -- Programs whose calls are of earlier procedures.
 use Rattle.std.proofs.Common.{◌≡◌, ℕ, List, [], ◌∷◌, ◌++◌, Some}
-use Rattle.syntax.specs.Meaning.{named}
-use Rattle.syntax.specs.Tree.{RightTree, called, computed, StatementTree, declaration, array, assignment, element_assignment, call, conditional, loop, BlockTree, nothing, first, ProcedureTree}
+use Rattle.language.specs.Meaning.{named}
+use Rattle.language.specs.Tree.{RightTree, called, computed, StatementTree, declaration, array, assignment, element_assignment, call, conditional, loop, BlockTree, nothing, first, ProcedureTree}
 
 abbrev pub Found : Type 0
 Found = List ProcedureTree × ProcedureTree

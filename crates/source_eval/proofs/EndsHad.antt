@@ -3,12 +3,12 @@ use Rattle.std.proofs.Common.{◌≡◌, ℕ, zero, suc, ◌+◌, ◌-◌, ◌<�
 use Rattle.std.proofs.lemmas.Option.{none-some, same_Some}
 use Rattle.std.specs.Str.{bytes_eq}
 use Rattle.word.specs.declared.place.Place.{Place}
-use Rattle.syntax.specs.declared.values.Arg.{Arg}
-use Rattle.syntax.specs.Evaluation.{ended, tick, inside, value, values, passed, call_run, right_run, turns, run, run_all, return_run, body_run, found_run, program_run}
-use Rattle.syntax.specs.Meaning.{gives, element_held, named, Evaluates, by_operands, operand_faults, EvaluatesAll, none_left, one_more, this_faults, later_faults, word_arguments, begun, exported, holding, written, counting, Calls, argument_faults, body_faults, body_ends, Bodies, statements_fault, returns_nothing, returns, return_faults, Rights, of_call, of_expr, expr_faults, Runs, declares, declaration_faults, declares_array, first_value_faults, assigns, assignment_faults, target_faults, right_faults, assigns_element, calls, call_faults, condition_faults, accepts, declines, bounds_fault, loops, Turns, no_turn, turn_faults, a_turn, RunsAll, ends, stops, goes_on, Gives, ends_well, meets_fault}
-use Rattle.syntax.specs.Operators.{truth_of}
-use Rattle.syntax.specs.State.{State, Word}
-use Rattle.syntax.specs.Tree.{ExprTree, element, CallTree, RightTree, called, computed, StatementTree, declaration, array, assignment, element_assignment, call, conditional, loop, BlockTree, nothing, first, ReturnTree, ProcedureTree, ProgramTree}
+use Rattle.language.specs.declared.values.Arg.{Arg}
+use Rattle.language.specs.Evaluation.{ended, tick, inside, value, values, passed, call_run, right_run, turns, run, run_all, return_run, body_run, found_run, program_run}
+use Rattle.language.specs.Meaning.{gives, element_held, named, Evaluates, by_operands, operand_faults, EvaluatesAll, none_left, one_more, this_faults, later_faults, word_arguments, begun, exported, holding, written, counting, Calls, argument_faults, body_faults, body_ends, Bodies, statements_fault, returns_nothing, returns, return_faults, Rights, of_call, of_expr, expr_faults, Runs, declares, declaration_faults, declares_array, first_value_faults, assigns, assignment_faults, target_faults, right_faults, assigns_element, calls, call_faults, condition_faults, accepts, declines, bounds_fault, loops, Turns, no_turn, turn_faults, a_turn, RunsAll, ends, stops, goes_on, Gives, ends_well, meets_fault}
+use Rattle.language.specs.Operators.{truth_of}
+use Rattle.language.specs.State.{State, Word}
+use Rattle.language.specs.Tree.{ExprTree, element, CallTree, RightTree, called, computed, StatementTree, declaration, array, assignment, element_assignment, call, conditional, loop, BlockTree, nothing, first, ReturnTree, ProcedureTree, ProgramTree}
 use Rattle.source_eval.proofs.EarlierCalls.{Found, IsNamed, RightKnown, StatementKnown, BlockKnown, CallEarlier}
 use Rattle.source_eval.proofs.KnownProcedures.{known_of, known-named}
 use Rattle.source_eval.proofs.RunEnds.{then-either}

@@ -2,9 +2,9 @@
 use Rattle.std.proofs.Common.{◌≡◌, ℕ, Bool, true, false, if◌then◌else◌, List, [], ◌∷◌, ◌++◌, Option, Some, None, refl, sym, ap, ◌∙◌}
 use Rattle.std.specs.Option.{option_map}
 use Rattle.std.specs.Str.{bytes_eq}
-use Rattle.syntax.specs.Evaluation.{Known, Knowledge, nothing_known, first_known, knowing, knowing_all, body_run}
-use Rattle.syntax.specs.Meaning.{named}
-use Rattle.syntax.specs.Tree.{ProcedureTree}
+use Rattle.language.specs.Evaluation.{Known, Knowledge, nothing_known, first_known, knowing, knowing_all, body_run}
+use Rattle.language.specs.Meaning.{named}
+use Rattle.language.specs.Tree.{ProcedureTree}
 
 -- what is known of these procedures
 abbrev pub known_of : List ProcedureTree → Knowledge

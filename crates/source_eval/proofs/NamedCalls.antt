@@ -4,19 +4,19 @@ use Rattle.std.proofs.lemmas.Option.{none-some, same_Some, slice_get_within}
 use Rattle.std.specs.Map.{lookup}
 use Rattle.std.specs.Str.{bytes_eq}
 use Rattle.word.specs.declared.place.Place.{Place}
-use Rattle.syntax.specs.declared.rule.Rule.TheVariants.{NameDeclaredTwice}
-use Rattle.syntax.specs.declared.signature.Label.{Label}
-use Rattle.syntax.specs.declared.signature.Label.TheVariants.{Public}
-use Rattle.syntax.specs.declared.typing.Callee.{Callee}
-use Rattle.syntax.specs.declared.typing.Declared.{Declared}
-use Rattle.syntax.specs.declared.typing.Declared.TheVariants.{Procedure, Variable}
-use Rattle.syntax.specs.declared.typing.ValueType.{ValueType}
-use Rattle.syntax.specs.declared.typing.VariableType.{VariableType}
-use Rattle.syntax.specs.ExprTyping.{name_type, name_rules, type_of, expr_violations, exprs_violations, element_rules}
-use Rattle.syntax.specs.Meaning.{named, exported}
-use Rattle.syntax.specs.Tree.{ExprTree, CallTree, RightTree, called, computed, StatementTree, declaration, array, assignment, element_assignment, call, conditional, loop, BlockTree, nothing, first, ParameterTree, ProcedureTree, ProgramTree}
-use Rattle.syntax.specs.Types.{Scope, found, declared, callee, at, when, of_one, of_two, of_all}
-use Rattle.syntax.specs.Typing.{called_one, known_call_rules, call_rules, call_violations, right_violations, condition_rules, control_under, bounds_rules, assigns_public, with_tree, scope_after, statement_violations, block_violations, counter_as, parameter_as, parameter_violations, with_parameters, with_procedure, body_scope, procedure_rules, procedure_violations, procedures_violations, export_place, exports, export_violations, violations}
+use Rattle.language.specs.declared.rule.Rule.TheVariants.{NameDeclaredTwice}
+use Rattle.language.specs.declared.signature.Label.{Label}
+use Rattle.language.specs.declared.signature.Label.TheVariants.{Public}
+use Rattle.language.specs.declared.typing.Callee.{Callee}
+use Rattle.language.specs.declared.typing.Declared.{Declared}
+use Rattle.language.specs.declared.typing.Declared.TheVariants.{Procedure, Variable}
+use Rattle.language.specs.declared.typing.ValueType.{ValueType}
+use Rattle.language.specs.declared.typing.VariableType.{VariableType}
+use Rattle.language.specs.ExprTyping.{name_type, name_rules, type_of, expr_violations, exprs_violations, element_rules}
+use Rattle.language.specs.Meaning.{named, exported}
+use Rattle.language.specs.Tree.{ExprTree, CallTree, RightTree, called, computed, StatementTree, declaration, array, assignment, element_assignment, call, conditional, loop, BlockTree, nothing, first, ParameterTree, ProcedureTree, ProgramTree}
+use Rattle.language.specs.Types.{Scope, found, declared, callee, at, when, of_one, of_two, of_all}
+use Rattle.language.specs.Typing.{called_one, known_call_rules, call_rules, call_violations, right_violations, condition_rules, control_under, bounds_rules, assigns_public, with_tree, scope_after, statement_violations, block_violations, counter_as, parameter_as, parameter_violations, with_parameters, with_procedure, body_scope, procedure_rules, procedure_violations, procedures_violations, export_place, exports, export_violations, violations}
 use Rattle.source_eval.proofs.EarlierCalls.{Found, IsNamed, RightKnown, StatementKnown, BlockKnown, CallEarlier}
 use Rattle.source_eval.proofs.TypedExpressions.{IsThere, none-left, none-right, no-rules, exprs-typed}
 

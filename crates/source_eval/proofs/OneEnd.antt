@@ -1,11 +1,11 @@
 -- A program that violates no rule comes to exactly one end.
 use Rattle.std.proofs.Common.{◌≡◌, List, length, sym}
-use Rattle.syntax.specs.declared.values.Arg.{Arg}
-use Rattle.syntax.specs.Evaluation.{program_run}
-use Rattle.syntax.specs.Meaning.{Ending, Gives}
-use Rattle.syntax.specs.Results.{Results}
-use Rattle.syntax.specs.Tree.{ProgramTree}
-use Rattle.syntax.specs.Typing.{violations}
+use Rattle.language.specs.declared.values.Arg.{Arg}
+use Rattle.language.specs.Evaluation.{program_run}
+use Rattle.language.specs.Meaning.{Ending, Gives}
+use Rattle.language.specs.Results.{Results}
+use Rattle.language.specs.Tree.{ProgramTree}
+use Rattle.language.specs.Typing.{violations}
 use Rattle.source_eval.proofs.EndsHad.{program-had}
 use Rattle.source_eval.proofs.NamedCalls.{one-exported, all-call-earlier}
 use Rattle.source_eval.proofs.WorkedOut.{worked-out}

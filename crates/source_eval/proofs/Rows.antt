@@ -2,15 +2,15 @@
 use Rattle.std.specs.Prelude.{◌≡◌, ℕ, true, false, List, [], ◌∷◌, Option, Some, None}
 use Rattle.std.proofs.Common.{refl}
 use Rattle.word.specs.declared.place.Place.{Place}
-use Rattle.syntax.specs.declared.signature.Form.{Form}
-use Rattle.syntax.specs.declared.signature.Form.TheVariants.{SingleWord, MutableArray}
-use Rattle.syntax.specs.declared.signature.Kind.TheVariants.{Boolean, Uint32}
-use Rattle.syntax.specs.declared.signature.Label.TheVariants.{Public, Secret}
-use Rattle.syntax.specs.declared.tree.BinaryOperator.TheVariants.{Less, Add, Divide}
-use Rattle.syntax.specs.declared.values.Arg.TheVariants as arg
-use Rattle.syntax.specs.Evaluation.{tick, andthen, inside, program_run}
-use Rattle.syntax.specs.Meaning.{gives, faults}
-use Rattle.syntax.specs.Tree.{ExprTree, number, truth, name, binary, element, computed, declaration, assignment, element_assignment, call, conditional, loop, BlockTree, nothing, first, ParameterTree, ReturnTree, ProcedureTree, ProgramTree}
+use Rattle.language.specs.declared.signature.Form.{Form}
+use Rattle.language.specs.declared.signature.Form.TheVariants.{SingleWord, MutableArray}
+use Rattle.language.specs.declared.signature.Kind.TheVariants.{Boolean, Uint32}
+use Rattle.language.specs.declared.signature.Label.TheVariants.{Public, Secret}
+use Rattle.language.specs.declared.tree.BinaryOperator.TheVariants.{Less, Add, Divide}
+use Rattle.language.specs.declared.values.Arg.TheVariants as arg
+use Rattle.language.specs.Evaluation.{tick, andthen, inside, program_run}
+use Rattle.language.specs.Meaning.{gives, faults}
+use Rattle.language.specs.Tree.{ExprTree, number, truth, name, binary, element, computed, declaration, assignment, element_assignment, call, conditional, loop, BlockTree, nothing, first, ParameterTree, ReturnTree, ProcedureTree, ProgramTree}
 
 abbrev here : Place
 here = record { offset = 0; line = 1; column = 1 }

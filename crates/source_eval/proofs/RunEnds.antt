@@ -1,10 +1,10 @@
 -- What continued runs come to; an expression's value by those of its operands.
 use Rattle.std.proofs.Common.{◌≡◌, ◌≢◌, ℕ, List, [], ◌∷◌, refl, sym, ap, ◌∙◌}
 use Rattle.word.specs.declared.place.Place.{Place}
-use Rattle.syntax.specs.Evaluation.{Run, ended, given, tick, andthen, continued, value, values}
-use Rattle.syntax.specs.Meaning.{Ending, gives, faults, operands, applied}
-use Rattle.syntax.specs.State.{State, Word}
-use Rattle.syntax.specs.Tree.{ExprTree, number, truth, name, prefix, binary, rotate, convert, select, element}
+use Rattle.language.specs.Evaluation.{Run, ended, given, tick, andthen, continued, value, values}
+use Rattle.language.specs.Meaning.{Ending, gives, faults, operands, applied}
+use Rattle.language.specs.State.{State, Word}
+use Rattle.language.specs.Tree.{ExprTree, number, truth, name, prefix, binary, rotate, convert, select, element}
 
 pub mismatch : {A : Type 0} (a : A) (place : Place) → gives a ≢ faults place
 mismatch a place h = cc

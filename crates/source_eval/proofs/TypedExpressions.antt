@@ -3,16 +3,16 @@ use Rattle.std.proofs.Common.{◌≡◌, ℕ, not, List, [], ◌∷◌, ◌++◌
 use Rattle.std.proofs.lemmas.Option.{none-some}
 use Rattle.std.specs.Option.{option_map}
 use Rattle.word.specs.declared.place.Place.{Place}
-use Rattle.syntax.specs.declared.rule.Rule.{Rule}
-use Rattle.syntax.specs.declared.rule.Rule.TheVariants.{UndeclaredName}
-use Rattle.syntax.specs.declared.signature.Label.TheVariants.{Public}
-use Rattle.syntax.specs.declared.typing.Declared.{Declared}
-use Rattle.syntax.specs.declared.typing.Declared.TheVariants.{Procedure, Variable}
-use Rattle.syntax.specs.declared.typing.ValueType.{ValueType}
-use Rattle.syntax.specs.declared.typing.VariableType.{VariableType}
-use Rattle.syntax.specs.ExprTyping.{operation_of, operation_kind, number_rules, name_rules, name_type, binary_rules, prefix_rules, rotate_rules, convert_rules, select_rules, element_rules, type_of, types_of, expr_violations, exprs_violations}
-use Rattle.syntax.specs.Tree.{ExprTree, number, truth, name, prefix, binary, rotate, convert, select, element}
-use Rattle.syntax.specs.Types.{Scope, found, at, when, unless, word, joined, kind_of, label_of, variable, of_one, of_two, of_three, with_type}
+use Rattle.language.specs.declared.rule.Rule.{Rule}
+use Rattle.language.specs.declared.rule.Rule.TheVariants.{UndeclaredName}
+use Rattle.language.specs.declared.signature.Label.TheVariants.{Public}
+use Rattle.language.specs.declared.typing.Declared.{Declared}
+use Rattle.language.specs.declared.typing.Declared.TheVariants.{Procedure, Variable}
+use Rattle.language.specs.declared.typing.ValueType.{ValueType}
+use Rattle.language.specs.declared.typing.VariableType.{VariableType}
+use Rattle.language.specs.ExprTyping.{operation_of, operation_kind, number_rules, name_rules, name_type, binary_rules, prefix_rules, rotate_rules, convert_rules, select_rules, element_rules, type_of, types_of, expr_violations, exprs_violations}
+use Rattle.language.specs.Tree.{ExprTree, number, truth, name, prefix, binary, rotate, convert, select, element}
+use Rattle.language.specs.Types.{Scope, found, at, when, unless, word, joined, kind_of, label_of, variable, of_one, of_two, of_three, with_type}
 
 -- there is a value
 abbrev pub IsThere : {A : Type 0} → Option A → Type 0

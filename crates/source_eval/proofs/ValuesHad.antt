@@ -1,9 +1,9 @@
 -- The end that is worked out for expressions is one that the rules give.
 use Rattle.std.proofs.Common.{List, [], ◌∷◌, sym, subst}
-use Rattle.syntax.specs.Evaluation.{ended, tick, value, values, passed}
-use Rattle.syntax.specs.Meaning.{operands, applied, Evaluates, by_operands, operand_faults, EvaluatesAll, none_left, one_more, this_faults, later_faults}
-use Rattle.syntax.specs.State.{State}
-use Rattle.syntax.specs.Tree.{ExprTree, number, truth, name, prefix, binary, rotate, convert, select, element}
+use Rattle.language.specs.Evaluation.{ended, tick, value, values, passed}
+use Rattle.language.specs.Meaning.{operands, applied, Evaluates, by_operands, operand_faults, EvaluatesAll, none_left, one_more, this_faults, later_faults}
+use Rattle.language.specs.State.{State}
+use Rattle.language.specs.Tree.{ExprTree, number, truth, name, prefix, binary, rotate, convert, select, element}
 use Rattle.source_eval.proofs.RunEnds.{then-either, value-by-operands}
 
 node-had : (s : State) (e : ExprTree) → EvaluatesAll s (operands e) (values s (operands e)).ends → Evaluates s e (value s e).ends

@@ -1,12 +1,12 @@
 // The laws, which join the two forms of the meaning: its rules, and the function that works it out.
 
 ghost use Rattle.std.specs.Prelude.{◌≡◌, List, length};
-ghost use Rattle.syntax.specs.declared.values.Arg.{Arg};
-ghost use Rattle.syntax.specs.Evaluation.{program_run};
-ghost use Rattle.syntax.specs.Meaning.{Ending, Gives};
-ghost use Rattle.syntax.specs.Results.{Results};
-ghost use Rattle.syntax.specs.Tree.{ProgramTree};
-ghost use Rattle.syntax.specs.Typing.{violations};
+ghost use Rattle.language.specs.declared.values.Arg.{Arg};
+ghost use Rattle.language.specs.Evaluation.{program_run};
+ghost use Rattle.language.specs.Meaning.{Ending, Gives};
+ghost use Rattle.language.specs.Results.{Results};
+ghost use Rattle.language.specs.Tree.{ProgramTree};
+ghost use Rattle.language.specs.Typing.{violations};
 
 /// Whatever end the rules give a program, it is the one that is worked out.
 pub fn meaning_is_worked_out()

@@ -2,14 +2,14 @@
 use Rattle.std.proofs.Common.{◌≡◌, ℕ, ◌<◌, ◌≤◌, Some, Result, Ok, Err, inl, inr, List, length, sym, subst, refl, arith, Bool, true, false}
 use Rattle.std.specs.Prelude.{nat_lt}
 use Rattle.std.specs.Result.{IfOk, IfErr, IsErrAnd}
-use Rattle.syntax.specs.declared.refusal.Refusal.{Refusal}
-use Rattle.syntax.specs.declared.rule.Rule.TheVariants.{TextTooLong}
-use Rattle.syntax.specs.declared.tree.Program.{Program}
+use Rattle.language.specs.declared.refusal.Refusal.{Refusal}
+use Rattle.language.specs.declared.rule.Rule.TheVariants.{TextTooLong}
+use Rattle.language.specs.declared.tree.Program.{Program}
 use Rattle.syntax.specs.Lexeme.{Lexeme}
 use Rattle.syntax.specs.Reading.{accepted, refused, Answers, Reads, too_long, by_tokens, text_limit, OneAnswer, IsRefusedAs}
 use Rattle.syntax.specs.Tokens.{Ending, Lexes, start}
-use Rattle.syntax.specs.Tree.{program_tree}
-use Rattle.syntax.specs.WantOfMemory.{IsWantOfMemory}
+use Rattle.language.specs.Tree.{program_tree}
+use Rattle.language.specs.WantOfMemory.{IsWantOfMemory}
 use Rattle.syntax.proofs.MachineAnswers.{one_answer_for_tokens, lt-true, lt-false}
 use Rattle.syntax.proofs.TokenLaws.{one_list}
 

@@ -8,20 +8,20 @@ use Rattle.std.specs.List.{AllByRecursion}
 use Rattle.syntax.specs.declared.lexer.piece.Piece.{Piece}
 use Rattle.syntax.specs.declared.lexer.piece.Piece.TheVariants as piece
 use Rattle.word.specs.declared.place.Place.{Place}
-use Rattle.syntax.specs.declared.signature.Kind.{Kind}
+use Rattle.language.specs.declared.signature.Kind.{Kind}
 use Rattle.syntax.specs.declared.token.TokenKind.{TokenKind}
 use Rattle.syntax.specs.declared.token.TokenKind.TheVariants as token
 use Rattle.syntax.specs.declared.token.Keyword.TheVariants.{Uint8 as Uint8Word, Uint16 as Uint16Word, Uint32 as Uint32Word}
 use Rattle.syntax.specs.declared.token.Suffix.{Suffix}
 use Rattle.syntax.specs.declared.token.Suffix.TheVariants.{U8, U16, U32}
 use Rattle.syntax.specs.Grammar.{conversion_of, suffix_kind, amount_of, is_length, length_of, ExprAt, a_number, a_true, a_false, a_name, an_element, in_brackets, a_conversion, a_select, a_prefix, a_rotation, a_binary, MoreExprs, no_more, one_more, SomeExprs, some_exprs, Arguments, no_arguments, some_arguments, Call, a_call, RightSide, a_call_value, a_value, Mutable, no_mut, a_mut, ArrayType, an_array_type, FirstValues, no_values, some_values, Statement, a_declaration, an_array, an_assignment, an_element_assignment, a_call_statement, a_conditional_statement, a_loop, Conditional, a_conditional, Statements, no_statement, one_statement, Block, a_block, Otherwise, no_else, an_else, an_else_if, Parameter, a_word, a_fixed_array, a_mutable_array, MoreParameters, no_more_parameters, one_more_parameter, Parameters, no_parameters, some_parameters, ResultType, a_void, a_type, BodyEnd, no_return, a_return, Exported, not_exported, an_export, Procedure, a_procedure, Procedures, no_procedure, one_procedure, IsProgram, a_program as a_program_rule}
-use Rattle.syntax.specs.Grammatical.{IsNumberKind, IsArrayLength, AreSmall, AreAllSmall, IsSmallRight, AreSmallValues, IsPlain, ArePlain, HasForm, IsSmallReturn, IsGrammatical}
+use Rattle.language.specs.Grammatical.{IsNumberKind, IsArrayLength, AreSmall, AreAllSmall, IsSmallRight, AreSmallValues, IsPlain, ArePlain, HasForm, IsSmallReturn, IsGrammatical}
 use Rattle.syntax.specs.Lexeme.{Lexeme}
 use Rattle.syntax.specs.Reading.{Reads, by_tokens, Answers, a_program, accepted}
 use Rattle.syntax.specs.Spelling as spelling
 use Rattle.syntax.specs.Spelling.{Spells}
 use Rattle.syntax.specs.Tokens.{Ending, LexesFrom, at_end, past_space, past_token, at_bad_number, at_unknown_character}
-use Rattle.syntax.specs.Tree.{ExprTree, CallTree, RightTree, StatementTree, BlockTree, ParameterTree, ReturnTree, ProcedureTree, ProgramTree}
+use Rattle.language.specs.Tree.{ExprTree, CallTree, RightTree, StatementTree, BlockTree, ParameterTree, ReturnTree, ProcedureTree, ProgramTree}
 
 -- a number that a token writes is a word
 abbrev IsSmallToken : TokenKind → Type 0

@@ -3,16 +3,16 @@ use Rattle.std.proofs.Common.{◌≡◌, ℕ, Bool, true, false, List, [], ◌�
 use Rattle.std.proofs.lemmas.List.{append-nil}
 use Rattle.std.specs.Option.{option_and_then}
 use Rattle.word.specs.declared.place.Place.{Place}
-use Rattle.syntax.specs.declared.signature.Form.{Form}
-use Rattle.syntax.specs.declared.signature.Form.TheVariants.{SingleWord, FixedArray, MutableArray}
-use Rattle.syntax.specs.declared.signature.Kind.{Kind}
-use Rattle.syntax.specs.declared.signature.Label.{Label}
+use Rattle.language.specs.declared.signature.Form.{Form}
+use Rattle.language.specs.declared.signature.Form.TheVariants.{SingleWord, FixedArray, MutableArray}
+use Rattle.language.specs.declared.signature.Kind.{Kind}
+use Rattle.language.specs.declared.signature.Label.{Label}
 use Rattle.syntax.specs.declared.token.TokenKind.{TokenKind}
-use Rattle.syntax.specs.declared.typing.WordType.{WordType}
+use Rattle.language.specs.declared.typing.WordType.{WordType}
 use Rattle.syntax.specs.Grammar.{label_of, word_of, length_of, Call, a_call, RightSide, Mutable, no_mut, a_mut, ArrayType, an_array_type, FirstValues, Statement, a_declaration, an_array, an_assignment, an_element_assignment, a_call_statement, a_conditional_statement, a_loop, Conditional, a_conditional, Statements, no_statement, one_statement, Block, a_block, Otherwise, no_else, an_else, an_else_if, Parameter, a_word, a_fixed_array, a_mutable_array, MoreParameters, no_more_parameters, one_more_parameter, Parameters, no_parameters, some_parameters, ResultType, a_void, a_type, BodyEnd, no_return, a_return, Exported, not_exported, an_export, Procedure, a_procedure, Procedures, no_procedure, one_procedure, IsProgram, a_program, IsBeginning}
 use Rattle.syntax.specs.Lexeme.{Lexeme}
-use Rattle.syntax.specs.Tree as tree
-use Rattle.syntax.specs.Tree.{ExprTree, CallTree, RightTree, StatementTree, BlockTree, nothing, first, ParameterTree, ReturnTree, ProcedureTree, ProgramTree}
+use Rattle.language.specs.Tree as tree
+use Rattle.language.specs.Tree.{ExprTree, CallTree, RightTree, StatementTree, BlockTree, nothing, first, ParameterTree, ReturnTree, ProcedureTree, ProgramTree}
 use Rattle.syntax.specs.declared.parser.statement.Start.{Start}
 use Rattle.syntax.specs.declared.parser.statement.Start.TheVariants.{Declaration as by_label, Target as by_target, Conditional as by_if, Loop as by_for}
 use Rattle.syntax.specs.declared.parser.wanted.Wanted.TheVariants as wanted

@@ -4,16 +4,16 @@ use Rattle.std.proofs.lemmas.Bool.Decides.{nat_tests}
 use Rattle.std.proofs.lemmas.List.{append-nil}
 use Rattle.std.specs.Prelude.{nat_le}
 use Rattle.std.specs.Option.{option_map, option_and_then}
-use Rattle.syntax.specs.declared.signature.Kind.{Kind}
-use Rattle.syntax.specs.declared.signature.Label.{Label}
+use Rattle.language.specs.declared.signature.Kind.{Kind}
+use Rattle.language.specs.declared.signature.Label.{Label}
 use Rattle.syntax.specs.declared.token.TokenKind.{TokenKind}
 use Rattle.syntax.specs.declared.token.TokenKind.TheVariants as token
 use Rattle.syntax.specs.declared.token.Sign.TheVariants.{RotateLeft}
-use Rattle.syntax.specs.declared.tree.BinaryOperator.{BinaryOperator}
+use Rattle.language.specs.declared.tree.BinaryOperator.{BinaryOperator}
 use Rattle.syntax.specs.Grammar.{operator_of, prefix_of, conversion_of, level_of, left_level_of, label_of, word_of, length_of, amount_of, ExprAt, a_number, a_true, a_false, a_name, an_element, in_brackets, a_conversion, a_select, a_prefix, a_rotation, a_binary, MoreExprs, no_more, one_more, SomeExprs, some_exprs as some_exprs_rule, Arguments, no_arguments, some_arguments, a_call, RightSide, a_call_value, a_value, FirstValues, no_values, some_values}
 use Rattle.syntax.specs.Lexeme.{Lexeme}
-use Rattle.syntax.specs.Tree as tree
-use Rattle.syntax.specs.Tree.{ExprTree, CallTree, RightTree, StatementTree, BlockTree, nothing, first, ParameterTree, ReturnTree, ProcedureTree, ProgramTree}
+use Rattle.language.specs.Tree as tree
+use Rattle.language.specs.Tree.{ExprTree, CallTree, RightTree, StatementTree, BlockTree, nothing, first, ParameterTree, ReturnTree, ProcedureTree, ProgramTree}
 use Rattle.syntax.specs.declared.parser.operator.Begins.{Begins}
 use Rattle.syntax.specs.declared.parser.operator.Begins.TheVariants.{Number as by_number, Truth as by_truth, Name as by_name, Bracket as by_bracket, Prefix as by_prefix, Conversion as by_conversion, Select as by_select}
 use Rattle.syntax.specs.declared.parser.operator.Link.{Link}

@@ -6,20 +6,20 @@ use Rattle.std.proofs.lemmas.Option.{same_Some}
 use Rattle.std.specs.Prelude.{nat_le}
 use Rattle.std.specs.Option.{option_map, option_and_then}
 use Rattle.word.specs.declared.place.Place.{Place}
-use Rattle.syntax.specs.declared.signature.Form.TheVariants.{SingleWord, FixedArray, MutableArray}
-use Rattle.syntax.specs.declared.signature.Kind.{Kind}
-use Rattle.syntax.specs.declared.signature.Kind.TheVariants.{Boolean}
-use Rattle.syntax.specs.declared.signature.Label.{Label}
-use Rattle.syntax.specs.declared.signature.Label.TheVariants.{Public as PublicLabel}
+use Rattle.language.specs.declared.signature.Form.TheVariants.{SingleWord, FixedArray, MutableArray}
+use Rattle.language.specs.declared.signature.Kind.{Kind}
+use Rattle.language.specs.declared.signature.Kind.TheVariants.{Boolean}
+use Rattle.language.specs.declared.signature.Label.{Label}
+use Rattle.language.specs.declared.signature.Label.TheVariants.{Public as PublicLabel}
 use Rattle.syntax.specs.declared.token.TokenKind.{TokenKind}
 use Rattle.syntax.specs.declared.token.TokenKind.TheVariants as token
 use Rattle.syntax.specs.declared.token.Keyword.TheVariants.{Public, Bool as BoolWord, If, Else}
 use Rattle.syntax.specs.declared.token.Sign.TheVariants.{CloseRound}
-use Rattle.syntax.specs.declared.typing.WordType.{WordType}
+use Rattle.language.specs.declared.typing.WordType.{WordType}
 use Rattle.syntax.specs.Grammar.{label_of, word_of, length_of, amount_of, left_level_of, level_of, ExprAt, a_number, a_true, a_false, a_name, an_element, in_brackets, a_conversion, a_select, a_prefix, a_rotation, a_binary, no_more, one_more, SomeExprs, some_exprs as some_exprs_rule, no_arguments, some_arguments, Call, a_call, RightSide, a_call_value, a_value, Mutable, no_mut, a_mut, an_array_type, FirstValues, no_values, some_values, Statement, a_declaration, an_array, an_assignment, an_element_assignment, a_call_statement, a_conditional_statement, a_loop, Conditional, a_conditional, Statements, no_statement, one_statement, Block, a_block, Otherwise, no_else, an_else, an_else_if, Parameter, a_word, a_fixed_array, a_mutable_array, no_more_parameters, one_more_parameter, Parameters, no_parameters, some_parameters, ResultType, a_void, a_type, BodyEnd, no_return, a_return, Exported, not_exported, an_export, Procedure, a_procedure, no_procedure, one_procedure, IsProgram, a_program, IsBeginning}
 use Rattle.syntax.specs.Lexeme.{Lexeme}
-use Rattle.syntax.specs.Tree as tree
-use Rattle.syntax.specs.Tree.{ExprTree, CallTree, RightTree, StatementTree, BlockTree, nothing, first, ParameterTree, ReturnTree, ProcedureTree, ProgramTree}
+use Rattle.language.specs.Tree as tree
+use Rattle.language.specs.Tree.{ExprTree, CallTree, RightTree, StatementTree, BlockTree, nothing, first, ParameterTree, ReturnTree, ProcedureTree, ProgramTree}
 use Rattle.syntax.specs.declared.parser.operator.Begins.{Begins}
 use Rattle.syntax.specs.declared.parser.operator.Begins.TheVariants.{Number as by_number, Truth as by_truth, Name as by_name, Bracket as by_bracket, Prefix as by_prefix, Conversion as by_conversion, Select as by_select}
 use Rattle.syntax.specs.declared.parser.operator.Link.{Link}

@@ -3,8 +3,8 @@ use Rattle.std.proofs.Common.{◌≡◌, ℕ, ◌≤◌, true, false, List, [], 
 use Rattle.std.specs.Result.{IsErrAnd, IfOk, IfErr}
 use Rattle.std.specs.Prelude.{is_some}
 use Rattle.std.specs.Option.{option_map}
-use Rattle.syntax.specs.declared.signature.Kind.{Kind}
-use Rattle.syntax.specs.declared.signature.Label.{Label}
+use Rattle.language.specs.declared.signature.Kind.{Kind}
+use Rattle.language.specs.declared.signature.Label.{Label}
 use Rattle.syntax.specs.declared.parser.Fault.{Fault}
 use Rattle.syntax.specs.declared.parser.Fault.TheVariants.{Memory}
 use Rattle.syntax.specs.declared.parser.Parser.{Parser}
@@ -14,7 +14,7 @@ use Rattle.syntax.specs.declared.parser.statement.Start.{Start}
 use Rattle.syntax.specs.declared.parser.wanted.Wanted.{Wanted}
 use Rattle.syntax.specs.declared.parser.wanted.Wanted.TheVariants as wanted
 use Rattle.syntax.specs.declared.token.Token.{Token}
-use Rattle.syntax.specs.declared.tree.Expr.{Expr}
+use Rattle.language.specs.declared.tree.Expr.{Expr}
 use Rattle.syntax.specs.Grammar.{label_of, word_of, amount_of, length_of}
 use Rattle.syntax.specs.Lexeme.{Lexeme, lexeme, lexemes}
 use Rattle.syntax.specs.Nesting.{Nest, after}
@@ -22,7 +22,7 @@ use Rattle.syntax.specs.Tokens.{Ending, ending}
 use Rattle.syntax.specs.Machine.{State, procedures, fits, one, either, statements, starts_with, statement, started, a_label, a_kind, a_length, an_amount, expr, more, more_exprs, more_parameters, otherwise, after_else, begins_of, operand, link_of, link_level, link_left_level, linked, within, joined, step, at_end, parameter, procedure, verdict, ending_answer, token_answer}
 use Rattle.syntax.specs.ParserViews.{Leads, FaultIs, ahead, nest, taken}
 use Rattle.syntax.specs.Reading.{Answer}
-use Rattle.syntax.specs.Tree.{ExprTree, StatementTree, BlockTree, nothing, first, ParameterTree, ProcedureTree, expr_tree}
+use Rattle.language.specs.Tree.{ExprTree, StatementTree, BlockTree, nothing, first, ParameterTree, ProcedureTree, expr_tree}
 use Rattle.syntax.proofs.MachineExpressions.{within_level}
 
 -- a fault of one answer is one of an equal answer

@@ -1,8 +1,8 @@
 -- The grammar case by case, without trees: what stands one after another in each phrase. Grammar.antt has the same
 -- cases with their trees, under the same names.
 use Rattle.std.specs.Prelude.{◌≡◌, ℕ, ◌+◌, ◌≤◌, List, [], ◌∷◌, Option, Some}
-use Rattle.syntax.specs.declared.signature.Kind.{Kind}
-use Rattle.syntax.specs.declared.signature.Label.{Label}
+use Rattle.language.specs.declared.signature.Kind.{Kind}
+use Rattle.language.specs.declared.signature.Label.{Label}
 use Rattle.syntax.specs.declared.token.Keyword.{Keyword}
 use Rattle.syntax.specs.declared.token.Keyword.TheVariants.{Export, Void, Mut, Uint32, True, False, If, Else, For, From, To, Return, Select}
 use Rattle.syntax.specs.declared.token.Sign.{Sign}
@@ -10,8 +10,8 @@ use Rattle.syntax.specs.declared.token.Sign.TheVariants.{RotateLeft, OpenRound, 
 use Rattle.syntax.specs.declared.token.Suffix.{Suffix}
 use Rattle.syntax.specs.declared.token.TokenKind.{TokenKind}
 use Rattle.syntax.specs.declared.token.TokenKind.TheVariants as token
-use Rattle.syntax.specs.declared.tree.BinaryOperator.{BinaryOperator}
-use Rattle.syntax.specs.declared.tree.PrefixOperator.{PrefixOperator}
+use Rattle.language.specs.declared.tree.BinaryOperator.{BinaryOperator}
+use Rattle.language.specs.declared.tree.PrefixOperator.{PrefixOperator}
 use Rattle.syntax.specs.Grammar.{prefix_of, operator_of, level_of, left_level_of, rotation_level, prefix_level, label_of, word_of, conversion_of, amount_of, length_of}
 use Rattle.syntax.specs.Lexeme.{Lexeme}
 

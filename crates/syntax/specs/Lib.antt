@@ -1,19 +1,4 @@
-pub mod RuleNames
-pub mod Results
 pub mod Lexeme
-pub mod Tree
-pub mod Blocks
-pub mod Types
-pub mod ExprTyping
-pub mod Typing
-pub mod Size
-pub mod State
-pub mod Operators
-pub mod Meaning
-pub mod Evaluation
-pub mod RuleOrder
-pub mod WantOfMemory
-pub mod FirstViolation
 pub mod Spelling
 pub mod Tokens
 pub mod Grammar
@@ -23,4 +8,3 @@ pub mod Nesting
 pub mod Reading
 pub mod Machine
 pub mod ParserViews
-pub mod Grammatical

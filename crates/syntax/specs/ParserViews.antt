@@ -12,7 +12,7 @@ use Rattle.syntax.specs.Machine.{State, linked, statements, statement, verdict}
 use Rattle.syntax.specs.Nesting.{Nest}
 use Rattle.syntax.specs.Reading.{Answer, refused}
 use Rattle.syntax.specs.Tokens.{ending}
-use Rattle.syntax.specs.Tree.{ExprTree, BlockTree, nothing, first}
+use Rattle.language.specs.Tree.{ExprTree, BlockTree, nothing, first}
 
 -- how deeply the tokens so far are nested
 abbrev pub nest : Nesting → Nest

@@ -1,15 +1,15 @@
 -- How a text is answered: by its tree, or by the first refusal, reading from the left.
 use Rattle.std.specs.Prelude.{◌≡◌, ℕ, ◌<◌, ◌≤◌, List, [], ◌∷◌, ◌++◌, length, Some, ◌⊎◌}
 use Rattle.word.specs.declared.place.Place.{Place}
-use Rattle.syntax.specs.declared.refusal.Refusal.{Refusal}
-use Rattle.syntax.specs.declared.rule.Rule.{Rule}
-use Rattle.syntax.specs.declared.rule.Rule.TheVariants.{UnexpectedToken, Nesting, TextTooLong}
+use Rattle.language.specs.declared.refusal.Refusal.{Refusal}
+use Rattle.language.specs.declared.rule.Rule.{Rule}
+use Rattle.language.specs.declared.rule.Rule.TheVariants.{UnexpectedToken, Nesting, TextTooLong}
 use Rattle.syntax.specs.Grammar.{IsProgram, IsBeginning}
 use Rattle.syntax.specs.Lexeme.{Lexeme}
 use Rattle.syntax.specs.Nesting.{outside, after, after_all, AreWithin, nesting_limit}
 use Rattle.syntax.specs.Tokens.{Ending, ends_at, stops, Lexes, start}
-use Rattle.syntax.specs.Tree.{ProgramTree}
-use Rattle.syntax.specs.WantOfMemory.{IsWantOfMemory}
+use Rattle.language.specs.Tree.{ProgramTree}
+use Rattle.language.specs.WantOfMemory.{IsWantOfMemory}
 
 pub data Answer : Type 0 where
   accepted : (tree : ProgramTree) → Answer

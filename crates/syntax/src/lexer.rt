@@ -2,7 +2,7 @@ ghost use Rattle.std.specs.Prelude.{◌≡◌, ◌<◌, ◌≤◌, length, IfOk,
 ghost use Rattle.std.specs.List.{All};
 ghost use Rattle.syntax.specs.Lexeme.{lexemes};
 ghost use Rattle.syntax.specs.Tokens.{Lexes, OneList, IsSliceOf, ending, start};
-ghost use Rattle.syntax.specs.WantOfMemory.{IsWantOfMemory};
+ghost use Rattle.language.specs.WantOfMemory.{IsWantOfMemory};
 
 mod letters;
 mod number;

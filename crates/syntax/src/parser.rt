@@ -1,12 +1,11 @@
 ghost use Rattle.std.specs.Prelude.{◌≡◌, ℕ, List, Contains, IfOk, IfErr, MatchResult};
-ghost use Rattle.syntax.specs.Blocks.{RowsAreBlocks};
-ghost use Rattle.syntax.specs.Grammatical.{IsGrammatical};
+ghost use Rattle.language.specs.Grammatical.{IsGrammatical};
 ghost use Rattle.syntax.specs.Lexeme.{lexemes};
 ghost use Rattle.syntax.specs.Machine.{program as program_state};
 ghost use Rattle.syntax.specs.ParserViews.{ahead, FaultIs};
 ghost use Rattle.syntax.specs.Reading.{Answers, Reads, IsRefusedAs, OneProgram, OneAnswer, accepted, refused};
 ghost use Rattle.syntax.specs.Tokens.{ending};
-ghost use Rattle.syntax.specs.Tree.{ProcedureTree, ProgramTree, program_tree};
+ghost use Rattle.language.specs.Tree.{ProcedureTree, ProgramTree, program_tree};
 
 mod declaration;
 mod expression;
@@ -122,9 +121,4 @@ pub fn one_answer_for_a_text()
 pub fn texts_are_grammatical()
     ensures { (text : List ℕ) (program : ProgramTree) (p : ProcedureTree) → Reads text (accepted program)
         → Contains program.procedures p → IsGrammatical p }
-{}
-
-/// The trees of conditionals and loops have the blocks that they run as lists.
-pub fn rows_are_blocks()
-    ensures { RowsAreBlocks }
 {}

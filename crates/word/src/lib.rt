@@ -22,6 +22,3 @@ pub use conditions::{both, either, from_bool, not};
 pub use masks::{mask_of, select};
 pub use place::Place;
 pub use width::Width;
-
-#[cfg(test)]
-mod tests;

@@ -3,9 +3,9 @@ use Rattle.std.proofs.Common.{◌≡◌, true, false, List, [], ◌∷◌, ◌++
 use Rattle.std.proofs.lemmas.Option.{none-some, same_Some}
 use Rattle.std.specs.List.{slice_get}
 use Rattle.std.specs.Option.{MatchOption}
-use Rattle.syntax.specs.declared.tree.Procedure.{Procedure}
-use Rattle.syntax.specs.Meaning.{exported}
-use Rattle.syntax.specs.Tree.{procedure_tree}
+use Rattle.language.specs.declared.tree.Procedure.{Procedure}
+use Rattle.language.specs.Meaning.{exported}
+use Rattle.language.specs.Tree.{procedure_tree}
 
 -- nothing was found
 pub nothing_found : {T : Type 0} (o : Option T) (P : Type 0) (Q : T → Type 0) → is_some o ≡ false → MatchOption o P Q → P

@@ -1,16 +1,16 @@
 -- What worked programs come to, derived by the rules of their meaning.
 use Rattle.std.proofs.Common.{◌≡◌, ℕ, ◌+◌, ◌<◌, ◌≤◌, Bool, true, false, List, [], ◌∷◌, Option, Some, None, refl, arith}
 use Rattle.word.specs.declared.place.Place.{Place}
-use Rattle.syntax.specs.declared.signature.Kind.{Kind}
-use Rattle.syntax.specs.declared.signature.Kind.TheVariants.{Uint32}
-use Rattle.syntax.specs.declared.signature.Label.{Label}
-use Rattle.syntax.specs.declared.tree.BinaryOperator.{BinaryOperator}
-use Rattle.syntax.specs.declared.values.Arg.{Arg}
-use Rattle.syntax.specs.declared.values.Arg.TheVariants as arg
-use Rattle.syntax.specs.Meaning.{Ending, gives, faults, word_held, applied, Evaluates, by_operands, none_left, one_more, body_ends, returns_nothing, returns, return_faults, of_expr, Runs, declares, assigns, assigns_element, calls, accepts, declines, loops, counting, Turns, no_turn, a_turn, RunsAll, ends, goes_on, with_some, with_element, Gives, ends_well, meets_fault}
-use Rattle.syntax.specs.Operators.{truth_of}
-use Rattle.syntax.specs.State.{State, Word, single, with_value}
-use Rattle.syntax.specs.Tree.{ExprTree, number, truth, name, binary, element, computed, StatementTree, declaration, assignment, element_assignment, conditional, loop, BlockTree, nothing, first, ProcedureTree, ProgramTree}
+use Rattle.language.specs.declared.signature.Kind.{Kind}
+use Rattle.language.specs.declared.signature.Kind.TheVariants.{Uint32}
+use Rattle.language.specs.declared.signature.Label.{Label}
+use Rattle.language.specs.declared.tree.BinaryOperator.{BinaryOperator}
+use Rattle.language.specs.declared.values.Arg.{Arg}
+use Rattle.language.specs.declared.values.Arg.TheVariants as arg
+use Rattle.language.specs.Meaning.{Ending, gives, faults, word_held, applied, Evaluates, by_operands, none_left, one_more, body_ends, returns_nothing, returns, return_faults, of_expr, Runs, declares, assigns, assigns_element, calls, accepts, declines, loops, counting, Turns, no_turn, a_turn, RunsAll, ends, goes_on, with_some, with_element, Gives, ends_well, meets_fault}
+use Rattle.language.specs.Operators.{truth_of}
+use Rattle.language.specs.State.{State, Word, single, with_value}
+use Rattle.language.specs.Tree.{ExprTree, number, truth, name, binary, element, computed, StatementTree, declaration, assignment, element_assignment, conditional, loop, BlockTree, nothing, first, ProcedureTree, ProgramTree}
 use Rattle.worked_examples.proofs.WorkedTrees.{on, at, plain, adds, condition_changes, element_under_both, no_turns, divides_public, divides_by_three, array_given_twice, nested_arms, sums_under_secret}
 
 -- Expressions.

@@ -1,11 +1,11 @@
 -- What worked programs violate, computed on the definitions.
 use Rattle.std.proofs.Common.{◌≡◌, [], ◌∷◌, refl}
 use Rattle.word.specs.declared.place.Place.{Place}
-use Rattle.syntax.specs.declared.rule.Rule.{Rule}
-use Rattle.syntax.specs.declared.rule.Rule.TheVariants.{NotExactlyOneExport, WidthsDiffer, LiteralOutOfRange, ArrayPassedTwice, PublicAssignedUnderSecretControl, SecretDivisionOperand, CallAssignsPublicUnderSecretControl}
-use Rattle.syntax.specs.declared.signature.Kind.TheVariants.{Uint8}
-use Rattle.syntax.specs.Tree.{ProgramTree, number}
-use Rattle.syntax.specs.Typing.{violations}
+use Rattle.language.specs.declared.rule.Rule.{Rule}
+use Rattle.language.specs.declared.rule.Rule.TheVariants.{NotExactlyOneExport, WidthsDiffer, LiteralOutOfRange, ArrayPassedTwice, PublicAssignedUnderSecretControl, SecretDivisionOperand, CallAssignsPublicUnderSecretControl}
+use Rattle.language.specs.declared.signature.Kind.TheVariants.{Uint8}
+use Rattle.language.specs.Tree.{ProgramTree, number}
+use Rattle.language.specs.Typing.{violations}
 use Rattle.worked_examples.proofs.WorkedTrees.{on, at, plain, program, adds, condition_changes, element_under_both, no_turns, public_under_secret, call_under_secret, divides_secret, divides_public, divides_by_three, array_given_twice, nested_arms, sums_under_secret}
 
 -- it violates one rule, at one place

@@ -1,8 +1,8 @@
 // Arguments and the texts that spell them.
 
 use arguments::{ArgumentFault, ArgumentRule, ReadError, first_fault, read};
+use language::{Arg, Args, Form, Kind, Label, Numbers, Param};
 use std::test::Fail;
-use syntax::{Arg, Args, Form, Kind, Label, Numbers, Param};
 
 fn parameter(kind: Kind, form: Form, length: u16) -> Param {
     Param {

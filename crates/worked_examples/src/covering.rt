@@ -1,9 +1,10 @@
 // What is not compiled yet, and where.
 
 use coverage::first_uncompiled;
+use language::Refusal;
 use std::alloc::Global;
 use std::test::Fail;
-use syntax::{Refusal, parse};
+use syntax::parse;
 
 /// The line and column of the earliest node of a text that is not compiled.
 fn earliest(alloc: Global, text: &str) -> Result<Option<(u32, u32)>, Refusal> {

@@ -1,9 +1,10 @@
 // Texts and their tokens.
 
+use language::{Place, Refusal, Rule};
 use std::alloc::Global;
 use std::str;
 use std::test::Fail;
-use syntax::{Keyword, ListEnd, Place, Refusal, Rule, Sign, Suffix, TEXT_LIMIT, TokenKind, lex};
+use syntax::{Keyword, ListEnd, Sign, Suffix, TEXT_LIMIT, TokenKind, lex};
 
 /// The kinds of a text's tokens, where no fault ends their list.
 fn kinds(alloc: Global, text: &str) -> Result<Vec<TokenKind>, Refusal> {

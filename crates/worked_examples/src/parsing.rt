@@ -1,11 +1,12 @@
 // Texts and their trees, or their refusals.
 
+use language::{
+    BinaryOperator, Expr, Place, PrefixOperator, Procedure, Program, Refusal, RightSide, Rule,
+    Statement,
+};
 use std::alloc::{AllocError, Global};
 use std::test::Fail;
-use syntax::{
-    BinaryOperator, Expr, Place, PrefixOperator, Procedure, Program, Refusal, RightSide, Rule,
-    Statement, parse,
-};
+use syntax::parse;
 
 const FRONT: &str = "export secret uint32 f(secret uint32 x) { return ";
 

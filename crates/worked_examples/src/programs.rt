@@ -1,11 +1,10 @@
 // Programs that are worked through by hand, with their trees and refusals.
 
 use crate::parsing::{refusal, repeated};
+use language::{BinaryOperator, Expr, Kind, Place, Procedure, Program, RightSide, Rule, Statement};
 use std::alloc::{AllocError, Global};
 use std::test::Fail;
-use syntax::{
-    BinaryOperator, Expr, Kind, Place, Procedure, Program, RightSide, Rule, Statement, parse,
-};
+use syntax::parse;
 
 /// Adds one, and wraps.
 const ADDS: &str = "export secret uint32 f(secret uint32 x) { return x + 1; }";

@@ -4,8 +4,8 @@ ghost use Rattle.syntax.specs.Lexeme.{Lexeme, lexeme};
 ghost use Rattle.syntax.specs.Machine.{State, one, either, a_label, a_kind, a_length, an_amount, sized, step, ending_answer};
 ghost use Rattle.syntax.specs.ParserViews.{Leads, FaultIs, taken};
 ghost use Rattle.syntax.specs.Tokens.{ending};
-ghost use Rattle.syntax.specs.declared.signature.Label.{Label as LabelOf};
-ghost use Rattle.syntax.specs.declared.signature.Kind.{Kind as KindOf};
+ghost use Rattle.language.specs.declared.signature.Label.{Label as LabelOf};
+ghost use Rattle.language.specs.declared.signature.Kind.{Kind as KindOf};
 
 use super::wanted::Wanted;
 use super::{Fault, Parser};
@@ -43,9 +43,12 @@ fn word_of(kind: TokenKind) -> Option<Kind>
 fn amount_of(kind: TokenKind) -> Option<u32>
     ensures { result ≡ amount_that kind }
 {
-    match kind {
-        TokenKind::Number(value, None) => Some(value),
-        _ => None,
+    let TokenKind::Number(value, suffix) = kind else {
+        return None;
+    };
+    match suffix {
+        None => Some(value),
+        Some(_) => None,
     }
 }
 
@@ -53,9 +56,11 @@ fn amount_of(kind: TokenKind) -> Option<u32>
 fn length_of(kind: TokenKind) -> Option<u16>
     ensures { result ≡ length_that kind }
 {
-    match kind {
-        TokenKind::Number(value, None) if 1 <= value && value <= LENGTH_LIMIT => Some(value as u16),
-        _ => None,
+    let length = amount_of(kind)?;
+    if 1 <= length && length <= LENGTH_LIMIT {
+        Some(length as u16)
+    } else {
+        None
     }
 }
 
@@ -66,6 +71,16 @@ pub fn unexpected(token: Token<'_>) -> Fault
     Fault::Refused(Rule::UnexpectedToken, token.place)
 }
 
+/// Why no token stands next, where the tokens end like this.
+fn at_end(end: ListEnd) -> Fault
+    ensures { FaultIs result (ending_answer (ending end) None) }
+{
+    match end {
+        ListEnd::TextEnd(place) => Fault::Refused(Rule::UnexpectedToken, place),
+        ListEnd::Fault(rule, place) => Fault::Refused(rule, place),
+    }
+}
+
 impl<'t, 'a> Parser<'t, 'a> {
     /// The next token, and those after it.
     pub fn first(&self) -> Result<(Token<'a>, &'t [Token<'a>]), Fault>
@@ -73,10 +88,9 @@ impl<'t, 'a> Parser<'t, 'a> {
         ensures ended { IfErr result (λ f. (self.now.rest.now ≡ [])
             × FaultIs f (ending_answer (ending self.now.end) None)) }
     {
-        match (self.rest.split_first(), self.end) {
-            (Some((token, rest)), _) => Ok((*token, rest)),
-            (None, ListEnd::TextEnd(place)) => Err(Fault::Refused(Rule::UnexpectedToken, place)),
-            (None, ListEnd::Fault(rule, place)) => Err(Fault::Refused(rule, place)),
+        match self.rest.split_first() {
+            Some((token, rest)) => Ok((*token, rest)),
+            None => Err(at_end(self.end)),
         }
     }
 

@@ -1,8 +1,8 @@
 use Rattle.std.proofs.Common.{length, get_or, Some, None, sym, ap, ◌∙◌, arith}
-use Rattle.syntax.specs.declared.signature.Form.TheVariants.{SingleWord}
-use Rattle.syntax.specs.declared.signature.Kind.TheVariants.{Boolean}
-use Rattle.syntax.specs.declared.signature.Label.TheVariants.{Public}
-use Rattle.syntax.specs.declared.signature.Param.{Param}
+use Rattle.language.specs.declared.signature.Form.TheVariants.{SingleWord}
+use Rattle.language.specs.declared.signature.Kind.TheVariants.{Boolean}
+use Rattle.language.specs.declared.signature.Label.TheVariants.{Public}
+use Rattle.language.specs.declared.signature.Param.{Param}
 use Rattle.arguments.specs.Faults.{rule_of, fault_of}
 use Rattle.arguments.proofs.FaultLemmas.{fault_from-broken, fault_from-passed, fault_from-end, fault_by-same, length-AreWithin, None-from_fault_of}
 use Rattle.arguments.proofs.bounds.first_fault.Goals as goal

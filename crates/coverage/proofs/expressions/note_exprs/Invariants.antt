@@ -1,5 +1,5 @@
 use Rattle.std.proofs.Common.{◌≡◌, drop, fold, map}
-use Rattle.syntax.specs.Tree.{expr_tree}
+use Rattle.language.specs.Tree.{expr_tree}
 use Rattle.coverage.specs.Earliest.{sooner}
 use Rattle.coverage.specs.NotCompiled.{uncompiled_exprs}
 use Rattle.coverage.proofs.expressions.note_exprs.Given as goal

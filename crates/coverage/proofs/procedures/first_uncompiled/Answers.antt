@@ -1,6 +1,6 @@
 use Rattle.std.proofs.Common.{None, map, sym, ap, fold, ◌∙◌}
 use Rattle.std.proofs.lemmas.List.Sums.{fold-append}
-use Rattle.syntax.specs.Tree.{procedure_tree, program_tree}
+use Rattle.language.specs.Tree.{procedure_tree, program_tree}
 use Rattle.coverage.specs.Earliest.{sooner}
 use Rattle.coverage.specs.NotCompiled.{uncompiled, uncompiled_further, uncompiled_procedure, uncompiled_procedures}
 use Rattle.coverage.proofs.EarliestLemmas.{earliest_kept}

@@ -1,5 +1,5 @@
 use Rattle.std.proofs.Common.{◌≡◌, drop, fold, map}
-use Rattle.syntax.specs.Tree.{procedure_tree}
+use Rattle.language.specs.Tree.{procedure_tree}
 use Rattle.coverage.specs.Earliest.{sooner}
 use Rattle.coverage.specs.NotCompiled.{uncompiled_further}
 use Rattle.coverage.proofs.procedures.note_further.Given as goal

@@ -1,5 +1,5 @@
 use Rattle.std.proofs.Common.{◌≡◌, drop, fold, map}
-use Rattle.syntax.specs.Tree.{parameter_tree}
+use Rattle.language.specs.Tree.{parameter_tree}
 use Rattle.coverage.specs.Earliest.{sooner}
 use Rattle.coverage.specs.NotCompiled.{uncompiled_parameters}
 use Rattle.coverage.proofs.procedures.note_parameters.Given as goal

@@ -1,5 +1,5 @@
 use Rattle.std.proofs.Common.{◌≡◌, drop, fold}
-use Rattle.syntax.specs.Tree.{block_tree}
+use Rattle.language.specs.Tree.{block_tree}
 use Rattle.coverage.specs.Earliest.{sooner}
 use Rattle.coverage.specs.NotCompiled.{uncompiled_block}
 use Rattle.coverage.proofs.statements.+statement.Given as goal

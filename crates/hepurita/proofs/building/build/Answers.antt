@@ -2,7 +2,7 @@ use Rattle.std.proofs.Common.{[], sym, subst}
 use Rattle.std.proofs.lemmas.Result.{err_from_is_err_and, IfOk-weaker}
 use Rattle.image.specs.Fields.{Fields}
 use Rattle.simulation.specs.Compiled.{IsCompiled}
-use Rattle.syntax.specs.Tree.{program_tree}
+use Rattle.language.specs.Tree.{program_tree}
 use Rattle.hepurita.specs.Built.{readable}
 use Rattle.hepurita.proofs.BuiltLemmas.{refusal_of_text, refusal_of_program}
 use Rattle.hepurita.proofs.Exports.{export_is_there}

@@ -1,7 +1,7 @@
 use Rattle.std.proofs.Common.{ap, sym, subst, ◌∙◌}
 use Rattle.branch_removal.specs.Removal.{straightened}
 use Rattle.codegen.specs.Room.{HasRoom}
-use Rattle.syntax.specs.Tree.{program_tree}
+use Rattle.language.specs.Tree.{program_tree}
 use Rattle.hepurita.proofs.RoomLemmas.{has_room}
 use Rattle.hepurita.proofs.building.compile.Goals as goal
 

@@ -3,7 +3,7 @@ use Rattle.std.proofs.lemmas.Result.{err_from_is_err_and}
 use Rattle.arguments.specs.Within.{AreWithin}
 use Rattle.observing.specs.Entries.{entries_of}
 use Rattle.rv_machine.specs.declared.observation.Observation.{Observation}
-use Rattle.syntax.specs.declared.signature.Param.{Param}
+use Rattle.language.specs.declared.signature.Param.{Param}
 use Rattle.hepurita.specs.Paired.{Observed, pair_fault, compared}
 use Rattle.hepurita.proofs.PairedLemmas.{memory_paired, refused_paired, compares_from}
 use Rattle.hepurita.proofs.comparing.pair.Goals as goal

@@ -4,7 +4,7 @@ use Rattle.arguments.specs.Faults.{fault_of}
 use Rattle.rv_machine.specs.Flat.{flat_bytes}
 use Rattle.rv_machine.specs.Harts.{state_of}
 use Rattle.rv_machine.specs.Regions.{code_of}
-use Rattle.syntax.specs.declared.signature.Param.{Param}
+use Rattle.language.specs.declared.signature.Param.{Param}
 use Rattle.hepurita.proofs.ExecutedLemmas.{memory_executed, refused_executed, ran_executed}
 use Rattle.hepurita.proofs.executing.execute.Goals as goal
 

@@ -2,7 +2,7 @@ use Rattle.std.proofs.Common.{[], is_some, rules, tests, ap, ◌∙◌}
 use Rattle.std.specs.Option.{option_map}
 use Rattle.std.proofs.lemmas.Iterator.{YieldsList-from_slice}
 use Rattle.std.proofs.lemmas.Iterator.Search.{find_from_yields_List}
-use Rattle.syntax.specs.Tree.{procedure_tree}
+use Rattle.language.specs.Tree.{procedure_tree}
 use Rattle.hepurita.proofs.Exports.{found_export, seen_as_tree}
 use Rattle.hepurita.proofs.judging.exported_of.Goals as goal
 

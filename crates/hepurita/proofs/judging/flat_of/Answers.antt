@@ -1,9 +1,9 @@
 use Rattle.std.proofs.Common.{◌≡◌, [], length, ap, sym, ◌∙◌}
 use Rattle.std.proofs.lemmas.Result.{err_from_is_err_and, IfErr-weaker}
-use Rattle.syntax.specs.declared.tree.Program.{Program}
-use Rattle.syntax.specs.Meaning.{exported}
-use Rattle.syntax.specs.Tree.{procedure_tree, program_tree}
-use Rattle.syntax.specs.Typing.{violations}
+use Rattle.language.specs.declared.tree.Program.{Program}
+use Rattle.language.specs.Meaning.{exported}
+use Rattle.language.specs.Tree.{procedure_tree, program_tree}
+use Rattle.language.specs.Typing.{violations}
 use Rattle.hepurita.proofs.BuiltLemmas.{refusal_of_coverage, refusal_of_types, refusal_of_sizes, judged_flat}
 use Rattle.hepurita.proofs.Exports.{has_export, nothing_exported, export_in}
 use Rattle.hepurita.proofs.judging.flat_of.Goals as goal

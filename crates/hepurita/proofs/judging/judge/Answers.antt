@@ -1,7 +1,7 @@
 use Rattle.std.proofs.Common.{ap, ◌∙◌}
 use Rattle.std.proofs.lemmas.Result.{err_from_is_err_and}
 use Rattle.inline.specs.Flat.{FlatProgram}
-use Rattle.syntax.specs.Tree.{program_tree}
+use Rattle.language.specs.Tree.{program_tree}
 use Rattle.hepurita.specs.Built.{readable}
 use Rattle.hepurita.proofs.BuiltLemmas.{refusal_of_text, refusal_of_program}
 use Rattle.hepurita.proofs.judging.judge.Goals as goal

@@ -1,5 +1,5 @@
 use Rattle.std.proofs.Common.{◌+◌, ◌<◌, length, drop, slice_index_or, is_some, ap, sym, ◌∙◌, arith}
-use Rattle.syntax.specs.declared.values.Arg.{Arg}
+use Rattle.language.specs.declared.values.Arg.{Arg}
 use Rattle.simulation.specs.Bases.{frame_base}
 use Rattle.simulation.specs.Loaded.{with_argument, with_arguments}
 use Rattle.hepurita.proofs.DataLemmas.{HoldsWord-same, is_some-with_argument}

@@ -2,8 +2,8 @@ use Rattle.std.proofs.Common.{ap, length, map, arith}
 use Rattle.std.proofs.lemmas.List.{length-map}
 use Rattle.inline.proofs.SizeLemmas.{single_words}
 use Rattle.inline.proofs.inlining.inline.Goals as goal
-use Rattle.syntax.specs.Size.{block_words}
-use Rattle.syntax.specs.Tree.{block_tree, parameter_tree}
+use Rattle.language.specs.Size.{block_words}
+use Rattle.language.specs.Tree.{block_tree, parameter_tree}
 
 pub parameters-requires : goal.parameters-requires
 parameters-requires c =

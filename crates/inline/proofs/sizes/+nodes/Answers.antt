@@ -1,6 +1,6 @@
 use Rattle.std.proofs.Common.{ap, arith}
-use Rattle.syntax.specs.Size.{block_nodes, statement_nodes}
-use Rattle.syntax.specs.Tree.{block_tree, statement_tree}
+use Rattle.language.specs.Size.{block_nodes, statement_nodes}
+use Rattle.language.specs.Tree.{block_tree, statement_tree}
 use Rattle.inline.proofs.SizeLemmas.{conditional_nodes, last_part, loop_nodes, statement_nodes_some}
 use Rattle.inline.proofs.sizes.+nodes.Goals as goal
 

@@ -1,6 +1,6 @@
 use Rattle.std.proofs.Common.{◌≡◌, ◌+◌, drop}
-use Rattle.syntax.specs.Size.{block_nodes}
-use Rattle.syntax.specs.Tree.{block_tree}
+use Rattle.language.specs.Size.{block_nodes}
+use Rattle.language.specs.Tree.{block_tree}
 use Rattle.inline.proofs.sizes.+nodes.Given as goal
 
 -- the room left and that for the statements left make the room at first

@@ -1,5 +1,5 @@
 use Rattle.std.proofs.Common.{arith}
-use Rattle.syntax.specs.Tree.{expr_tree}
+use Rattle.language.specs.Tree.{expr_tree}
 use Rattle.inline.proofs.SizeLemmas.{nodes_some}
 use Rattle.inline.proofs.sizes.+nodes_after.Goals as goal
 

@@ -1,6 +1,6 @@
 use Rattle.std.proofs.Common.{ap, arith}
-use Rattle.syntax.specs.Size.{block_words, statement_words}
-use Rattle.syntax.specs.Tree.{block_tree, statement_tree}
+use Rattle.language.specs.Size.{block_words, statement_words}
+use Rattle.language.specs.Tree.{block_tree, statement_tree}
 use Rattle.inline.proofs.SizeLemmas.{conditional_words, last_part, loop_words}
 use Rattle.inline.proofs.sizes.+words.Goals as goal
 

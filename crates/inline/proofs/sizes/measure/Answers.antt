@@ -1,7 +1,7 @@
 use Rattle.std.proofs.Common.{◌+◌, ◌<◌, ◌≤◌, inr, map, sym, ◌∙◌, arith}
 use Rattle.std.proofs.lemmas.Bool.{false≢true}
-use Rattle.syntax.specs.Size.{block_words, declared_bytes, most_declared_bytes, most_nodes, nodes_of, parameter_words}
-use Rattle.syntax.specs.Tree.{block_tree, parameter_tree, procedure_tree}
+use Rattle.language.specs.Size.{block_words, declared_bytes, most_declared_bytes, most_nodes, nodes_of, parameter_words}
+use Rattle.language.specs.Tree.{block_tree, parameter_tree, procedure_tree}
 use Rattle.inline.proofs.SizeLemmas.{too_many_bytes, too_many_nodes}
 use Rattle.inline.proofs.sizes.measure.Goals as goal
 

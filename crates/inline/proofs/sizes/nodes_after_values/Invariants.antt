@@ -1,6 +1,6 @@
 use Rattle.std.proofs.Common.{◌≡◌, ◌+◌, drop, map}
-use Rattle.syntax.specs.Size.{nodes_in_all}
-use Rattle.syntax.specs.Tree.{expr_tree}
+use Rattle.language.specs.Size.{nodes_in_all}
+use Rattle.language.specs.Tree.{expr_tree}
 use Rattle.inline.proofs.sizes.nodes_after_values.Given as goal
 
 -- the room left and that for the values left make the room at first

@@ -1,6 +1,6 @@
 use Rattle.std.proofs.Common.{◌≡◌, ◌+◌, drop, map}
-use Rattle.syntax.specs.Size.{parameter_words}
-use Rattle.syntax.specs.Tree.{parameter_tree}
+use Rattle.language.specs.Size.{parameter_words}
+use Rattle.language.specs.Tree.{parameter_tree}
 use Rattle.inline.proofs.sizes.words_after_parameters.Given as goal
 
 -- the room left and that for the parameters left make the room at first

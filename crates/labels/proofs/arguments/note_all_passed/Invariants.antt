@@ -1,7 +1,7 @@
 use Rattle.std.proofs.Common.{◌≡◌, ◌&&◌, map, drop, fold}
-use Rattle.syntax.specs.Tree.{expr_tree, parameter_tree}
-use Rattle.syntax.specs.Types.{are_met, at}
-use Rattle.syntax.specs.Typing.{all_passed_rules, passed}
+use Rattle.language.specs.Tree.{expr_tree, parameter_tree}
+use Rattle.language.specs.Types.{are_met, at}
+use Rattle.language.specs.Typing.{all_passed_rules, passed}
 use Rattle.labels.specs.Sooner.{sooner}
 use Rattle.labels.proofs.arguments.note_all_passed.Given as goal
 

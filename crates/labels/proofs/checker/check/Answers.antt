@@ -1,6 +1,6 @@
 use Rattle.std.proofs.Common.{sym, ◌∙◌, inr}
-use Rattle.syntax.specs.Tree.{program_tree}
-use Rattle.syntax.specs.Typing.{violations}
+use Rattle.language.specs.Tree.{program_tree}
+use Rattle.language.specs.Typing.{violations}
 use Rattle.labels.proofs.SoonerLemmas.{found_first, found_none}
 use Rattle.labels.proofs.checker.check.Goals as goal
 

@@ -1,6 +1,6 @@
 use Rattle.std.proofs.Common.{◌≡◌, cond, map, drop, fold}
-use Rattle.syntax.specs.Tree.{procedure_tree}
-use Rattle.syntax.specs.Typing.{export_violations, exports, too_many}
+use Rattle.language.specs.Tree.{procedure_tree}
+use Rattle.language.specs.Typing.{export_violations, exports, too_many}
 use Rattle.labels.specs.Sooner.{sooner}
 use Rattle.labels.proofs.checker.note_exports.Given as goal
 

@@ -1,6 +1,6 @@
 use Rattle.std.proofs.Common.{◌≡◌, [], map, take, drop, fold}
-use Rattle.syntax.specs.Tree.{procedure_tree}
-use Rattle.syntax.specs.Typing.{procedures_violations}
+use Rattle.language.specs.Tree.{procedure_tree}
+use Rattle.language.specs.Typing.{procedures_violations}
 use Rattle.labels.specs.Sooner.{sooner}
 use Rattle.labels.proofs.checker.note_procedures.Given as goal
 

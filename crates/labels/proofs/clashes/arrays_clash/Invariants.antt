@@ -1,5 +1,5 @@
 use Rattle.std.proofs.Common.{[]}
-use Rattle.syntax.specs.Typing.{clashes}
+use Rattle.language.specs.Typing.{clashes}
 use Rattle.labels.proofs.ClashLemmas.{SoFar, all_passed}
 use Rattle.labels.proofs.clashes.arrays_clash.Given as goal
 

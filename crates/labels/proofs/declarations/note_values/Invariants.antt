@@ -1,6 +1,6 @@
 use Rattle.std.proofs.Common.{◌≡◌, drop, fold}
-use Rattle.syntax.specs.Types.{at}
-use Rattle.syntax.specs.Typing.{values_rules}
+use Rattle.language.specs.Types.{at}
+use Rattle.language.specs.Typing.{values_rules}
 use Rattle.labels.specs.Sooner.{sooner}
 use Rattle.labels.proofs.declarations.note_values.Given as goal
 

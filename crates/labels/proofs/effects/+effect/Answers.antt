@@ -1,6 +1,6 @@
 use Rattle.std.proofs.Common.{refl, ◌∙◌}
-use Rattle.syntax.specs.Tree.{block_tree}
-use Rattle.syntax.specs.Typing.{block_assigns}
+use Rattle.language.specs.Tree.{block_tree}
+use Rattle.language.specs.Typing.{block_assigns}
 use Rattle.labels.proofs.TreeLemmas.{conditional_assigns, first_does, loop_assigns, second_does}
 use Rattle.labels.proofs.effects.+effect.Goals as goal
 

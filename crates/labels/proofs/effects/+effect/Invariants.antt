@@ -1,6 +1,6 @@
 use Rattle.std.proofs.Common.{◌≡◌, drop}
-use Rattle.syntax.specs.Tree.{block_tree}
-use Rattle.syntax.specs.Typing.{block_assigns}
+use Rattle.language.specs.Tree.{block_tree}
+use Rattle.language.specs.Typing.{block_assigns}
 use Rattle.labels.proofs.effects.+effect.Given as goal
 
 -- the statements so far assign to nothing public

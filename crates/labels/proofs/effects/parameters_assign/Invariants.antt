@@ -1,6 +1,6 @@
 use Rattle.std.proofs.Common.{◌≡◌, map, drop}
-use Rattle.syntax.specs.Tree.{parameter_tree}
-use Rattle.syntax.specs.Typing.{parameters_assign}
+use Rattle.language.specs.Tree.{parameter_tree}
+use Rattle.language.specs.Typing.{parameters_assign}
 use Rattle.labels.proofs.effects.parameters_assign.Given as goal
 
 -- the parameters so far are none of those that are looked for

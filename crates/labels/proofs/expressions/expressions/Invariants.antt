@@ -1,6 +1,6 @@
 use Rattle.std.proofs.Common.{◌≡◌, true, length, map, drop, fold}
-use Rattle.syntax.specs.ExprTyping.{exprs_violations, types_of}
-use Rattle.syntax.specs.Tree.{expr_tree}
+use Rattle.language.specs.ExprTyping.{exprs_violations, types_of}
+use Rattle.language.specs.Tree.{expr_tree}
 use Rattle.labels.specs.Sooner.{sooner}
 use Rattle.labels.proofs.TypeLemmas.{found_before}
 use Rattle.labels.proofs.expressions.expressions.Given as goal

@@ -1,6 +1,6 @@
 use Rattle.std.proofs.Common.{◌≡◌, map, drop, fold}
-use Rattle.syntax.specs.Tree.{parameter_tree}
-use Rattle.syntax.specs.Typing.{with_parameters, parameter_violations}
+use Rattle.language.specs.Tree.{parameter_tree}
+use Rattle.language.specs.Typing.{with_parameters, parameter_violations}
 use Rattle.labels.specs.Sooner.{sooner}
 use Rattle.labels.proofs.procedures.parameters.Given as goal
 

@@ -1,8 +1,8 @@
 use Rattle.std.proofs.Common.{map, length, take, ap, ap₂, ◌∙◌}
-use Rattle.syntax.specs.declared.typing.Declared.TheVariants.{Procedure}
-use Rattle.syntax.specs.Tree.{block_tree, parameter_tree}
-use Rattle.syntax.specs.Types.{declared}
-use Rattle.syntax.specs.Typing.{scope_after_all}
+use Rattle.language.specs.declared.typing.Declared.TheVariants.{Procedure}
+use Rattle.language.specs.Tree.{block_tree, parameter_tree}
+use Rattle.language.specs.Types.{declared}
+use Rattle.language.specs.Typing.{scope_after_all}
 use Rattle.labels.proofs.TreeLemmas.{scope_before_body}
 use Rattle.labels.proofs.procedures.procedure.Goals as goal
 

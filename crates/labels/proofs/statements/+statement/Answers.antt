@@ -1,9 +1,9 @@
 use Rattle.std.proofs.Common.{map, take, false, ◌∙◌, ap, ap₂}
 use Rattle.labels.proofs.TreeLemmas.{conditional_seen, loop_seen, on_ok, scope_before, scope_before_turns}
-use Rattle.syntax.specs.Tree.{block_tree, procedure_tree}
-use Rattle.syntax.specs.Types.{declared}
-use Rattle.syntax.specs.Typing.{counter_as, scope_after_all}
-use Rattle.syntax.specs.declared.typing.Declared.TheVariants.{Variable}
+use Rattle.language.specs.Tree.{block_tree, procedure_tree}
+use Rattle.language.specs.Types.{declared}
+use Rattle.language.specs.Typing.{counter_as, scope_after_all}
+use Rattle.language.specs.declared.typing.Declared.TheVariants.{Variable}
 use Rattle.labels.proofs.statements.+statement.Goals as goal
 
 pub arm-returns-clause-names : goal.arm-returns-clause-names

@@ -1,6 +1,6 @@
 use Rattle.std.proofs.Common.{◌≡◌, map, drop, fold}
-use Rattle.syntax.specs.Tree.{block_tree, procedure_tree}
-use Rattle.syntax.specs.Typing.{block_violations, scope_after_all}
+use Rattle.language.specs.Tree.{block_tree, procedure_tree}
+use Rattle.language.specs.Typing.{block_violations, scope_after_all}
 use Rattle.labels.specs.Sooner.{sooner}
 use Rattle.labels.proofs.statements.+statement.Given as goal
 

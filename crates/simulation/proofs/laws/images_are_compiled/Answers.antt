@@ -2,7 +2,7 @@ use Rattle.branch_removal.specs.Removal.{straightened}
 use Rattle.inline.specs.Numbering.{flattened, param_of}
 use Rattle.std.proofs.Common.{map}
 use Rattle.simulation.proofs.Compiler.{same_presence, compiled}
-use Rattle.simulation.proofs.TextLemmas.{sizes}
+use Rattle.simulation.proofs.LimitLemmas.{sizes}
 use Rattle.simulation.proofs.laws.images_are_compiled.Goals as goal
 
 pub returns : goal.returns

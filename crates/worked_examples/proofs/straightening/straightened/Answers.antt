@@ -1,6 +1,6 @@
 use Rattle.std.proofs.Common.{[], not, sym, ap, ◌∙◌, arith}
 use Rattle.std.specs.List.{slice_get}
-use Rattle.syntax.specs.Tree.{procedure_tree, program_tree}
+use Rattle.language.specs.Tree.{procedure_tree, program_tree}
 use Rattle.worked_examples.proofs.Exports.{nothing_found, first_exported}
 use Rattle.worked_examples.proofs.straightening.straightened.Goals as goal
 

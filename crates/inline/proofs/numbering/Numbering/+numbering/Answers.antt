@@ -3,12 +3,12 @@ use Rattle.std.proofs.lemmas.List.{at_drop_all, drop_more}
 use Rattle.inline.proofs.NumberingLemmas.{joined, joined_nothing, names_before, numbered_conditional, one_more}
 use Rattle.inline.proofs.SizeLemmas.{conditional_compiled, conditional_words}
 use Rattle.inline.proofs.numbering.Numbering.+numbering.Goals as goal
-use Rattle.syntax.specs.declared.tree.Statement.{the_lemmas}
-use Rattle.syntax.specs.Size.{block_words}
+use Rattle.language.specs.declared.tree.Statement.{the_lemmas}
+use Rattle.language.specs.Size.{block_words}
 use Rattle.coverage.specs.Compiled.{IsCompiledBlock}
 use Rattle.inline.specs.Flat.{flat_block}
 use Rattle.inline.specs.Numbering.{block, names_after_all}
-use Rattle.syntax.specs.Tree.{block_tree, statement_tree}
+use Rattle.language.specs.Tree.{block_tree, statement_tree}
 
 pub arm-returns-clause-names : goal.arm-returns-clause-names
 arm-returns-clause-names t c =

@@ -4,8 +4,8 @@ use Rattle.inline.proofs.numbering.Numbering.+numbering.Given as goal
 use Rattle.coverage.specs.Compiled.{IsCompiledBlock}
 use Rattle.inline.specs.Flat.{flat_block}
 use Rattle.inline.specs.Numbering.{block, names_after_all}
-use Rattle.syntax.specs.Size.{block_words}
-use Rattle.syntax.specs.Tree.{block_tree}
+use Rattle.language.specs.Size.{block_words}
+use Rattle.language.specs.Tree.{block_tree}
 
 -- what is done and what is left make the whole block, with the same names and the same next number after it
 abbrev pub invariant-block-loop-statement : goal.invariant-block-loop-statement

@@ -1,7 +1,7 @@
 use Rattle.std.proofs.Common.{◌≡◌, ◌+◌, drop, map, take}
 use Rattle.inline.proofs.numbering.Numbering.parameters.Given as goal
 use Rattle.inline.specs.Numbering.{param_of, with_parameters}
-use Rattle.syntax.specs.Tree.{parameter_tree}
+use Rattle.language.specs.Tree.{parameter_tree}
 
 -- those before this one are done, and what is left leads to the same names as all of them
 abbrev pub invariant-loop-parameter : goal.invariant-loop-parameter

@@ -3,9 +3,10 @@ use Rattle.syntax.specs.declared.parser.wanted.Wanted.TheVariants as wanted
 use Rattle.syntax.specs.Lexeme.{Lexeme, lexeme}
 use Rattle.syntax.specs.Machine.{statements, block, otherwise, after_else, conditioned, expr, one, either}
 use Rattle.syntax.specs.ParserViews.{ahead, after_start}
-use Rattle.syntax.specs.Tree.{ExprTree, BlockTree, nothing, first, conditional, loop, expr_tree, block_tree}
+use Rattle.language.specs.Tree.{ExprTree, BlockTree, nothing, first, conditional, loop, expr_tree, block_tree}
 use Rattle.syntax.proofs.ParserSteps.{passed-after, leads-after, after-taken, after-none, ahead-otherwise, more_statements}
-use Rattle.syntax.proofs.StatementSteps.{followed_by, followed-nothing, ahead-push, row_trees}
+use Rattle.syntax.proofs.StatementSteps.{followed_by, followed-nothing, ahead-push}
+use Rattle.language.proofs.BlockLemmas.{row_trees}
 use Rattle.syntax.proofs.parser.Parser.+statement.Goals as goal
 
 pub after_else-returns-in-None-clause-leads : goal.after_else-returns-in-None-clause-leads

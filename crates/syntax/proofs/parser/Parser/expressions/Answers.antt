@@ -2,7 +2,7 @@ use Rattle.std.proofs.Common.{◌∙◌, ◌++◌, ◌∷◌, [], List, map, ap,
 use Rattle.syntax.specs.declared.parser.wanted.Wanted.{Wanted}
 use Rattle.syntax.specs.Machine.{State, some_exprs, more_exprs, expr, one}
 use Rattle.syntax.specs.ParserViews.{ahead}
-use Rattle.syntax.specs.Tree.{ExprTree, expr_tree}
+use Rattle.language.specs.Tree.{ExprTree, expr_tree}
 use Rattle.syntax.proofs.ParserSteps.{passed-after, some-taken, none-taken, ahead-exprs, after_exprs, map-push}
 use Rattle.syntax.proofs.parser.Parser.expressions.Goals as goal
 

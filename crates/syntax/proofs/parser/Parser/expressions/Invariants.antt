@@ -1,7 +1,7 @@
 use Rattle.std.proofs.Common.{◌≡◌, ◌<◌, map, List, length}
 use Rattle.syntax.specs.Machine.{State, some_exprs, more_exprs}
 use Rattle.syntax.specs.ParserViews.{ahead}
-use Rattle.syntax.specs.Tree.{ExprTree, expr_tree}
+use Rattle.language.specs.Tree.{ExprTree, expr_tree}
 use Rattle.syntax.proofs.parser.Parser.expressions.Given as goal
 
 abbrev pub invariant-loop-expressions : goal.invariant-loop-expressions

@@ -1,10 +1,10 @@
 use Rattle.std.proofs.Common.{◌∙◌, sym}
 use Rattle.syntax.specs.declared.parser.wanted.Wanted.TheVariants as wanted
-use Rattle.syntax.specs.declared.signature.Form.TheVariants.{SingleWord, FixedArray, MutableArray}
-use Rattle.syntax.specs.declared.signature.Kind.{Kind}
-use Rattle.syntax.specs.declared.signature.Label.{Label}
+use Rattle.language.specs.declared.signature.Form.TheVariants.{SingleWord, FixedArray, MutableArray}
+use Rattle.language.specs.declared.signature.Kind.{Kind}
+use Rattle.language.specs.declared.signature.Label.{Label}
 use Rattle.syntax.specs.Machine.{State, labelled, parameter_name, a_kind, one, either, sized}
-use Rattle.syntax.specs.Tree.{ParameterTree, parameter_tree}
+use Rattle.language.specs.Tree.{ParameterTree, parameter_tree}
 use Rattle.syntax.proofs.ParserSteps.{leads-after, some-taken, none-taken}
 use Rattle.syntax.proofs.parser.Parser.labelled.Goals as goal
 

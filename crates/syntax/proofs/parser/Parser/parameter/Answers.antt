@@ -1,5 +1,5 @@
 use Rattle.syntax.specs.Machine.{parameter, labelled}
-use Rattle.syntax.specs.Tree.{parameter_tree}
+use Rattle.language.specs.Tree.{parameter_tree}
 use Rattle.syntax.proofs.ParserSteps.{leads-after}
 use Rattle.syntax.proofs.parser.Parser.parameter.Goals as goal
 

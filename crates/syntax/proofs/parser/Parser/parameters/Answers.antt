@@ -2,7 +2,7 @@ use Rattle.std.proofs.Common.{◌∙◌, ◌++◌, ◌∷◌, [], List, map, ap,
 use Rattle.syntax.specs.declared.parser.wanted.Wanted.TheVariants as wanted
 use Rattle.syntax.specs.Machine.{State, parameters, more_parameters, parameter, one}
 use Rattle.syntax.specs.ParserViews.{ahead}
-use Rattle.syntax.specs.Tree.{ParameterTree, parameter_tree}
+use Rattle.language.specs.Tree.{ParameterTree, parameter_tree}
 use Rattle.syntax.proofs.ParserSteps.{passed-after, some-taken, none-taken, ahead-parameters, after_parameters, map-push}
 use Rattle.syntax.proofs.parser.Parser.parameters.Goals as goal
 

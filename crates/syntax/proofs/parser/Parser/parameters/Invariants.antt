@@ -1,7 +1,7 @@
 use Rattle.std.proofs.Common.{◌≡◌, ◌≤◌, map, List, length}
 use Rattle.syntax.specs.Machine.{State, parameters, more_parameters}
 use Rattle.syntax.specs.ParserViews.{ahead}
-use Rattle.syntax.specs.Tree.{ParameterTree, parameter_tree}
+use Rattle.language.specs.Tree.{ParameterTree, parameter_tree}
 use Rattle.syntax.proofs.parser.Parser.parameters.Given as goal
 
 abbrev pub invariant-loop-parameters : goal.invariant-loop-parameters

@@ -2,7 +2,7 @@ use Rattle.std.proofs.Common.{◌≡◌, ap, sym, ◌∙◌, ◌++◌, ◌∷◌
 use Rattle.syntax.specs.Machine.{program, procedures, procedure}
 use Rattle.syntax.specs.ParserViews.{ahead}
 use Rattle.syntax.specs.Reading.{accepted}
-use Rattle.syntax.specs.Tree.{ProcedureTree, program_tree, procedure_tree}
+use Rattle.language.specs.Tree.{ProcedureTree, program_tree, procedure_tree}
 use Rattle.syntax.proofs.ParserSteps.{passed-answer, ahead-procedure, map-push}
 use Rattle.syntax.proofs.parser.Parser.program.Goals as goal
 

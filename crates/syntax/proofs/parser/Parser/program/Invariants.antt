@@ -1,7 +1,7 @@
 use Rattle.std.proofs.Common.{◌≡◌, map, length}
 use Rattle.syntax.specs.Machine.{program, procedures}
 use Rattle.syntax.specs.ParserViews.{ahead}
-use Rattle.syntax.specs.Tree.{procedure_tree}
+use Rattle.language.specs.Tree.{procedure_tree}
 use Rattle.syntax.proofs.parser.Parser.program.Given as goal
 
 abbrev pub invariant-loop-self : goal.invariant-loop-self

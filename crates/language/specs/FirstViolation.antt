@@ -1,0 +1,22 @@
+-- Which of several violations is named: that of least place, and of those at one place the rule that comes first.
+use Rattle.std.specs.Prelude.{◌≡◌, ◌<◌, ◌≤◌, ◌⊎◌, List, Option, Some, Contains, All}
+use Rattle.word.specs.declared.place.Place.{Place}
+use Rattle.language.specs.declared.rule.Rule.{Rule}
+use Rattle.language.specs.declared.typing.Violation.{Violation}
+use Rattle.language.specs.RuleOrder.{rank_of}
+use Rattle.language.specs.WantOfMemory.{IsWantOfMemory}
+
+-- u is named rather than v
+abbrev pub IsNoLaterThan : Violation → Violation → Type 0
+IsNoLaterThan u v =
+    (u.place.offset < v.place.offset) ⊎ ((u.place.offset ≡ v.place.offset) × (rank_of u.rule ≤ rank_of v.rule))
+
+-- it is one of them, and none of them comes before it
+pub record IsFirst (all : List Violation) (first : Violation) : Type 0 where
+  pub there : Contains all first
+  pub least : All (IsNoLaterThan first) all
+
+-- the refusal is want of memory, which has no place, or its rule and place are those of the first of the violations
+abbrev pub IsRefusedFor : List Violation → Rule → Option Place → Type 0
+IsRefusedFor all rule place =
+    IsWantOfMemory rule place ⊎ ((first : Violation) × IsFirst all first × (rule ≡ first.rule) × (place ≡ Some first.place))

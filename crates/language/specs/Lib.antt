@@ -1,0 +1,16 @@
+pub mod RuleNames
+pub mod Results
+pub mod Tree
+pub mod Blocks
+pub mod Types
+pub mod ExprTyping
+pub mod Typing
+pub mod Size
+pub mod State
+pub mod Operators
+pub mod Meaning
+pub mod Evaluation
+pub mod RuleOrder
+pub mod WantOfMemory
+pub mod FirstViolation
+pub mod Grammatical

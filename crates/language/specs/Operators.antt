@@ -1,0 +1,73 @@
+-- What the operators of the language make of words.
+use Rattle.std.specs.Prelude.{ℕ, ◌==◌, ◌&&◌, ◌||◌, Bool, true, false, not, nat_lt, nat_le, bit_and, bit_or, bit_xor, if◌then◌else◌}
+use Rattle.word.specs.Operators.{sum, difference, product, quotient, remainder, negated, complemented, shifted_left, shifted_right, rotated_left, converted, word_of}
+use Rattle.word.specs.declared.width.Width.{Width}
+use Rattle.word.specs.declared.width.Width.TheVariants.{W8, W16, W32}
+use Rattle.language.specs.declared.signature.Kind.{Kind}
+use Rattle.language.specs.declared.signature.Kind.TheVariants.{Boolean, Uint8, Uint16, Uint32}
+use Rattle.language.specs.declared.tree.BinaryOperator.{BinaryOperator}
+use Rattle.language.specs.declared.tree.BinaryOperator.TheVariants.{Either, Both, Equal, Unequal, Less, LessOrEqual, Greater, GreaterOrEqual, BitOr, BitXor, BitAnd, ShiftLeft, ShiftRight, Add, Subtract, Multiply, Divide, Remainder}
+use Rattle.language.specs.declared.tree.PrefixOperator.{PrefixOperator}
+use Rattle.language.specs.declared.tree.PrefixOperator.TheVariants.{Not, Complement, Negate}
+use Rattle.language.specs.ExprTyping.{operation_of, operation_kind}
+use Rattle.language.specs.State.{Word}
+
+-- the width of a number; a bool lies in the narrowest
+abbrev pub width_of : Kind → Width
+width_of Boolean = W8
+width_of Uint8 = W8
+width_of Uint16 = W16
+width_of Uint32 = W32
+
+abbrev pub truth_of : ℕ → Bool
+truth_of v = not (v == 0)
+
+-- the value between two operands, the left of this width
+abbrev pub operated : BinaryOperator → Width → ℕ → ℕ → ℕ
+operated Either w a b = word_of (truth_of a || truth_of b)
+operated Both w a b = word_of (truth_of a && truth_of b)
+operated Equal w a b = word_of (a == b)
+operated Unequal w a b = word_of (not (a == b))
+operated Less w a b = word_of (nat_lt a b)
+operated LessOrEqual w a b = word_of (nat_le a b)
+operated Greater w a b = word_of (nat_lt b a)
+operated GreaterOrEqual w a b = word_of (nat_le b a)
+operated BitOr w a b = bit_or a b
+operated BitXor w a b = bit_xor a b
+operated BitAnd w a b = bit_and a b
+operated ShiftLeft w a b = shifted_left w a b
+operated ShiftRight w a b = shifted_right w a b
+operated Add w a b = sum w a b
+operated Subtract w a b = difference w a b
+operated Multiply w a b = product w a b
+operated Divide w a b = quotient a b
+operated Remainder w a b = remainder a b
+
+-- a quotient and a remainder by 0 have no meaning
+abbrev pub divides : BinaryOperator → Bool
+divides Divide = true
+divides Remainder = true
+divides _ = false
+
+abbrev pub binary_word : BinaryOperator → Word → Word → Word
+binary_word operator a b = record {
+  kind = operation_kind (operation_of operator) a.kind;
+  value = operated operator (width_of a.kind) a.value b.value;
+}
+
+abbrev pub prefix_value : PrefixOperator → Width → ℕ → ℕ
+prefix_value Not w a = word_of (not (truth_of a))
+prefix_value Complement w a = complemented w a
+prefix_value Negate w a = negated w a
+
+abbrev pub prefix_word : PrefixOperator → Word → Word
+prefix_word operator a = record { kind = a.kind; value = prefix_value operator (width_of a.kind) a.value }
+
+abbrev pub rotated_word : ℕ → Word → Word
+rotated_word amount a = record { kind = a.kind; value = rotated_left (width_of a.kind) a.value amount }
+
+abbrev pub converted_word : Kind → Word → Word
+converted_word kind a = record { kind = kind; value = converted (width_of kind) a.value }
+
+abbrev pub selected_word : Word → Word → Word → Word
+selected_word condition accepted otherwise = if truth_of condition.value then accepted else otherwise

@@ -1,0 +1,38 @@
+-- The order in which rules are asked at one place.
+use Rattle.std.specs.Prelude.{ℕ}
+use Rattle.language.specs.declared.rule.Rule.{Rule}
+use Rattle.language.specs.declared.rule.Rule.TheVariants.{UnknownCharacter, BadNumber, UnexpectedToken, Nesting, TextTooLong, UndeclaredName, NameDeclaredTwice, ProcedureNotDeclaredEarlier, NotExactlyOneExport, WidthsDiffer, WrongKind, LiteralOutOfRange, ArgumentCount, ArrayShapeOrLabel, NotMutable, ReturnMismatch, ArrayPassedTwice, InitialiserCount, SecretToPublic, PublicAssignedUnderSecretControl, SecretIndex, SecretBound, SecretDivisionOperand, CallAssignsPublicUnderSecretControl, InlinedSize, DeclaredBytes, IndexOutOfRange, DivisorMayBeZero, TooMuchWork, OutOfMemory, NotCompiledYet}
+
+-- the rule's number in the order of their declaration
+abbrev pub rank_of : Rule → ℕ
+rank_of UnknownCharacter = 0
+rank_of BadNumber = 1
+rank_of UnexpectedToken = 2
+rank_of Nesting = 3
+rank_of TextTooLong = 4
+rank_of UndeclaredName = 5
+rank_of NameDeclaredTwice = 6
+rank_of ProcedureNotDeclaredEarlier = 7
+rank_of NotExactlyOneExport = 8
+rank_of WidthsDiffer = 9
+rank_of WrongKind = 10
+rank_of LiteralOutOfRange = 11
+rank_of ArgumentCount = 12
+rank_of ArrayShapeOrLabel = 13
+rank_of NotMutable = 14
+rank_of ReturnMismatch = 15
+rank_of ArrayPassedTwice = 16
+rank_of InitialiserCount = 17
+rank_of SecretToPublic = 18
+rank_of PublicAssignedUnderSecretControl = 19
+rank_of SecretIndex = 20
+rank_of SecretBound = 21
+rank_of SecretDivisionOperand = 22
+rank_of CallAssignsPublicUnderSecretControl = 23
+rank_of InlinedSize = 24
+rank_of DeclaredBytes = 25
+rank_of IndexOutOfRange = 26
+rank_of DivisorMayBeZero = 27
+rank_of TooMuchWork = 28
+rank_of OutOfMemory = 29
+rank_of NotCompiledYet = 30

@@ -1,0 +1,26 @@
+// The language: the shapes of parameters and arguments, its syntax tree, its rules with their refusals, its
+// types, what a program means and how large it is. Of these there are definitions (`specs/`), in which the
+// promises of all crates above are stated. It stands on the words and the places of `word`.
+#![tactic(auto)]
+
+mod laws;
+mod refusal;
+mod rule;
+mod signature;
+mod tree;
+mod typing;
+mod values;
+
+pub use laws::rows_are_blocks;
+pub use refusal::Refusal;
+pub use rule::Rule;
+pub use signature::{Form, Kind, Label, Param};
+pub use tree::{
+    ArrayDeclaration, Assignment, BinaryOperator, Call, Counter, Declaration, ElementAssignment,
+    Expr, Parameter, PrefixOperator, Procedure, Program, Return, RightSide, Statement,
+};
+pub use typing::{
+    ArrayType, Callee, Declared, Operation, ValueType, VariableType, Violation, WordType,
+};
+pub use values::{Arg, Args, Numbers, Outcome};
+pub use word::Place;
