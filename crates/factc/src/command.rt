@@ -11,6 +11,7 @@ use image::Image;
 use language::{Args, Param, Place, Refusal, Rule};
 use observing::Pairing;
 use rv_machine::NullRecorder;
+use source_eval::eval;
 use std::alloc::Global;
 use streams::{ReadFault, Sink, get_up_to, put_all};
 use syntax::TEXT_LIMIT;
@@ -22,6 +23,9 @@ const STANDARD_OUTPUT: &str = "-";
 /// a result, 16 from the frame to the count of code words, and 4 for each of 192,064 words. What
 /// stands after so many changes no answer but that there is more.
 const LONGEST_IMAGE: usize = 10 + 9 * 8_192 + 7 + 16 + 4 * 192_064;
+
+/// How many nodes `eval` evaluates at most.
+const EVALUATION_BUDGET: u64 = 1 << 32;
 
 const OUT_OF_MEMORY: &str = "refused: M1: memory\n";
 
@@ -101,6 +105,10 @@ fn perform<'a, F: Files, O: Sink>(
             print(out, "accepted\n")
         }
         Request::Build { file, image } => build_image(alloc, file, image, files),
+        Request::Eval { file, arguments } => {
+            let text = evaluate_text(alloc, file, arguments, files)?;
+            print(out, text.as_str())
+        }
         Request::Run { image, arguments } => {
             let text = run_image(alloc, image, arguments, files)?;
             print(out, text.as_str())
@@ -160,6 +168,21 @@ fn check_text<'a, F: Files>(alloc: Global, file: &'a str, files: &mut F) -> Resu
     let bytes = text_bytes(alloc, file, files)?;
     let _accepted = judge(alloc, text_of(file, bytes.as_slice())?)?;
     Ok(())
+}
+
+/// What an accepted text means on arguments, as lines.
+fn evaluate_text<'a, F: Files>(
+    alloc: Global,
+    file: &'a str,
+    arguments: &[&str],
+    files: &mut F,
+) -> Result<String, Fault<'a>> {
+    let bytes = text_bytes(alloc, file, files)?;
+    let accepted = judge(alloc, text_of(file, bytes.as_slice())?)?;
+    let params = accepted.params.as_slice();
+    let args = read_args(alloc, params, arguments)?;
+    let outcome = eval(alloc, &accepted.program, &args, EVALUATION_BUDGET)?;
+    Ok(outcome::text_of(alloc, params, &outcome)?)
 }
 
 /// What an image gives on arguments, as lines.

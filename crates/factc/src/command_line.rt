@@ -11,6 +11,10 @@ pub enum Request<'a> {
         file: &'a str,
         image: &'a str,
     },
+    Eval {
+        file: &'a str,
+        arguments: &'a [&'a str],
+    },
     Run {
         image: &'a str,
         arguments: &'a [&'a str],
@@ -34,6 +38,10 @@ pub fn parse<'a>(alloc: Global, words: &'a [&'a str]) -> Result<Request<'a>, Err
             file: text_of(build, "FILE"),
             image: text_of(build, "IMAGE"),
         }),
+        Some(("eval", eval)) => Ok(Request::Eval {
+            file: text_of(eval, "FILE"),
+            arguments: after_path(words),
+        }),
         Some(("run", run)) => Ok(Request::Run {
             image: text_of(run, "IMAGE"),
             arguments: after_path(words),
@@ -51,7 +59,7 @@ fn text_of<'a>(matches: &ArgMatches<'a>, id: &str) -> &'a str {
     matches.get_str(id).unwrap_or("")
 }
 
-/// The words after a command and its IMAGE. Each of them is an argument, also `--`, which
+/// The words after a command and its FILE or IMAGE. Each of them is an argument, also `--`, which
 /// before the path says that the path may begin with a hyphen.
 fn after_path<'a>(words: &'a [&'a str]) -> &'a [&'a str] {
     match words {
@@ -71,6 +79,7 @@ fn factc<'a>(alloc: Global) -> Result<Command<'a>, AllocError> {
         .subcommand_required(true)
         .subcommand(check_command(alloc)?)?
         .subcommand(build_command(alloc)?)?
+        .subcommand(eval_command(alloc)?)?
         .subcommand(run_command(alloc)?)?
         .subcommand(pair_command(alloc)?)
 }
@@ -89,6 +98,17 @@ fn build_command<'a>(alloc: Global) -> Result<Command<'a>, AllocError> {
             alloc,
             "IMAGE",
             "Where to write the image; the text of a refused FILE leaves it as it was",
+        ))
+}
+
+fn eval_command<'a>(alloc: Global) -> Result<Command<'a>, AllocError> {
+    Command::new(alloc, "eval")
+        .about("Works out what an accepted text means on arguments, without an image")
+        .arg(path(alloc, "FILE", "The text"))?
+        .arg(arguments(
+            alloc,
+            "One for each parameter: a number (decimal, or hexadecimal after 0x), for a bool 0 or \
+             1, for an array its numbers joined by `,`",
         ))
 }
 

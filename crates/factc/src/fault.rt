@@ -1,6 +1,7 @@
 use hepurita::RunFault;
 use image::ImageFault;
 use language::{Refusal, Rule};
+use source_eval::EvalFault;
 use std::alloc::{AllocError, AllocFailed};
 use std::fmt;
 use thiserror::Error;

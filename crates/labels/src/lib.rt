@@ -1,5 +1,5 @@
 // Names, types and labels: accepts exactly the well-typed programs, and otherwise names the first
-// violation. It stands on the definitions of typing in `syntax`.
+// violation. It stands on the definitions of typing in `language`.
 #![tactic(auto)]
 
 mod arguments;

@@ -1,4 +1,8 @@
 pub mod Rows
+pub mod VariableLemmas
+pub mod RunLemmas
+pub mod ProcedureLemmas
+pub mod LoopLemmas
 pub mod RunEnds
 pub mod KnownProcedures
 pub mod WorkedOut
@@ -8,3 +12,5 @@ pub mod EndsHad
 pub mod TypedExpressions
 pub mod NamedCalls
 pub mod OneEnd
+pub mod RowLemmas
+pub mod StatementLemmas

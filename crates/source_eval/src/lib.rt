@@ -1,7 +1,20 @@
-// The source's own meaning, worked out: what the rules of the meaning give and what is worked out by a
-// function are one and the same. It stands on the trees and definitions of `syntax`.
+// The source's own meaning, run: straight from the tree, with real branches, loops and calls.
+// It promises the outcome or the fault that the definitions of meaning in `language` give, and says exactly when a
+// budget of nodes and open bodies is passed. It stands on the words of `word`, the trees and definitions of
+// `language`, the judgement of arguments in `arguments`, and `indexmap`.
 #![tactic(auto)]
 
+mod calls;
+mod evaluation;
+mod expressions;
+mod fault;
 mod laws;
+mod operators;
+mod spending;
+mod statements;
+mod values;
+mod variables;
 
+pub use evaluation::eval;
+pub use fault::EvalFault;
 pub use laws::{meaning_can_be_had, meaning_is_worked_out};

@@ -8,6 +8,8 @@ mod arguing;
 #[cfg(test)]
 mod covering;
 #[cfg(test)]
+mod evaluating;
+#[cfg(test)]
 mod images;
 #[cfg(test)]
 mod inlining;

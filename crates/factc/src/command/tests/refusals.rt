@@ -85,6 +85,7 @@ fn refuses_by_the_first_rule(rt: HostRuntime) {
         for words in [
             ["factc", "build", "in", "image"].as_slice(),
             ["factc", "check", "in"].as_slice(),
+            ["factc", "eval", "in"].as_slice(),
         ] {
             expect(&rt, text.as_bytes(), words, (1, "", line));
         }

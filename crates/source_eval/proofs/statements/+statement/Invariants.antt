@@ -1,0 +1,51 @@
+use Rattle.std.proofs.Common.{◌+◌, ◌-◌, ◌*◌, ◌≤◌, ℕ, drop}
+use Rattle.language.specs.Evaluation.{Run, loop_run, run_all, turns}
+use Rattle.language.specs.Meaning.{counting}
+use Rattle.language.specs.State.{State}
+use Rattle.language.specs.Tree.{block_tree, expr_tree}
+use Rattle.source_eval.specs.Metering.{known_of}
+use Rattle.source_eval.specs.Views.{held}
+use Rattle.source_eval.proofs.RunLemmas.{Leads}
+use Rattle.source_eval.proofs.statements.+statement.Given as goal
+
+-- each way from a statement to itself counts a node
+abbrev pub decreases-block : goal.decreases-block
+decreases-block l = 5 * l.left.now + 3
+
+abbrev pub decreases-body : goal.decreases-body
+decreases-body l = 5 * l.left.now + 4
+
+abbrev pub decreases-branch : goal.decreases-branch
+decreases-branch l = 5 * l.left.now + 0
+
+abbrev pub decreases-call : goal.decreases-call
+decreases-call l = 5 * l.left.now + 0
+
+abbrev pub decreases-repeat : goal.decreases-repeat
+decreases-repeat l = 5 * l.left.now + 0
+
+abbrev pub decreases-right : goal.decreases-right
+decreases-right l = 5 * l.left.now + 1
+
+abbrev pub decreases-set : goal.decreases-set
+decreases-set l = 5 * l.left.now + 0
+
+abbrev pub decreases-set_element : goal.decreases-set_element
+decreases-set_element l = 5 * l.left.now + 0
+
+abbrev pub decreases-statement : goal.decreases-statement
+decreases-statement l = 5 * l.left.now + 2
+
+-- the statements left lead to the end of all
+abbrev pub invariant-block-loop-one : goal.invariant-block-loop-one
+invariant-block-loop-one l = record {
+  leads : Leads (run_all (known_of l.earlier) (held l.fn.variables) (block_tree l.fn.block)) l.fn.left l.room (run_all (known_of l.earlier) (held l.variables) (block_tree (drop l.one-index l.block))) l.left (λ s. s);
+  spends : l.left ≤ l.fn.left;
+}
+
+-- the turns left lead to the end of all
+abbrev pub invariant-repeat-loop-number : goal.invariant-repeat-loop-number
+invariant-repeat-loop-number l = let turn : ℕ → State → Run State = λ i t. run_all (known_of l.earlier) (counting t l.counter.name.now i) (block_tree l.body) in record {
+  leads : Leads (loop_run (held l.fn.variables) (expr_tree l.fn.low) (expr_tree l.fn.high) turn) l.fn.left l.room (turns (l.number-end - l.number) l.number turn (held l.variables)) l.left (λ s. s);
+  spends : l.left ≤ l.fn.left;
+}

@@ -1,0 +1,41 @@
+-- What `eval` answers.
+use Rattle.std.specs.Prelude.{ℕ, ◌||◌, nat_lt, List, [], map, Option, Some, None, Result, Ok, Err, if◌then◌else◌}
+use Rattle.arguments.specs.Faults.{fault_of}
+use Rattle.arguments.specs.declared.fault.ArgumentFault.{ArgumentFault}
+use Rattle.language.specs.declared.signature.Param.{Param}
+use Rattle.language.specs.declared.values.Arg.{Arg}
+use Rattle.language.specs.Evaluation.{Run, program_run}
+use Rattle.language.specs.Meaning.{Ending, gives, faults, exported}
+use Rattle.language.specs.Results.{Results}
+use Rattle.language.specs.Tree.{ParameterTree, ProcedureTree, ProgramTree}
+use Rattle.source_eval.specs.declared.fault.EvalFault.{EvalFault}
+use Rattle.source_eval.specs.declared.fault.EvalFault.TheVariants.{Argument, NoMeaning, Budget}
+
+-- a parameter without its name
+abbrev pub param_of : ParameterTree → Param
+param_of p = record { kind = p.kind; label = p.label; form = p.form; length = p.length }
+
+-- the parameters of the export
+abbrev pub found_params : Option (List ProcedureTree × ProcedureTree) → List Param
+found_params None = []
+found_params (Some found) = map param_of found.1.parameters
+
+abbrev pub params_of : ProgramTree → List Param
+params_of program = found_params (exported [] program.procedures)
+
+-- an outcome, or the fault that a run meets
+abbrev pub ending_answer : Ending Results → Result Results EvalFault
+ending_answer (gives results) = Ok results
+ending_answer (faults place) = Err (NoMeaning place)
+
+-- more than 64 bodies are never open
+abbrev pub run_answer : Run Results → ℕ → Result Results EvalFault
+run_answer run budget = if nat_lt budget run.nodes || nat_lt 64 run.bodies then Err Budget else ending_answer run.ends
+
+-- the arguments are judged before all else
+abbrev pub judged_answer : Option ArgumentFault → Run Results → ℕ → Result Results EvalFault
+judged_answer (Some fault) run budget = Err (Argument fault)
+judged_answer None run budget = run_answer run budget
+
+abbrev pub answer : ProgramTree → List Arg → ℕ → Result Results EvalFault
+answer program args budget = judged_answer (fault_of (params_of program) args) (program_run program args) budget

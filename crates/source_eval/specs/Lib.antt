@@ -1,0 +1,4 @@
+pub mod FaultText
+pub mod Views
+pub mod Metering
+pub mod Answer

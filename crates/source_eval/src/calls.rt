@@ -1,0 +1,103 @@
+// What a call hands to a procedure's body, and takes back.
+
+ghost use Rattle.std.specs.Prelude.{◌≡◌, map, IfOk, IfErr, OnOk};
+ghost use Rattle.std.specs.Option.{option_map};
+ghost use Rattle.language.specs.Meaning.{array_named, begun, copied_out, gone_back};
+ghost use Rattle.language.specs.Tree.{expr_tree, parameter_tree};
+ghost use Rattle.source_eval.specs.Views.{held, value_of, word_of};
+ghost use Rattle.source_eval.specs.declared.fault.EvalFault.TheVariants.{Memory};
+
+use crate::EvalFault;
+use crate::values::{Value, Word};
+use crate::variables::Variables;
+use language::{Expr, Form, Parameter};
+use std::alloc::Global;
+
+/// A copy of the array that an argument names.
+fn array_named(variables: &Variables<'_>, argument: &Expr<'_>) -> Result<Option<Value>, EvalFault>
+    ensures ok { IfOk result (λ value. option_map value_of value ≡ array_named (held variables.now) (expr_tree argument.now)) }
+    ensures memory { IfErr result (λ fault. fault ≡ Memory) }
+{
+    match argument {
+        Expr::Name(_, name) => variables.copy(name),
+        Expr::Number(_, _, _)
+        | Expr::Truth(_, _)
+        | Expr::Prefix(_, _, _)
+        | Expr::Binary(_, _, _, _)
+        | Expr::Rotate(_, _, _)
+        | Expr::Convert(_, _, _)
+        | Expr::Select(_, _, _, _)
+        | Expr::Element(_, _, _, _) => Ok(None),
+    }
+}
+
+/// What the names of a called body hold at first: the words that were evaluated, and copies of arrays.
+pub fn begun<'a>(
+    alloc: Global,
+    caller: &Variables<'a>,
+    parameters: &[Parameter<'a>],
+    arguments: &[Expr<'a>],
+    words: &[Word],
+) -> Result<Variables<'a>, EvalFault>
+    ensures ok { IfOk result (λ inner. held inner ≡ begun (held caller.now) (map parameter_tree parameters.now) (map expr_tree arguments.now) (map word_of words.now)) }
+    ensures memory { IfErr result (λ fault. fault ≡ Memory) }
+{
+    let [parameter, parameters @ ..] = parameters else {
+        return Ok(Variables::new(alloc));
+    };
+    let [argument, arguments @ ..] = arguments else {
+        return Ok(Variables::new(alloc));
+    };
+    match (parameter.form, words) {
+        (Form::SingleWord, []) => begun(alloc, caller, parameters, arguments, words),
+        (Form::SingleWord, [word, words @ ..]) => {
+            let mut inner = begun(alloc, caller, parameters, arguments, words)?;
+            inner.set(parameter.name, Value::Single(*word))?;
+            Ok(inner)
+        }
+        (Form::FixedArray | Form::MutableArray, _) => {
+            let mut inner = begun(alloc, caller, parameters, arguments, words)?;
+            if let Some(value) = array_named(caller, argument)? {
+                inner.set(parameter.name, value)?;
+            }
+            Ok(inner)
+        }
+    }
+}
+
+/// Copies a `mut` array back to the name that was given.
+fn give_back<'a>(
+    caller: &mut Variables<'a>,
+    inner: &Variables<'a>,
+    parameter: &Parameter<'a>,
+    argument: &Expr<'a>,
+) -> Result<(), EvalFault>
+    ensures ok { OnOk result (held caller.new ≡ gone_back parameter.now.form (held caller.old) (held inner.now) (expr_tree argument.now) parameter.now.name.now) }
+    ensures memory { IfErr result (λ fault. fault ≡ Memory) }
+{
+    if let (Form::MutableArray, Expr::Name(_, name)) = (parameter.form, argument) {
+        if let Some(value) = inner.copy(parameter.name)? {
+            caller.set(name, value)?;
+        }
+    }
+    Ok(())
+}
+
+/// Copies the `mut` arrays of a body that has ended back to the names that were given.
+pub fn copy_out<'a>(
+    caller: &mut Variables<'a>,
+    inner: &Variables<'a>,
+    parameters: &[Parameter<'a>],
+    arguments: &[Expr<'a>],
+) -> Result<(), EvalFault>
+    ensures ok { OnOk result (held caller.new ≡ copied_out (held caller.old) (held inner.now) (map parameter_tree parameters.now) (map expr_tree arguments.now)) }
+    ensures memory { IfErr result (λ fault. fault ≡ Memory) }
+{
+    for (index, parameter) in parameters.iter().enumerate() {
+        let Some(argument) = arguments.get(index) else {
+            return Ok(());
+        };
+        give_back(caller, inner, parameter, argument)?;
+    }
+    Ok(())
+}

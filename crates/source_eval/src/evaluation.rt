@@ -1,0 +1,159 @@
+// The program.
+
+ghost use Rattle.std.specs.Prelude.{◌≡◌, ◌≢◌, [], Err, map, IfOk, IfErr};
+ghost use Rattle.std.specs.Option.{option_map};
+ghost use Rattle.language.specs.Evaluation.{export_run};
+ghost use Rattle.language.specs.Meaning.{argument_value, exported, final_arrays, holding};
+ghost use Rattle.language.specs.Tree.{parameter_tree, procedure_tree, program_tree};
+ghost use Rattle.source_eval.specs.Answer.{answer, param_of};
+ghost use Rattle.source_eval.specs.Metering.{Ended, Stopped};
+ghost use Rattle.source_eval.specs.Views.{held, value_of, word_of};
+ghost use Rattle.source_eval.specs.declared.fault.EvalFault.TheVariants.{Memory};
+
+use crate::EvalFault;
+use crate::statements::body;
+use crate::values::{Value, Word};
+use crate::variables::Variables;
+use arguments::first_fault;
+use language::{Arg, Args, Form, Kind, Numbers, Outcome, Param, Parameter, Procedure, Program};
+use std::alloc::Global;
+
+/// The first exported procedure, and those before it.
+fn exported<'p, 'a>(
+    procedures: &'p [Procedure<'a>],
+) -> Option<(&'p [Procedure<'a>], &'p Procedure<'a>)>
+    ensures { option_map (λ found. (map procedure_tree found.0.now, procedure_tree found.1.now)) result ≡ exported [] (map procedure_tree procedures.now) }
+{
+    for (index, procedure) in procedures.iter().enumerate() {
+        if procedure.export.is_some() {
+            return Some((&procedures[..index], procedure));
+        }
+    }
+    None
+}
+
+/// Parameters without their names.
+fn params(alloc: Global, parameters: &[Parameter<'_>]) -> Result<Vec<Param>, EvalFault>
+    ensures ok { IfOk result (λ params. params.items ≡ map param_of (map parameter_tree parameters.now)) }
+    ensures memory { IfErr result (λ fault. fault ≡ Memory) }
+{
+    let mut params = Vec::new(alloc);
+    for parameter in parameters {
+        params.push(Param {
+            kind: parameter.kind,
+            label: parameter.label,
+            form: parameter.form,
+            length: parameter.length,
+        })?;
+    }
+    Ok(params)
+}
+
+/// What a parameter of this kind holds.
+fn argument_value(alloc: Global, kind: Kind, arg: &Arg) -> Result<Value, EvalFault>
+    ensures ok { IfOk result (λ value. value_of value ≡ argument_value kind arg.now) }
+    ensures memory { IfErr result (λ fault. fault ≡ Memory) }
+{
+    match arg {
+        Arg::Word(value) => Ok(Value::Single(Word {
+            kind,
+            value: *value,
+        })),
+        Arg::Array(words) => Ok(Value::Array(kind, words.as_slice().to_vec(alloc)?)),
+    }
+}
+
+/// What the names of the export hold at first.
+fn holding<'a>(
+    alloc: Global,
+    parameters: &[Parameter<'a>],
+    args: &[Arg],
+) -> Result<Variables<'a>, EvalFault>
+    ensures ok { IfOk result (λ variables. held variables ≡ holding (map parameter_tree parameters.now) args.now) }
+    ensures memory { IfErr result (λ fault. fault ≡ Memory) }
+{
+    let [parameter, parameters @ ..] = parameters else {
+        return Ok(Variables::new(alloc));
+    };
+    let [arg, args @ ..] = args else {
+        return Ok(Variables::new(alloc));
+    };
+    let mut variables = holding(alloc, parameters, args)?;
+    let value = argument_value(alloc, parameter.kind, arg)?;
+    variables.set(parameter.name, value)?;
+    Ok(variables)
+}
+
+/// The words of each `mut` array, in parameter order.
+fn final_arrays(
+    alloc: Global,
+    variables: &Variables<'_>,
+    parameters: &[Parameter<'_>],
+) -> Result<Vec<Numbers>, EvalFault>
+    ensures ok { IfOk result (λ arrays. arrays.items ≡ final_arrays (held variables.now) (map parameter_tree parameters.now)) }
+    ensures memory { IfErr result (λ fault. fault ≡ Memory) }
+{
+    let mut arrays = Vec::new(alloc);
+    for parameter in parameters {
+        if parameter.form == Form::MutableArray {
+            arrays.push(Numbers::new(variables.words(alloc, parameter.name)?))?;
+        }
+    }
+    Ok(arrays)
+}
+
+/// The number of a returned word.
+fn number(word: Option<Word>) -> Option<u32>
+    ensures { result ≡ option_map (λ w. w.value) (option_map word_of word) }
+{
+    match word {
+        Some(word) => Some(word.value),
+        None => None,
+    }
+}
+
+/// How many bodies may be open, the export's counted.
+const MOST_BODIES: u32 = 64;
+
+/// Runs an export after the earlier procedures.
+fn run_export<'a>(
+    alloc: Global,
+    left: &mut u64,
+    earlier: &[Procedure<'a>],
+    export: &Procedure<'a>,
+    args: &[Arg],
+) -> Result<Outcome, EvalFault>
+    ensures ok { IfOk result (λ outcome. Ended (export_run (map procedure_tree earlier.now) (procedure_tree export.now) args.now) left.old 64 outcome left.new) }
+    ensures err { IfErr result (λ fault. Stopped (export_run (map procedure_tree earlier.now) (procedure_tree export.now) args.now) left.old 64 fault) }
+{
+    let mut variables = holding(alloc, &export.parameters, args)?;
+    let room = MOST_BODIES - 1;
+    let returned = body(alloc, left, room, earlier, export, &mut variables)?;
+    let arrays = final_arrays(alloc, &variables, &export.parameters)?;
+    Ok(Outcome::new(number(returned), arrays))
+}
+
+/// What a program gives on arguments: the source's own meaning, with real branches. Else the first fault of the
+/// arguments; else that more nodes are evaluated than the budget, or more than 64 bodies open, before the run ends
+/// or meets its fault; else the fault that it meets.
+pub fn eval(
+    alloc: Global,
+    program: &Program<'_>,
+    args: &Args,
+    budget: u64,
+) -> Result<Outcome, EvalFault>
+    ensures { result ≢ Err Memory → result ≡ answer (program_tree program.now) args.now budget }
+{
+    let Some((earlier, export)) = exported(&program.procedures) else {
+        return match first_fault(&[], args) {
+            Some(fault) => Err(EvalFault::Argument(fault)),
+            None => Ok(Outcome::new(None, Vec::new(alloc))),
+        };
+    };
+    let params = params(alloc, &export.parameters)?;
+    if let Some(fault) = first_fault(&params, args) {
+        return Err(EvalFault::Argument(fault));
+    }
+    let mut left = budget;
+    run_export(alloc, &mut left, earlier, export, args.as_slice())
+}

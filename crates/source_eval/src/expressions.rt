@@ -1,0 +1,107 @@
+// The values of expressions.
+
+ghost use Rattle.std.specs.Prelude.{map, IfOk, IfErr};
+ghost use Rattle.language.specs.Evaluation.{value, values, passed};
+ghost use Rattle.language.specs.Meaning.{word_arguments};
+ghost use Rattle.language.specs.Tree.{expr_tree, parameter_tree};
+ghost use Rattle.source_eval.specs.Metering.{Ended, Stopped};
+ghost use Rattle.source_eval.specs.Views.{held, word_of};
+
+use crate::EvalFault;
+use crate::operators::{binary, convert, prefix, rotate, select};
+use crate::spending::spend;
+use crate::values::Word;
+use crate::variables::Variables;
+use language::{Expr, Form, Kind, Parameter};
+use std::alloc::Global;
+
+/// The value of an expression.
+#[tactic(auto, unfolding(language::specs::Evaluation::tick, language::specs::Evaluation::andthen))]
+pub fn value(left: &mut u64, variables: &Variables<'_>, expr: &Expr<'_>) -> Result<Word, EvalFault>
+    ensures ok { IfOk result (λ w. Ended (value (held variables.now) (expr_tree expr.now)) left.old 0 (word_of w) left.new) }
+    ensures err { IfErr result (λ fault. Stopped (value (held variables.now) (expr_tree expr.now)) left.old 0 fault) }
+{
+    spend(left)?;
+    match expr {
+        Expr::Number(_, number, kind) => Ok(Word {
+            kind: *kind,
+            value: *number,
+        }),
+        Expr::Truth(_, truth) => Ok(Word {
+            kind: Kind::Boolean,
+            value: word::from_bool(*truth),
+        }),
+        Expr::Name(_, name) => Ok(variables.word(name)),
+        Expr::Prefix(_, operator, operand) => {
+            let operand = value(left, variables, operand)?;
+            Ok(prefix(*operator, operand))
+        }
+        Expr::Binary(place, operator, one, other) => {
+            let one = value(left, variables, one)?;
+            let other = value(left, variables, other)?;
+            binary(*place, *operator, one, other)
+        }
+        Expr::Rotate(_, operand, amount) => {
+            let operand = value(left, variables, operand)?;
+            Ok(rotate(operand, *amount))
+        }
+        Expr::Convert(_, kind, operand) => {
+            let operand = value(left, variables, operand)?;
+            Ok(convert(*kind, operand))
+        }
+        Expr::Select(_, condition, accepted, otherwise) => {
+            let condition = value(left, variables, condition)?;
+            let accepted = value(left, variables, accepted)?;
+            let otherwise = value(left, variables, otherwise)?;
+            Ok(select(condition, accepted, otherwise))
+        }
+        Expr::Element(place, _, name, index) => {
+            let index = value(left, variables, index)?;
+            variables.element(*place, name, index.value)
+        }
+    }
+}
+
+/// The values of expressions, from left to right.
+pub fn values(
+    alloc: Global,
+    left: &mut u64,
+    variables: &Variables<'_>,
+    exprs: &[Expr<'_>],
+) -> Result<Vec<Word>, EvalFault>
+    ensures ok { IfOk result (λ words. Ended (values (held variables.now) (map expr_tree exprs.now)) left.old 0 (map word_of words.items) left.new) }
+    ensures err { IfErr result (λ fault. Stopped (values (held variables.now) (map expr_tree exprs.now)) left.old 0 fault) }
+{
+    let mut words = Vec::new(alloc);
+    for expr in exprs {
+        words.push(value(left, variables, expr)?)?;
+    }
+    Ok(words)
+}
+
+/// The values of a call's word arguments, from left to right.
+pub fn passed(
+    alloc: Global,
+    left: &mut u64,
+    variables: &Variables<'_>,
+    parameters: &[Parameter<'_>],
+    arguments: &[Expr<'_>],
+) -> Result<Vec<Word>, EvalFault>
+    ensures ok { IfOk result (λ words. Ended (passed (held variables.now) (word_arguments (map parameter_tree parameters.now) (map expr_tree arguments.now))) left.old 0 (map word_of words.items) left.new) }
+    ensures err { IfErr result (λ fault. Stopped (passed (held variables.now) (word_arguments (map parameter_tree parameters.now) (map expr_tree arguments.now))) left.old 0 fault) }
+{
+    let mut words = Vec::new(alloc);
+    for (index, parameter) in parameters.iter().enumerate() {
+        if arguments.len() <= index {
+            return Ok(words);
+        }
+        let argument = &arguments[index];
+        match parameter.form {
+            Form::FixedArray | Form::MutableArray => continue,
+            Form::SingleWord => {}
+        }
+        spend(left)?;
+        words.push(value(left, variables, argument)?)?;
+    }
+    Ok(words)
+}
