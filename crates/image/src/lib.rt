@@ -1,7 +1,7 @@
 // Images: a program for the machine as bytes.
 // Bytes and fields determine each other: `write` gives the one spelling of an image's fields, and
 // `read` gives the fields of each spelling, and of other bytes the first fault from the left.
-// It stands on the parameters' shapes of `syntax`, and writes and reads numbers by `byteorder`.
+// It stands on the parameters' shapes of `language`, and writes and reads numbers by `byteorder`.
 #![tactic(auto)]
 
 mod fault;
