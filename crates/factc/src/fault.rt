@@ -23,6 +23,7 @@ pub enum Fault<'a> {
     Text(Refusal),
     Image(ImageFault),
     Run(RunFault),
+    Eval(EvalFault),
     File(FileFault<'a>),
 }
 
@@ -45,6 +46,12 @@ impl Fault<'_> {
             → self.now ≡ Fault.Run (RunFault.Argument rule index) → result ≡ 1 }
         ensures run_memory { self.now ≡ Fault.Run RunFault.Memory → result ≡ 4 }
         ensures stopped { (stop : _) → self.now ≡ Fault.Run (RunFault.Stopped stop) → result ≡ 5 }
+        ensures eval_argument { (fault : _)
+            → self.now ≡ Fault.Eval (EvalFault.Argument fault) → result ≡ 1 }
+        ensures eval_no_meaning { (place : _)
+            → self.now ≡ Fault.Eval (EvalFault.NoMeaning place) → result ≡ 1 }
+        ensures eval_budget { self.now ≡ Fault.Eval EvalFault.Budget → result ≡ 1 }
+        ensures eval_memory { self.now ≡ Fault.Eval EvalFault.Memory → result ≡ 4 }
         ensures file { (fault : _) → self.now ≡ Fault.File fault → result ≡ 3 }
     {
         match self {
@@ -60,6 +67,10 @@ impl Fault<'_> {
             Fault::Run(RunFault::Argument { .. }) => 1,
             Fault::Run(RunFault::Memory) => 4,
             Fault::Run(RunFault::Stopped(_)) => 5,
+            Fault::Eval(EvalFault::Memory) => 4,
+            Fault::Eval(EvalFault::Argument(_)) => 1,
+            Fault::Eval(EvalFault::NoMeaning(_)) => 1,
+            Fault::Eval(EvalFault::Budget) => 1,
             Fault::File(_) => 3,
         }
     }
@@ -73,6 +84,7 @@ impl fmt::Display for Fault<'_> {
             Fault::Image(fault) => write!(f, "refused: {fault}"),
             Fault::Run(RunFault::Stopped(stop)) => write!(f, "stopped: {stop:?}"),
             Fault::Run(fault) => write!(f, "refused: {fault}"),
+            Fault::Eval(fault) => write!(f, "refused: {fault}"),
             Fault::File(fault) => write!(f, "file: {fault}"),
         }
     }
@@ -93,6 +105,12 @@ impl From<ImageFault> for Fault<'_> {
 impl From<RunFault> for Fault<'_> {
     fn from(fault: RunFault) -> Self {
         Fault::Run(fault)
+    }
+}
+
+impl From<EvalFault> for Fault<'_> {
+    fn from(fault: EvalFault) -> Self {
+        Fault::Eval(fault)
     }
 }
 

@@ -13,8 +13,11 @@ use std::alloc::{AllocError, Global};
 fn array_name<'a>(given: ValueType, argument: &Expr<'a>) -> Option<&'a str>
     ensures { option_map (λ name. name.now) result ≡ array_name given (expr_tree argument.now) }
 {
-    match (given, argument) {
-        (ValueType::Array(_), Expr::Name(_, text)) => Some(text),
+    let ValueType::Array(_) = given else {
+        return None;
+    };
+    match argument {
+        Expr::Name(_, text) => Some(text),
         _ => None,
     }
 }

@@ -2,7 +2,7 @@ ghost use Rattle.std.specs.Prelude.{◌≡◌, map};
 ghost use Rattle.language.specs.Tree.{block_tree, call_tree, parameter_tree, procedure_tree, right_tree, statement_tree};
 ghost use Rattle.language.specs.Typing.{assigns_public, block_assigns, calls_one, is_public_mutable, parameters_assign, right_assigns, statement_assigns};
 
-use crate::kinds::{callee, is_mutable, is_secret};
+use crate::kinds::{callee, is_mutable};
 use language::{Call, Declared, Label, Parameter, Procedure, RightSide, Statement};
 use names::Names;
 
@@ -10,17 +10,18 @@ use names::Names;
 fn is_public_mutable(label: Label, mutable: bool) -> bool
     ensures { result ≡ is_public_mutable label mutable }
 {
-    mutable && !is_secret(label)
+    match label {
+        Label::Public => mutable,
+        Label::Secret => false,
+    }
 }
 
 /// Whether the call may assign to something public.
 fn call_assigns(names: &Names<'_, Declared>, call: &Call<'_>) -> bool
     ensures { result ≡ calls_one names.now (call_tree call.now) }
 {
-    match callee(names.find(call.name)) {
-        Some(callee) => callee.assigns_public,
-        None => false,
-    }
+    let called = callee(names.find(call.name));
+    called.is_some_and(|it| it.assigns_public)
 }
 
 /// Whether a right side may assign to something public.

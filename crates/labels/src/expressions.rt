@@ -23,9 +23,13 @@ pub fn name(
     ensures typed { result ≡ name_type names.now text.now }
     ensures first { first.new.seen ≡ fold sooner first.old.seen (at place (name_rules names.now text.now)) }
 {
-    let variable = variable(names.find(text));
-    first.note_if(variable.is_none(), place, Rule::UndeclaredName);
-    Some(variable?.value)
+    match variable(names.find(text)) {
+        Some(variable) => Some(variable.value),
+        None => {
+            first.note_if(true, place, Rule::UndeclaredName);
+            None
+        }
+    }
 }
 
 /// Notes what an expression's nodes violate, and gives its type where it is well typed.

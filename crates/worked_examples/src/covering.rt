@@ -9,7 +9,10 @@ use syntax::parse;
 /// The line and column of the earliest node of a text that is not compiled.
 fn earliest(alloc: Global, text: &str) -> Result<Option<(u32, u32)>, Refusal> {
     let program = parse(alloc, text)?;
-    Ok(first_uncompiled(&program).map(|place| (place.line, place.column)))
+    match first_uncompiled(&program) {
+        Some(place) => Ok(Some((place.line, place.column))),
+        None => Ok(None),
+    }
 }
 
 #[test]
