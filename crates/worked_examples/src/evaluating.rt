@@ -1,5 +1,6 @@
 // What texts mean on arguments, within budgets.
 
+use crate::parsing::repeated;
 use language::{Form, Kind, Label, Param};
 use source_eval::{EvalFault, eval};
 use std::alloc::Global;
@@ -282,6 +283,39 @@ fn runs_ten_million_nodes(rt: HostRuntime) -> Result<(), Fail> {
     assert!(rt; enough.as_str() == "return 1999000000", "{enough}");
     let short = told(rt.alloc(), LONG, &[], &[], 10004006)?;
     assert!(rt; short.as_str() == "E2: budget", "{short}");
+    Ok(())
+}
+
+const LARGE_ARRAY: &str = "export secret uint32 f(secret uint32 x) {\n\
+    secret mut uint32[3000] a;\n\
+    secret mut uint32 y = x;\n\
+    a[2999] = y + 1;\n\
+    y = a[2999] + 1;\n\
+    return y;\n\
+}";
+
+const THREE_TURNS: &str = "export secret uint32 f(secret uint32 x) {\n\
+    secret mut uint32 y = x;\n\
+    for (uint32 i from 0 to 3) {";
+
+#[test]
+fn evaluates_large_programs(rt: HostRuntime) -> Result<(), Fail> {
+    let params = [word(Kind::Uint32)];
+    let array = told(rt.alloc(), LARGE_ARRAY, &params, &["5"], 1000)?;
+    assert!(rt; array.as_str() == "return 7", "{array}");
+    let text = repeated(
+        rt.alloc(),
+        THREE_TURNS,
+        " y = y + 1;",
+        700,
+        " }\nreturn y;\n}",
+    )?;
+    let turns = told(rt.alloc(), &text, &params, &["0"], 10_000)?;
+    assert!(rt; turns.as_str() == "return 2100", "{turns}");
+    let front = "export public uint32 f() { return ";
+    let text = repeated(rt.alloc(), front, "1 + ", 63, "1; }")?;
+    let sum = told(rt.alloc(), &text, &[], &[], 1000)?;
+    assert!(rt; sum.as_str() == "return 64", "{sum}");
     Ok(())
 }
 
