@@ -8,7 +8,7 @@ use Rattle.language.specs.declared.rule.Rule.TheVariants.{InlinedSize, DeclaredB
 use Rattle.language.specs.declared.typing.Violation.{Violation}
 use Rattle.language.specs.Meaning.{exported}
 use Rattle.syntax.specs.Reading.{accepted, refused, OneAnswer}
-use Rattle.language.specs.Size.{nodes_of, declared_bytes, most_nodes, most_declared_bytes, size_violations}
+use Rattle.language.specs.Size.{nodes_of, declared_bytes, MOST_NODES, MOST_DECLARED_BYTES, size_violations}
 use Rattle.language.specs.Tree.{ProcedureTree, ProgramTree}
 use Rattle.language.specs.Types.{when}
 use Rattle.hepurita.specs.Built.{Judges, JudgesProgram, accepts, refuses, not_compiled_yet, ill_typed, too_large, fine, unreadable, readable}
@@ -58,15 +58,15 @@ within : (most n : ℕ) → nat_lt most n ≡ false → n ≤ most
 within most n h = grind (arith, nat_tests)
 
 -- what passes no limit on size
-pub sizes : (p : ProcedureTree) → length (size_violations p) ≡ 0 → (nodes_of p ≤ most_nodes) × (declared_bytes p ≤ most_declared_bytes)
+pub sizes : (p : ProcedureTree) → length (size_violations p) ≡ 0 → (nodes_of p ≤ MOST_NODES) × (declared_bytes p ≤ MOST_DECLARED_BYTES)
 sizes p small =
-    let a = when (nat_lt most_nodes (nodes_of p)) InlinedSize in
-    let b = when (nat_lt most_declared_bytes (declared_bytes p)) DeclaredBytes in
+    let a = when (nat_lt MOST_NODES (nodes_of p)) InlinedSize in
+    let b = when (nat_lt MOST_DECLARED_BYTES (declared_bytes p)) DeclaredBytes in
     let m = length-map {B = Violation} (a ++ b) (λ rule. record { place = p.place; rule = rule }) in
     let n = length-append a b in (
-      within most_nodes (nodes_of p) (not_passed _ InlinedSize (omega (arith, small, m, n))),
-      within most_declared_bytes (declared_bytes p) (not_passed _ DeclaredBytes (omega (arith, small, m, n))),
+      within MOST_NODES (nodes_of p) (not_passed _ InlinedSize (omega (arith, small, m, n))),
+      within MOST_DECLARED_BYTES (declared_bytes p) (not_passed _ DeclaredBytes (omega (arith, small, m, n))),
     )
 
-pub few_nodes : (text : List ℕ) (program : ProgramTree) (export : ProcedureTree) → Judges text (accepts program export) → nodes_of export ≤ most_nodes
+pub few_nodes : (text : List ℕ) (program : ProgramTree) (export : ProcedureTree) → Judges text (accepts program export) → nodes_of export ≤ MOST_NODES
 few_nodes text program export (readable reads (fine compiled typed is small)) = (sizes export small).0

@@ -13,7 +13,7 @@ use Rattle.language.specs.declared.tree.Expr.{Expr}
 use Rattle.language.specs.declared.tree.Statement.{Statement, If, For}
 use Rattle.language.specs.declared.typing.Violation.{Violation}
 use Rattle.language.specs.FirstViolation.{IsFirst, IsNoLaterThan}
-use Rattle.language.specs.Size.{nodes_in, statement_nodes, block_nodes, nodes_of, statement_words, block_words, size_violations, declared_bytes, most_nodes, most_declared_bytes, held_words, parameter_words}
+use Rattle.language.specs.Size.{nodes_in, statement_nodes, block_nodes, nodes_of, statement_words, block_words, size_violations, declared_bytes, MOST_NODES, MOST_DECLARED_BYTES, held_words, parameter_words}
 use Rattle.language.specs.Tree.{ExprTree, number, truth, name, prefix, binary, rotate, convert, select, element, StatementTree, declaration, array, assignment, element_assignment, call, conditional, loop, ProcedureTree, ParameterTree, expr_tree, statement_tree, block_tree}
 use Rattle.language.specs.Types.{at, when}
 use Rattle.inline.proofs.RowLemmas.{conditional_tree, loop_tree}
@@ -113,14 +113,14 @@ single_words (p ∷ ps) compiled =
     let here : held_words p.form p.kind p.length ≡ 1 = ap (λ form. held_words form p.kind p.length) compiled.0 in
     omega (arith, here, rest)
 
-pub too_many_nodes : (p : ProcedureTree) → most_nodes < nodes_of p → IsFirst (size_violations p) (record { place = p.place; rule = InlinedSize })
+pub too_many_nodes : (p : ProcedureTree) → MOST_NODES < nodes_of p → IsFirst (size_violations p) (record { place = p.place; rule = InlinedSize })
 too_many_nodes p many =
-    subst (λ (b : Bool). IsFirst (at p.place (when b InlinedSize ++ when (nat_lt most_declared_bytes (declared_bytes p)) DeclaredBytes)) (record { place = p.place; rule = InlinedSize }))
-    (sym (above most_nodes (nodes_of p) many)) (nodes_first p.place (nat_lt most_declared_bytes (declared_bytes p)))
+    subst (λ (b : Bool). IsFirst (at p.place (when b InlinedSize ++ when (nat_lt MOST_DECLARED_BYTES (declared_bytes p)) DeclaredBytes)) (record { place = p.place; rule = InlinedSize }))
+    (sym (above MOST_NODES (nodes_of p) many)) (nodes_first p.place (nat_lt MOST_DECLARED_BYTES (declared_bytes p)))
 
-pub too_many_bytes : (p : ProcedureTree) → nodes_of p ≤ most_nodes → most_declared_bytes < declared_bytes p → IsFirst (size_violations p) (record { place = p.place; rule = DeclaredBytes })
+pub too_many_bytes : (p : ProcedureTree) → nodes_of p ≤ MOST_NODES → MOST_DECLARED_BYTES < declared_bytes p → IsFirst (size_violations p) (record { place = p.place; rule = DeclaredBytes })
 too_many_bytes p few many =
-    subst (λ (b : Bool). IsFirst (at p.place (when b InlinedSize ++ when (nat_lt most_declared_bytes (declared_bytes p)) DeclaredBytes)) (record { place = p.place; rule = DeclaredBytes }))
-    (sym (not_above most_nodes (nodes_of p) few))
+    subst (λ (b : Bool). IsFirst (at p.place (when b InlinedSize ++ when (nat_lt MOST_DECLARED_BYTES (declared_bytes p)) DeclaredBytes)) (record { place = p.place; rule = DeclaredBytes }))
+    (sym (not_above MOST_NODES (nodes_of p) few))
     (subst (λ (b : Bool). IsFirst (at p.place (when false InlinedSize ++ when b DeclaredBytes)) (record { place = p.place; rule = DeclaredBytes }))
-    (sym (above most_declared_bytes (declared_bytes p) many)) (bytes_first p.place))
+    (sym (above MOST_DECLARED_BYTES (declared_bytes p) many)) (bytes_first p.place))

@@ -3,7 +3,7 @@ use Rattle.std.proofs.Common.{◌≡◌, refl, ap, ap₂, ◌∙◌}
 use mathlib.Core.Former.{Count}
 use Rattle.language.specs.declared.tree.Statement.{Statement, If, If', For, For', Row_of-Statement, end_of-Statement, more_of-Statement, items-the_row-Statement, items_hidden-the_row-Statement-0}
 use Rattle.language.specs.Blocks.{RowsAreBlocks}
-use Rattle.language.specs.Tree.{conditional, loop, nothing, first, expr_tree, statement_tree, row_tree, block_tree}
+use Rattle.language.specs.Tree.{conditional, loop, first, expr_tree, statement_tree, row_tree, block_tree}
 
 rows : (n : _) (row : Row_of-Statement n) → row_tree row ≡ block_tree (items-the_row-Statement n row)
 rows n end_of-Statement = refl

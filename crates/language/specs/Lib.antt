@@ -1,6 +1,7 @@
 pub mod RuleNames
 pub mod Results
 pub mod Tree
+pub mod Signature
 pub mod Blocks
 pub mod Types
 pub mod ExprTyping

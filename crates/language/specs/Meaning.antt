@@ -1,6 +1,6 @@
 -- What expressions, statements, calls and a program mean: what a reader of the text works out, with real branches, loops
 -- and calls. Each part comes to a result or meets a fault at a node: an index not below the length, or a divisor 0.
-use Rattle.std.specs.Prelude.{◌≡◌, ℕ, ◌+◌, ◌<◌, ◌≤◌, ◌==◌, ◌&&◌, Bool, true, false, nat_lt, List, [], ◌∷◌, ◌++◌, length, map, Option, Some, None, is_some, slice_index, slice_set, replicate, if◌then◌else◌}
+use Rattle.std.specs.Prelude.{◌≡◌, ℕ, ◌+◌, ◌<◌, ◌≤◌, ◌==◌, ◌&&◌, Bool, true, false, nat_lt, List, [], ◌∷◌, ◌++◌, length, map, Option, Some, None, slice_index, slice_set, replicate, if◌then◌else◌}
 use Rattle.std.specs.Option.{option_map}
 use Rattle.std.specs.Str.{bytes_eq}
 use Rattle.word.specs.Operators.{word_of}
@@ -14,7 +14,9 @@ use Rattle.language.specs.declared.values.Arg.{Arg}
 use Rattle.language.specs.declared.values.Arg.TheVariants as arg
 use Rattle.language.specs.Operators.{divides, truth_of, binary_word, prefix_word, rotated_word, converted_word, selected_word}
 use Rattle.language.specs.Results.{Results}
+pub use Rattle.language.specs.Signature.{exported}
 use Rattle.language.specs.State.{State, Value, Word, single, array, empty, with_value}
+pub use Rattle.language.specs.Tree.{written}
 use Rattle.language.specs.Tree.{ExprTree, number, truth, name, prefix, binary, rotate, convert, select, element, CallTree, RightTree, called, computed, StatementTree, declaration, array as array_declaration, assignment, element_assignment, call, conditional, loop, BlockTree, nothing, first, ParameterTree, ReturnTree, ProcedureTree, ProgramTree}
 
 -- what a part comes to
@@ -142,10 +144,6 @@ abbrev pub made_array : Kind → ℕ → List Word → Value
 made_array kind size [] = array kind (replicate size 0)
 made_array kind size (v ∷ vs) = array kind (map (λ (w : Word). w.value) (v ∷ vs))
 
-abbrev pub written : Option (List ExprTree) → List ExprTree
-written None = []
-written (Some values) = values
-
 -- an array with another element
 abbrev pub with_element : Option Value → ℕ → Word → Option Value
 with_element (Some (array kind words)) i v = Some (array kind (slice_set words i v.value))
@@ -214,11 +212,6 @@ mutual
     goes_on : (ps : List ProcedureTree) (s t : State) (statement : StatementTree) (rest : BlockTree) (ending : Ending State) → Runs ps s statement (gives t) → RunsAll ps t rest ending → RunsAll ps s (first statement rest) ending
 
 -- The program.
-
--- the exported procedure, and those before it
-abbrev pub exported : List ProcedureTree → List ProcedureTree → Option (List ProcedureTree × ProcedureTree)
-exported before [] = None
-exported before (p ∷ ps) = if is_some p.export then Some (before, p) else exported (before ++ p ∷ []) ps
 
 -- an argument's value
 abbrev pub argument_value : Kind → Arg → Value

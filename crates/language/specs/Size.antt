@@ -1,14 +1,14 @@
 -- How large a program is, and the limits on it. What is counted is the exported procedure.
 use Rattle.std.specs.Prelude.{ℕ, ◌+◌, ◌*◌, ◌/◌, List, [], ◌∷◌, ◌++◌, Option, None, Some, nat_lt}
+pub use Rattle.language.specs.declared.limits.TheConstants.{MOST_NODES, MOST_DECLARED_BYTES}
 use Rattle.language.specs.declared.rule.Rule.TheVariants.{InlinedSize, DeclaredBytes}
 use Rattle.language.specs.declared.signature.Form.{Form}
 use Rattle.language.specs.declared.signature.Form.TheVariants.{SingleWord, FixedArray, MutableArray}
 use Rattle.language.specs.declared.signature.Kind.{Kind}
 use Rattle.language.specs.declared.signature.Kind.TheVariants.{Boolean, Uint8, Uint16, Uint32}
 use Rattle.language.specs.declared.typing.Violation.{Violation}
-use Rattle.language.specs.Tree.{ExprTree, number, truth, name, prefix, binary, rotate, convert, select, element, CallTree, RightTree, called, computed, StatementTree, declaration, array, assignment, element_assignment, call, conditional, loop, BlockTree, nothing, first, ParameterTree, ReturnTree, ProcedureTree}
+use Rattle.language.specs.Tree.{ExprTree, number, truth, name, prefix, binary, rotate, convert, select, element, CallTree, RightTree, called, computed, StatementTree, declaration, array, assignment, element_assignment, call, conditional, loop, BlockTree, nothing, first, ParameterTree, ReturnTree, ProcedureTree, written}
 use Rattle.language.specs.Types.{at, when}
-use Rattle.language.specs.Typing.{written}
 
 -- the nodes of an expression
 abbrev pub nodes_in : ExprTree → ℕ
@@ -107,14 +107,8 @@ parameter_words (p ∷ ps) = held_words p.form p.kind p.length + parameter_words
 abbrev pub declared_bytes : ProcedureTree → ℕ
 declared_bytes p = 4 * (parameter_words p.parameters + block_words p.body)
 
-abbrev pub most_nodes : ℕ
-most_nodes = 6000
-
-abbrev pub most_declared_bytes : ℕ
-most_declared_bytes = 32768
-
 -- the limits that a procedure passes, at its name
 abbrev pub size_violations : ProcedureTree → List Violation
 size_violations p =
-    at p.place (when (nat_lt most_nodes (nodes_of p)) InlinedSize
-    ++ when (nat_lt most_declared_bytes (declared_bytes p)) DeclaredBytes)
+    at p.place (when (nat_lt MOST_NODES (nodes_of p)) InlinedSize
+    ++ when (nat_lt MOST_DECLARED_BYTES (declared_bytes p)) DeclaredBytes)

@@ -1,5 +1,5 @@
 -- Syntax trees as values, without where they lie in memory.
-use Rattle.std.specs.Prelude.{ℕ, Bool, List, [], ◌∷◌, Option, map}
+use Rattle.std.specs.Prelude.{ℕ, Bool, List, [], ◌∷◌, Option, None, Some, map}
 use Rattle.std.specs.Option.{option_map}
 use Rattle.word.specs.declared.place.Place.{Place}
 use Rattle.language.specs.declared.signature.Form.{Form}
@@ -60,6 +60,11 @@ mutual
   pub data BlockTree : Type 0 where
     nothing : BlockTree
     first : (statement : StatementTree) (rest : BlockTree) → BlockTree
+
+-- the first values of an array, where they are written
+abbrev pub written : Option (List ExprTree) → List ExprTree
+written None = []
+written (Some values) = values
 
 pub record ParameterTree : Type 0 where
   pub label : Label

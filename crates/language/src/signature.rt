@@ -1,3 +1,7 @@
+ghost use Rattle.std.specs.Prelude.{◌≡◌};
+
+use word::Width;
+
 /// What a word is.
 #[derive(Clone, Copy, Debug, PartialEq, Eq)]
 pub enum Kind {
@@ -5,6 +9,40 @@ pub enum Kind {
     Uint8,
     Uint16,
     Uint32,
+}
+
+impl Kind {
+    ghost use Rattle.language.specs.Operators.{width_of};
+    ghost use Rattle.language.specs.Size.{array_words, element_bytes};
+
+    /// The width of a number. A bool lies in the narrowest.
+    pub fn width(self) -> Width
+        ensures { result ≡ width_of self }
+    {
+        match self {
+            Kind::Boolean | Kind::Uint8 => Width::W8,
+            Kind::Uint16 => Width::W16,
+            Kind::Uint32 => Width::W32,
+        }
+    }
+
+    /// How many bytes an element of an array takes.
+    pub fn element_bytes(self) -> u16
+        ensures { result ≡ element_bytes self }
+    {
+        match self {
+            Kind::Boolean | Kind::Uint8 => 1,
+            Kind::Uint16 => 2,
+            Kind::Uint32 => 4,
+        }
+    }
+
+    /// How many words, of 4 bytes each, an array of so many elements takes: the last may be taken in part.
+    pub fn array_words(self, length: u16) -> u32
+        ensures { result ≡ array_words self length }
+    {
+        (u32::from(length) * u32::from(self.element_bytes())).div_ceil(4)
+    }
 }
 
 /// Whether an observer may learn a value.
@@ -30,4 +68,18 @@ pub struct Param {
     pub form: Form,
     /// How many words it holds: 1 for a single word, 1..4096 for an array.
     pub length: u16,
+}
+
+impl Param {
+    ghost use Rattle.language.specs.Size.{held_words};
+
+    /// How many words, of 4 bytes each, it takes where it lies.
+    pub fn words(self) -> u32
+        ensures { result ≡ held_words self.form self.kind self.length }
+    {
+        match self.form {
+            Form::SingleWord => 1,
+            Form::FixedArray | Form::MutableArray => self.kind.array_words(self.length),
+        }
+    }
 }

@@ -1,4 +1,7 @@
-use crate::{Form, Kind, Label, Place, WordType};
+ghost use Rattle.std.specs.Prelude.{◌≡◌};
+
+use crate::{Form, Kind, Label, Operation, Param, Place, WordType};
+use std::alloc::{AllocError, Global};
 
 /// A sign before an operand.
 #[derive(Clone, Copy, Debug, PartialEq, Eq)]
@@ -45,6 +48,51 @@ pub enum BinaryOperator {
     Multiply,
     Divide,
     Remainder,
+}
+
+impl BinaryOperator {
+    ghost use Rattle.language.specs.ExprTyping.{operation_kind, operation_of};
+    ghost use Rattle.language.specs.Operators.{divides};
+
+    /// What it makes of its operands.
+    pub fn operation(self) -> Operation
+        ensures { result ≡ operation_of self }
+    {
+        match self {
+            BinaryOperator::Either => Operation::Logic,
+            BinaryOperator::Both => Operation::Logic,
+            BinaryOperator::Equal => Operation::Equality,
+            BinaryOperator::Unequal => Operation::Equality,
+            BinaryOperator::Less => Operation::Order,
+            BinaryOperator::LessOrEqual => Operation::Order,
+            BinaryOperator::Greater => Operation::Order,
+            BinaryOperator::GreaterOrEqual => Operation::Order,
+            BinaryOperator::BitOr => Operation::Arithmetic,
+            BinaryOperator::BitXor => Operation::Arithmetic,
+            BinaryOperator::BitAnd => Operation::Arithmetic,
+            BinaryOperator::ShiftLeft => Operation::Shift,
+            BinaryOperator::ShiftRight => Operation::Shift,
+            BinaryOperator::Add => Operation::Arithmetic,
+            BinaryOperator::Subtract => Operation::Arithmetic,
+            BinaryOperator::Multiply => Operation::Arithmetic,
+            BinaryOperator::Divide => Operation::Division,
+            BinaryOperator::Remainder => Operation::Division,
+        }
+    }
+
+    /// The kind of what it gives, by the kind of its left operand.
+    pub fn result_kind(self, left: Kind) -> Kind
+        ensures { result ≡ operation_kind (operation_of self) left }
+    {
+        self.operation().result_kind(left)
+    }
+
+    /// Whether it makes a quotient or a remainder, which a divisor 0 does not have.
+    pub fn divides(self) -> bool
+        ensures { result ≡ divides self }
+    {
+        matches!(self, BinaryOperator::Divide | BinaryOperator::Remainder)
+    }
 }
 
 /// An expression. Each has the place of its head token.
@@ -172,6 +220,23 @@ pub struct Parameter<'a> {
     pub name: &'a str,
 }
 
+impl Parameter<'_> {
+    ghost use Rattle.language.specs.Signature.{param_of};
+    ghost use Rattle.language.specs.Tree.{parameter_tree};
+
+    /// The parameter without its name.
+    pub fn param(&self) -> Param
+        ensures { result ≡ param_of (parameter_tree self.now) }
+    {
+        Param {
+            kind: self.kind,
+            label: self.label,
+            form: self.form,
+            length: self.length,
+        }
+    }
+}
+
 /// The `return` of a procedure.
 #[derive(Debug, Drop)]
 pub struct Return<'a> {
@@ -196,8 +261,44 @@ pub struct Procedure<'a> {
     pub returned: Option<Return<'a>>,
 }
 
+impl Procedure<'_> {
+    ghost use Rattle.std.specs.Prelude.{map, IfOk};
+    ghost use Rattle.language.specs.Signature.{param_of};
+    ghost use Rattle.language.specs.Tree.{procedure_tree};
+
+    /// Its parameters without their names.
+    pub fn params(&self, alloc: Global) -> Result<Vec<Param>, AllocError>
+        ensures { IfOk result (λ params. params.items ≡ map param_of (procedure_tree self.now).parameters) }
+    {
+        let mut params = Vec::new(alloc);
+        for parameter in &self.parameters {
+            params.push(parameter.param())?;
+        }
+        Ok(params)
+    }
+}
+
 /// A program: the tree of a text, its procedures in their order.
 #[derive(Debug, Drop)]
 pub struct Program<'a> {
     pub procedures: Vec<Procedure<'a>>,
+}
+
+impl<'a> Program<'a> {
+    ghost use Rattle.std.specs.Prelude.{[], map};
+    ghost use Rattle.std.specs.Option.{option_map};
+    ghost use Rattle.language.specs.Signature.{exported};
+    ghost use Rattle.language.specs.Tree.{procedure_tree, program_tree};
+
+    /// The first exported procedure, and those before it.
+    pub fn exported(&self) -> Option<(&[Procedure<'a>], &Procedure<'a>)>
+        ensures { option_map (λ found. (map procedure_tree found.0.now, procedure_tree found.1.now)) result ≡ exported [] (program_tree self.now).procedures }
+    {
+        for (index, procedure) in self.procedures.iter().enumerate() {
+            if procedure.export.is_some() {
+                return Some((&self.procedures[..index], procedure));
+            }
+        }
+        None
+    }
 }

@@ -1,3 +1,5 @@
+ghost use Rattle.std.specs.Prelude.{◌≡◌};
+
 use crate::{Kind, Label, Place, Rule};
 
 /// The type of a word.
@@ -67,4 +69,18 @@ pub enum Operation {
     Order,
     /// A bool of two bools.
     Logic,
+}
+
+impl Operation {
+    ghost use Rattle.language.specs.ExprTyping.{operation_kind};
+
+    /// The kind of what it gives, by the kind of its first operand.
+    pub fn result_kind(self, first: Kind) -> Kind
+        ensures { result ≡ operation_kind self first }
+    {
+        match self {
+            Operation::Arithmetic | Operation::Division | Operation::Shift => first,
+            Operation::Equality | Operation::Order | Operation::Logic => Kind::Boolean,
+        }
+    }
 }

@@ -2,6 +2,11 @@
 use Rattle.std.specs.Prelude.{ℕ, List, ◌++◌, codes}
 use Rattle.std.specs.Fmt.{decimal}
 use Rattle.word.specs.declared.place.Place.{Place}
+use Rattle.word.specs.declared.place.TheConstants.Place.{ORIGIN}
+
+-- the beginning of a text
+abbrev pub origin : Place
+origin = ORIGIN
 
 -- how a place is printed
 abbrev pub place_text : Place → List ℕ
