@@ -3,6 +3,7 @@ pub mod VariableLemmas
 pub mod RunLemmas
 pub mod ProcedureLemmas
 pub mod LoopLemmas
+pub mod BeginningLemmas
 pub mod RunEnds
 pub mod KnownProcedures
 pub mod WorkedOut

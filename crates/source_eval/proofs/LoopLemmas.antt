@@ -33,7 +33,7 @@ passes r P fault h k =
     subst (λ x. IfErr x P) (sym e.1) (subst P (sym e.2) k)
 
 -- the next of a list
-next_of : {A : Type 0} (xs : List A) (i : ℕ) (x : A) → i < length xs → x ≡ get_or xs i x → drop i xs ≡ x ∷ drop (i + 1) xs
+pub next_of : {A : Type 0} (xs : List A) (i : ℕ) (x : A) → i < length xs → x ≡ get_or xs i x → drop i xs ≡ x ∷ drop (i + 1) xs
 next_of xs i x less is = drop_more xs i x less ∙ ap (λ y. y ∷ drop (i + 1) xs) (sym is)
 
 up_to : {A : Type 0} (xs : List A) (i : ℕ) (x : A) → i < length xs → x ≡ get_or xs i x → take (i + 1) xs ≡ take i xs ++ x ∷ []
@@ -118,7 +118,7 @@ module _ (whole : Run State) (known : Knowledge) (start room : ℕ) (ss : List S
 below : (i n : ℕ) → false ≡ nat_lt i n → n ≤ i
 below i n h = grind (arith, nat_tests)
 
-none_after : {A : Type 0} (xs : List A) (i : ℕ) → false ≡ nat_lt i (length xs) → drop i xs ≡ []
+pub none_after : {A : Type 0} (xs : List A) (i : ℕ) → false ≡ nat_lt i (length xs) → drop i xs ≡ []
 none_after xs i h = drop_all i xs (below i (length xs) h)
 
 no_copies : (s t : State) (ps : List ParameterTree) → copied_out s t ps [] ≡ s

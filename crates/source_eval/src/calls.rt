@@ -2,7 +2,7 @@
 
 ghost use Rattle.std.specs.Prelude.{◌≡◌, map, IfOk, IfErr, OnOk};
 ghost use Rattle.std.specs.Option.{option_map};
-ghost use Rattle.language.specs.Meaning.{array_named, begun, copied_out, gone_back};
+ghost use Rattle.language.specs.Meaning.{argument_held, array_named, begun, copied_out, gone_back, words_left};
 ghost use Rattle.language.specs.Tree.{expr_tree, parameter_tree};
 ghost use Rattle.source_eval.specs.Views.{held, value_of, word_of};
 ghost use Rattle.source_eval.specs.declared.fault.EvalFault.TheVariants.{Memory};
@@ -31,6 +31,33 @@ fn array_named(variables: &Variables<'_>, argument: &Expr<'_>) -> Result<Option<
     }
 }
 
+/// What a parameter holds: the next word, or a copy of the array that the argument names.
+fn argument_held(
+    variables: &Variables<'_>,
+    form: Form,
+    argument: &Expr<'_>,
+    words: &[Word],
+) -> Result<Option<Value>, EvalFault>
+    ensures ok { IfOk result (λ value. option_map value_of value ≡ argument_held (held variables.now) form (expr_tree argument.now) (map word_of words.now)) }
+    ensures memory { IfErr result (λ fault. fault ≡ Memory) }
+{
+    match (form, words) {
+        (Form::SingleWord, []) => Ok(None),
+        (Form::SingleWord, [word, ..]) => Ok(Some(Value::Single(*word))),
+        (Form::FixedArray | Form::MutableArray, _) => array_named(variables, argument),
+    }
+}
+
+/// The words for the parameters after one of this form.
+fn words_left(form: Form, words: &[Word]) -> &[Word]
+    ensures { map word_of result.now ≡ words_left form (map word_of words.now) }
+{
+    match (form, words) {
+        (Form::SingleWord, [_, rest @ ..]) => rest,
+        (Form::SingleWord, []) | (Form::FixedArray | Form::MutableArray, _) => words,
+    }
+}
+
 /// What the names of a called body hold at first: the words that were evaluated, and copies of arrays.
 pub fn begun<'a>(
     alloc: Global,
@@ -42,27 +69,18 @@ pub fn begun<'a>(
     ensures ok { IfOk result (λ inner. held inner ≡ begun (held caller.now) (map parameter_tree parameters.now) (map expr_tree arguments.now) (map word_of words.now)) }
     ensures memory { IfErr result (λ fault. fault ≡ Memory) }
 {
-    let [parameter, parameters @ ..] = parameters else {
-        return Ok(Variables::new(alloc));
-    };
-    let [argument, arguments @ ..] = arguments else {
-        return Ok(Variables::new(alloc));
-    };
-    match (parameter.form, words) {
-        (Form::SingleWord, []) => begun(alloc, caller, parameters, arguments, words),
-        (Form::SingleWord, [word, words @ ..]) => {
-            let mut inner = begun(alloc, caller, parameters, arguments, words)?;
-            inner.set(parameter.name, Value::Single(*word))?;
-            Ok(inner)
+    let mut inner = Variables::new(alloc);
+    let mut left = words;
+    for (index, parameter) in parameters.iter().enumerate() {
+        let Some(argument) = arguments.get(index) else {
+            return Ok(inner);
+        };
+        if let Some(value) = argument_held(caller, parameter.form, argument, left)? {
+            inner.set_first(parameter.name, value)?;
         }
-        (Form::FixedArray | Form::MutableArray, _) => {
-            let mut inner = begun(alloc, caller, parameters, arguments, words)?;
-            if let Some(value) = array_named(caller, argument)? {
-                inner.set(parameter.name, value)?;
-            }
-            Ok(inner)
-        }
+        left = words_left(parameter.form, left);
     }
+    Ok(inner)
 }
 
 /// Copies a `mut` array back to the name that was given.

@@ -72,15 +72,14 @@ fn holding<'a>(
     ensures ok { IfOk result (λ variables. held variables ≡ holding (map parameter_tree parameters.now) args.now) }
     ensures memory { IfErr result (λ fault. fault ≡ Memory) }
 {
-    let [parameter, parameters @ ..] = parameters else {
-        return Ok(Variables::new(alloc));
-    };
-    let [arg, args @ ..] = args else {
-        return Ok(Variables::new(alloc));
-    };
-    let mut variables = holding(alloc, parameters, args)?;
-    let value = argument_value(alloc, parameter.kind, arg)?;
-    variables.set(parameter.name, value)?;
+    let mut variables = Variables::new(alloc);
+    for (index, parameter) in parameters.iter().enumerate() {
+        let Some(arg) = args.get(index) else {
+            return Ok(variables);
+        };
+        let value = argument_value(alloc, parameter.kind, arg)?;
+        variables.set_first(parameter.name, value)?;
+    }
     Ok(variables)
 }
 

@@ -1,6 +1,6 @@
 // What the names of a running body hold.
 
-ghost use Rattle.std.specs.Prelude.{◌≡◌, OnOk, IfOk, IfErr};
+ghost use Rattle.std.specs.Prelude.{◌≡◌, if◌then◌else◌, is_some, OnOk, IfOk, IfErr};
 ghost use Rattle.std.specs.Option.{option_map};
 ghost use Rattle.language.specs.Meaning.{element_held, final_words, gives, word_held, with_element, with_some};
 ghost use Rattle.language.specs.State.{empty, with_value};
@@ -72,6 +72,17 @@ impl<'a> Variables<'a> {
         ensures { option_map (λ value. value_of value.now) result ≡ held self.now name.now }
     {
         self.values.get(name)
+    }
+
+    /// From here on a name holds this, unless it holds something already: of a name that stands twice the first counts.
+    pub fn set_first(&mut self, name: &'a str, value: Value) -> Result<(), EvalFault>
+        ensures ok { OnOk result (held self.new ≡ (if is_some (held self.old name.now) then held self.old else with_value (held self.old) name.now (value_of value))) }
+        ensures memory { IfErr result (λ fault. fault ≡ Memory) }
+    {
+        if self.get(name).is_some() {
+            return Ok(());
+        }
+        self.set(name, value)
     }
 
     /// The word that a name holds.
