@@ -1,9 +1,5 @@
 -- Sinks and sources: what is known of the bytes that went out or came in, and how failed calls are counted.
-use Rattle.std.specs.Prelude.{◌≡◌, ℕ, ◌+◌, ◌-◌, ◌^◌, ◌<◌, ◌≤◌, ◌++◌, List, length, take, drop, min}
-
--- a count of failed calls after one more of them: it stays at the greatest number that it can hold
-abbrev pub one_more : ℕ → ℕ
-one_more count = min (count + 1) (2 ^ 64 - 1)
+use Rattle.std.specs.Prelude.{◌≡◌, ℕ, ◌-◌, ◌<◌, ◌≤◌, ◌++◌, ◌==◌, Bool, false, List, length, take, drop, Option, Some, None, if◌then◌else◌}
 
 -- to what had gone out, some of these bytes were added, from their beginning, and not all of them
 pub record GainsPart (before after bytes : List ℕ) : Type 0 where
@@ -21,3 +17,13 @@ pub record LosesPart (before after : List ℕ) (limit : ℕ) : Type 0 where
 pub record Collected : Type 0 where
   pub bytes : List ℕ
   pub failures : ℕ
+
+-- whether the present call of a faltering stream is the one that fails, by how many calls are left before that one
+abbrev pub is_due : Option ℕ → Bool
+is_due (Some calls) = calls == 0
+is_due None = false
+
+-- how many calls are left after the present one; no other is to fail once one has failed
+abbrev pub left_after : Option ℕ → Option ℕ
+left_after (Some calls) = if calls == 0 then None else Some (calls - 1)
+left_after None = None

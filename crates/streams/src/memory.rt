@@ -1,5 +1,6 @@
 ghost use Rattle.std.specs.Prelude.{◌≡◌, ◌+◌, List, ℕ, [], drop, length, true};
-ghost use Rattle.streams.specs.Streams.{one_more, Collected};
+ghost use Rattle.streams.specs.Streams.{Collected};
+ghost use Rattle.word.specs.Counts.{one_more};
 
 use super::{Sink, SinkFault, Source, SourceFault};
 use std::alloc::Global;

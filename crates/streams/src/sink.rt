@@ -1,5 +1,6 @@
 ghost use Rattle.std.specs.Prelude.{◌≡◌, ℕ, ◌<◌, ◌≤◌, ◌++◌, Bool, List, length, take, IsTrue, IfOk, OnOk, OnErr};
-ghost use Rattle.streams.specs.Streams.{one_more, GainsPart};
+ghost use Rattle.streams.specs.Streams.{GainsPart};
+ghost use Rattle.word.specs.Counts.{one_more};
 
 /// A call of a sink failed.
 #[derive(Clone, Copy, Debug, PartialEq, Eq)]

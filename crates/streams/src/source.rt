@@ -1,5 +1,6 @@
 ghost use Rattle.std.specs.Prelude.{◌≡◌, ◌≢◌, ℕ, ◌<◌, ◌≤◌, ◌++◌, ◌-◌, [], false, Bool, List, length, vec_len, take, drop, IsTrue, IfOk, OnOk, OnErr, IsErrOf};
-ghost use Rattle.streams.specs.Streams.{one_more, LosesPart};
+ghost use Rattle.streams.specs.Streams.{LosesPart};
+ghost use Rattle.word.specs.Counts.{one_more};
 ghost use Rattle.streams.specs.declared.source.ReadFault.TheVariants.{Memory};
 
 use std::alloc::{AllocError, Global};

@@ -1,3 +1,4 @@
+pub mod Counts
 pub mod Operators
 pub mod Places
 pub mod Widths

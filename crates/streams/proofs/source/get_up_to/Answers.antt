@@ -1,5 +1,4 @@
-use Rattle.std.proofs.Common.{◌≡◌, ◌++◌, ◌-◌, length, ◌∙◌, subst, sym, arith}
-use Rattle.streams.specs.Streams.{LosesPart}
+use Rattle.std.proofs.Common.{arith}
 use Rattle.streams.proofs.Pieces.{LosesPart-append}
 use Rattle.streams.proofs.source.get_up_to.Goals as goal
 

@@ -1,4 +1,4 @@
-use Rattle.std.proofs.Common.{◌≡◌, ◌-◌, length, List, ℕ, take, drop, arith, ◌∙◌, ap}
+use Rattle.std.proofs.Common.{◌-◌, length, List, ℕ, take, drop, arith, ◌∙◌, ap}
 use Rattle.streams.proofs.Pieces.{handed-piece, take-rest}
 use Rattle.std.proofs.lemmas.Grind.{common_steps}
 use Rattle.streams.proofs.memory.ByteSourceSource.get.Goals as goal
