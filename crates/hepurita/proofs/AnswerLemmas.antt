@@ -7,13 +7,13 @@ use Rattle.arguments.specs.Within.{AreWithin}
 use Rattle.arguments.specs.declared.fault.ArgumentFault.{ArgumentFault}
 use Rattle.image.specs.Fields.{Fields, IsImage}
 use Rattle.image.specs.Spelling.{spelling}
-use Rattle.observing.specs.Entries.{Entry, entries_of}
-use Rattle.observing.specs.declared.pairing.Pairing.{Pairing}
-use Rattle.observing.specs.declared.pairing.Pairing.TheVariants.{Same, Differ}
+use Rattle.rv_machine.specs.Entries.{Entry, entries_of}
+use Rattle.rv_machine.specs.declared.pairing.Pairing.{Pairing}
+use Rattle.rv_machine.specs.declared.pairing.Pairing.TheVariants.{Same, Differ}
 use Rattle.rv_machine.specs.Leakage.{Ran}
 use Rattle.rv_machine.specs.Machine.{State}
 use Rattle.rv_machine.specs.Recording.{kept}
-use Rattle.rv_machine.specs.RunLaws.{Ran-halts}
+use Rattle.rv_machine.proofs.RunLaws.{Ran-halts}
 use Rattle.rv_machine.specs.declared.observation.Observation.{Observation}
 use Rattle.rv_machine.specs.declared.stops.Stop.{Stop}
 use Rattle.rv_machine.specs.declared.stops.Stop.TheVariants.{Ecall, Break, Illegal, AccessFault, Misaligned, Budget, RecorderRefused}

@@ -3,7 +3,7 @@ use Rattle.std.proofs.Common.{◌≡◌, ℕ, zero, suc, ◌+◌, ◌<◌, ◌�
 use Rattle.std.proofs.lemmas.Bool.Decides.{nat_tests}
 use Rattle.image.specs.declared.slot.Slot.{Slot}
 use Rattle.rv_machine.specs.Bytes.{ByteMap, joined, number_at, zeros}
-use Rattle.rv_machine.specs.ByteLaws.{number_at-suc, number_at-zero, is_some-with_number}
+use Rattle.rv_machine.proofs.ByteLaws.{number_at-suc, number_at-zero, is_some-with_number}
 use Rattle.language.specs.declared.values.Arg.{Arg}
 use Rattle.language.specs.declared.values.Arg.TheVariants.{Word, Array}
 use Rattle.simulation.specs.Loaded.{with_argument, HoldsWord}

@@ -2,8 +2,8 @@
 use Rattle.std.specs.Prelude.{◌≡◌, ◌⊎◌, ℕ, List, Result, Ok, Err}
 use Rattle.image.specs.Fields.{Fields, IsImage}
 use Rattle.image.specs.Spelling.{spelling}
-use Rattle.observing.specs.declared.pairing.Pairing.{Pairing}
-use Rattle.observing.specs.declared.pairing.Pairing.TheVariants.{Same}
+use Rattle.rv_machine.specs.declared.pairing.Pairing.{Pairing}
+use Rattle.rv_machine.specs.declared.pairing.Pairing.TheVariants.{Same}
 use Rattle.rv_machine.specs.declared.stops.Stop.TheVariants.{RecorderRefused}
 use Rattle.language.specs.declared.values.Arg.{Arg}
 use Rattle.language.specs.Meaning.{Ending, Gives, gives}

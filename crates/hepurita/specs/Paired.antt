@@ -4,9 +4,9 @@ use Rattle.std.specs.Option.{option_map}
 use Rattle.arguments.specs.Faults.{fault_of, count_fault}
 use Rattle.arguments.specs.declared.fault.ArgumentFault.{ArgumentFault}
 use Rattle.image.specs.Fields.{Fields}
-use Rattle.observing.specs.Entries.{Entry, entries_of, IsFirstDifference}
-use Rattle.observing.specs.declared.pairing.Pairing.{Pairing}
-use Rattle.observing.specs.declared.pairing.Pairing.TheVariants.{Same, Differ}
+use Rattle.rv_machine.specs.Entries.{Entry, entries_of, IsFirstDifference}
+use Rattle.rv_machine.specs.declared.pairing.Pairing.{Pairing}
+use Rattle.rv_machine.specs.declared.pairing.Pairing.TheVariants.{Same, Differ}
 use Rattle.rv_machine.specs.Leakage.{Ran}
 use Rattle.rv_machine.specs.Machine.{State}
 use Rattle.rv_machine.specs.declared.observation.Observation.{Observation}

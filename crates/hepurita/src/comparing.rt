@@ -11,8 +11,7 @@ use crate::loading::{load, params};
 use arguments::{ArgumentFault, first_fault};
 use image::Image;
 use language::{Args, Param};
-use observing::{Pairing, first_difference};
-use rv_machine::{ListRecorder, Stop, run};
+use rv_machine::{ListRecorder, Pairing, Stop, first_difference, run};
 use std::alloc::Global;
 
 /// The first fault of two lists of arguments; those of the second are numbered after the first's.

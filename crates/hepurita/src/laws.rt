@@ -7,7 +7,7 @@ ghost use Rattle.codegen.specs.Generated.{image_of};
 ghost use Rattle.coverage.specs.NotCompiled.{IsCompiledYet};
 ghost use Rattle.image.specs.Fields.{Fields};
 ghost use Rattle.inline.specs.Numbering.{flattened};
-ghost use Rattle.observing.specs.declared.pairing.Pairing.{Pairing};
+ghost use Rattle.rv_machine.specs.declared.pairing.Pairing.{Pairing};
 ghost use Rattle.rv_machine.specs.declared.observation.Observation.{Observation};
 ghost use Rattle.arguments.specs.Agreement.{Agree};
 ghost use Rattle.language.specs.Meaning.{exported};

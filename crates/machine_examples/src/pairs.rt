@@ -1,8 +1,7 @@
 // Short lists of observations. Their entries are counted by hand.
 
-use observing::laws::{entries_tell_observations_apart, one_first_difference};
-use observing::{Pairing, first_difference};
-use rv_machine::{Event, Observation, Size};
+use rv_machine::laws::{entries_tell_observations_apart, one_first_difference};
+use rv_machine::{Event, Observation, Pairing, Size, first_difference};
 use std::test::Fail;
 
 const FIRST: Observation = Observation {

@@ -314,6 +314,20 @@ fn does_nothing_after_a_refused_record(rt: HostRuntime) -> Result<(), Fail> {
     Ok(())
 }
 
+// With ample memory a stretch of any length is there from its first byte to its last.
+#[test]
+fn keeps_the_first_and_the_last_of_many_bytes(rt: HostRuntime) -> Result<(), Fail> {
+    let mut memory = FlatMemory::new(rt.alloc(), DATA, 65_536)?;
+    assert!(rt; memory.store(DATA, Size::Byte, 0x1ab));
+    assert!(rt; memory.store(DATA + 65_535, Size::Byte, 0xcd));
+    assert_eq!(rt; memory.load(DATA, Size::Byte), Some(0xab));
+    assert_eq!(rt; memory.load(DATA + 65_535, Size::Byte), Some(0xcd));
+    assert_eq!(rt; memory.load(DATA + 65_532, Size::Word), Some(0xcd00_0000));
+    assert_eq!(rt; memory.load(DATA + 65_535, Size::Half), None);
+    assert!(rt; !memory.store(DATA + 65_536, Size::Byte, 1));
+    Ok(())
+}
+
 #[test]
 fn stops_have_names(rt: HostRuntime) -> Result<(), Fail> {
     assert_eq!(rt; Stop::AccessFault.name(), "AccessFault");

@@ -1,6 +1,11 @@
+pub mod ByteLaws
 pub mod Calls
+pub mod EndingLaws
+pub mod EntryLaws
 pub mod Fresh
-pub mod Products
+pub mod Pairs
+pub mod RunLaws
 pub mod SizedNumbers
 pub mod Stretch
+pub mod TurnLaws
 pub mod Turns

@@ -7,7 +7,7 @@ use Rattle.std.proofs.lemmas.Bool.{cases_eq, cases_lt, le-leb, lt-leb}
 use Rattle.std.proofs.lemmas.List.{get_or-set_same, get_or-set_other}
 use Rattle.std.proofs.lemmas.Option.{slice_get-get_or, slice_get_past}
 use Rattle.rv_machine.specs.Bytes.{joined, number_at, with_byte}
-use Rattle.rv_machine.specs.ByteLaws.{number_at-suc, number_at-zero, with_byte_same, with_byte_other}
+use Rattle.rv_machine.proofs.ByteLaws.{number_at-suc, number_at-zero, with_byte_same, with_byte_other}
 use Rattle.rv_machine.specs.Flat.{bytes_from}
 use Rattle.rv_machine.specs.Sizes.{byte_count}
 use Rattle.rv_machine.specs.declared.memory.Size.{Size}

@@ -1,7 +1,6 @@
 // Laws of the machine, which hold of the definitions alone.
 
-ghost use Rattle.std.specs.Int.{w64, cast_signed, int_wrap};
-ghost use Rattle.std.specs.Prelude.{◌≡◌, ◌≢◌, ℕ, ◌+◌, ◌*◌, ◌%◌, ◌^◌, ◌<◌, ◌≤◌, pos, ◌*ℤ◌, ◌⊎◌, Bool, true, false, List, ◌∷◌, [], ◌++◌, Some, is_some};
+ghost use Rattle.std.specs.Prelude.{◌≡◌, ◌≢◌, ◌↔◌, ℕ, ◌+◌, ◌%◌, ◌^◌, ◌≤◌, ◌⊎◌, Bool, true, false, List, ◌∷◌, [], ◌++◌, Some, is_some};
 ghost use Rattle.rv_code.specs.declared.instructions.Instr.{Instr};
 ghost use Rattle.rv_code.specs.declared.operations.UpperOperation.{UpperOperation};
 ghost use Rattle.rv_code.specs.declared.operations.BranchTest.{BranchTest};
@@ -16,13 +15,12 @@ ghost use Rattle.rv_machine.specs.declared.observation.Observation.{Observation}
 ghost use Rattle.rv_machine.specs.declared.stops.Stop.{Stop};
 ghost use Rattle.rv_machine.specs.Bytes.{ByteMap, number_at, with_number};
 ghost use Rattle.rv_machine.specs.Effects.{sign_extended, upper_value, immediate_value, shift_value, register_value, multiply_value, divide_value, holds, load_size, loaded_value, store_size, address_of, jump_target, branch_target, register_target};
+ghost use Rattle.rv_machine.specs.Entries.{Entry, entries_of, IsFirstDifference};
 ghost use Rattle.rv_machine.specs.Leakage.{Leads, Halts, Ran};
-ghost use Rattle.rv_machine.specs.Machine.{State, Code, Ending, Turn, here, next, observed, with_value, with_stored, with_link, moved_to};
+ghost use Rattle.rv_machine.specs.Machine.{State, Code, IsAt, Ending, Turn, here, next, observed, with_value, with_stored, with_link, moved_to};
 ghost use Rattle.rv_machine.specs.Recording.{kept};
 ghost use Rattle.rv_machine.specs.Registers.{register};
-ghost use Rattle.rv_machine.specs.SignedWords.{signed, doubled};
 ghost use Rattle.rv_machine.specs.Sizes.{byte_count};
-ghost use Rattle.rv_machine.specs.TurnLaws.{IsAt};
 
 use crate::observation::Event;
 use crate::stops::Stop;
@@ -52,12 +50,28 @@ pub fn one_run()
         → (other ≡ stop) × (u ≡ t) × (list' ≡ kept keeps list a) }
 {}
 
-/// The products of 64 bits of words that stand with their signs are those of the numbers, modulo 2^64.
-pub fn products_keep_signs()
-    ensures of_both { (a b : ℕ) → a < 2 ^ 32 → b < 2 ^ 32
-        → cast_signed w64 ((doubled a * doubled b) % 2 ^ 64) ≡ int_wrap w64 (signed a *ℤ signed b) }
-    ensures of_one { (a b : ℕ) → a < 2 ^ 32 → b < 2 ^ 32
-        → cast_signed w64 ((doubled a * b) % 2 ^ 64) ≡ int_wrap w64 (signed a *ℤ pos b) }
+/// Two runs from one state with one budget and one list so far agree, where the recorder refused
+/// nothing; where it refused in one of them, that one's list is a beginning of the other's.
+pub fn runs_agree()
+    ensures finished { (code : Code) (keeps : Bool) (budget : ℕ) (s t u : State) (list one other : List Observation) (stop stop' : Stop)
+        → Ran code keeps budget s list stop t one → Ran code keeps budget s list stop' u other
+        → stop ≢ Stop.RecorderRefused → stop' ≢ Stop.RecorderRefused
+        → (stop ≡ stop') × (t ≡ u) × (one ≡ other) }
+    ensures refused { (code : Code) (keeps : Bool) (budget : ℕ) (s t u : State) (list one other : List Observation) (stop : Stop)
+        → Ran code keeps budget s list stop t one → Ran code keeps budget s list Stop.RecorderRefused u other
+        → stop ≢ Stop.RecorderRefused
+        → (rest : List Observation) × (one ≡ other ++ rest) }
+{}
+
+/// Two lists of observations have the same entries exactly where they are one list.
+pub fn entries_tell_observations_apart()
+    ensures { (one other : List Observation) → (entries_of one ≡ entries_of other) ↔ (one ≡ other) }
+{}
+
+/// Two lists of entries have at most one first difference.
+pub fn one_first_difference()
+    ensures { (one other : List Entry) (a b : ℕ)
+        → IsFirstDifference one other a → IsFirstDifference one other b → a ≡ b }
 {}
 
 /// The turn of each kind of instruction, where it stands at the program counter.

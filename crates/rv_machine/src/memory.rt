@@ -1,6 +1,6 @@
 // What a memory is to the machine.
 
-ghost use Rattle.std.specs.Prelude.{◌≡◌, ℕ, Option, false, is_some, IsTrue};
+ghost use Rattle.std.specs.Prelude.{◌≡◌, ℕ, ◌+◌, ◌^◌, ◌<◌, ◌≤◌, Option, false, is_some, IsSome, IfSome, IsTrue};
 ghost use Rattle.rv_machine.specs.Sizes.{byte_count};
 ghost use Rattle.rv_machine.specs.Bytes.{number_at, with_number};
 
@@ -33,7 +33,9 @@ pub trait Memory {
 
     /// The number that these bytes are, the first the lowest; `None` where one of them is no data.
     fn load(&self, a: u32, n: Size) -> Option<u32>
-        ensures { result ≡ number_at (bytes self.now) (byte_count n) a };
+        ensures number { result ≡ number_at (bytes self.now) (byte_count n) a }
+        ensures fits { IfSome result (λ v. v < 256 ^ byte_count n) }
+        ensures within { IsSome result → a + byte_count n ≤ 2 ^ 32 };
 
     /// Makes these bytes the low ones of `v`, and changes no other; answers false, and changes
     /// nothing, where one of them is no data.

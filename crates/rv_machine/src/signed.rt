@@ -1,8 +1,8 @@
 // Words as numbers with a sign, in two's complement.
 
-ghost use Rattle.std.specs.Prelude.{◌≡◌, ◌≢◌, ◌+◌, ◌-◌, ◌*◌, ◌/◌, ◌%◌, ◌^◌, ◌<◌, ◌≤◌, nat_lt, int_le, int_div, int_rem, if◌then◌else◌};
+ghost use Rattle.std.specs.Prelude.{◌≡◌, ◌≢◌, ◌+◌, ◌-◌, ◌*◌, ◌^◌, ◌<◌, ◌≤◌, ◌*ℤ◌, unsigned_abs, nat_lt, int_le, int_div, int_rem, if◌then◌else◌};
 ghost use Rattle.rv_machine.specs.Effects.{signed_less, shifted_signed};
-ghost use Rattle.rv_machine.specs.SignedWords.{signed, word_for, doubled};
+ghost use Rattle.rv_machine.specs.SignedWords.{signed, word_for, high_word};
 
 /// Whether `a` is less than `b`.
 pub(crate) fn less(a: u32, b: u32) -> bool
@@ -58,20 +58,17 @@ pub(crate) fn extend(field: u32, sign: u32) -> u32
     }
 }
 
-/// The number of 64 bits with the sign of a word.
-pub(crate) fn double(a: u32) -> u64
-    ensures value { result ≡ doubled a }
+/// The high word of the product of a word with its sign and a number.
+pub(crate) fn high_product(a: u32, b: i64) -> u32
+    requires { unsigned_abs b < 2 ^ 32 }
+    ensures { result ≡ high_word (signed a *ℤ b) }
 {
-    if a < 0x8000_0000 {
-        u64::from(a)
-    } else {
-        u64::from(a) + 0xffff_ffff_0000_0000
-    }
+    high_word(i64::from(a.cast_signed()) * b)
 }
 
-/// The high word of a product of 64 bits.
-pub(crate) fn high_word(a: u64, b: u64) -> u32
-    ensures { result ≡ (a * b) % 2 ^ 64 / 2 ^ 32 }
+/// The high word of a product.
+fn high_word(product: i64) -> u32
+    ensures { result ≡ high_word product }
 {
-    (a.wrapping_mul(b) >> 32) as u32
+    ((product >> 32) as i32).cast_unsigned()
 }

@@ -66,9 +66,9 @@ pub(crate) fn multiply_value(operation: MultiplyOperation, a: u32, b: u32) -> u3
 {
     match operation {
         MultiplyOperation::Mul => word::multiply(Width::W32, a, b),
-        MultiplyOperation::Mulh => signed::high_word(signed::double(a), signed::double(b)),
-        MultiplyOperation::Mulhsu => signed::high_word(signed::double(a), u64::from(b)),
-        MultiplyOperation::Mulhu => signed::high_word(u64::from(a), u64::from(b)),
+        MultiplyOperation::Mulh => signed::high_product(a, i64::from(b.cast_signed())),
+        MultiplyOperation::Mulhsu => signed::high_product(a, i64::from(b)),
+        MultiplyOperation::Mulhu => ((u64::from(a) * u64::from(b)) >> 32) as u32,
     }
 }
 

@@ -8,7 +8,7 @@ use Rattle.codegen.specs.Layout.{variable_offset, control_offset, slots_from}
 use Rattle.codegen.specs.Room.{IsWord}
 use Rattle.inline.specs.FlatMeaning.{given}
 use Rattle.rv_machine.specs.Bytes.{ByteMap, joined, number_at, with_number, zeros}
-use Rattle.rv_machine.specs.ByteLaws.{number_at_apart, number_at-with_number, number_at-zero, number_at-suc}
+use Rattle.rv_machine.proofs.ByteLaws.{number_at_apart, number_at-with_number, number_at-zero, number_at-suc}
 use Rattle.rv_machine.specs.Machine.{State}
 use Rattle.language.specs.declared.signature.Form.{Form}
 use Rattle.language.specs.declared.signature.Kind.{Kind}

@@ -88,7 +88,7 @@ cut_word W32 n = omega arith
 cut_whole : (w : Width) (n : ℕ) → cut_value w (n % 2 ^ 32) ≡ n % 2 ^ bits w
 cut_whole w n = cut_computes w (n % 2 ^ 32) (omega arith) ∙ cut_word w n
 
-cut_difference : (w : Width) (a b : ℕ) → b < 2 ^ 32 → (a + (2 ^ 32 - b)) % 2 ^ bits w ≡ (a + (2 ^ bits w - b % 2 ^ bits w)) % 2 ^ bits w
+cut_difference : (w : Width) (a b : ℕ) → b < 2 ^ 32 → (a + (2 ^ 32 - b % 2 ^ 32)) % 2 ^ bits w ≡ (a + (2 ^ bits w - b % 2 ^ bits w)) % 2 ^ bits w
 cut_difference W8 a b fits = omega arith
 cut_difference W16 a b fits = omega arith
 cut_difference W32 a b fits = omega arith
@@ -140,7 +140,7 @@ operator_computes BitAnd w a b d p q = refl
 operator_computes ShiftLeft w a b d p q = cut_whole w (a * 2 ^ (b % 32))
 operator_computes ShiftRight w a b d p q = cut_whole w (a / 2 ^ (b % 32))
 operator_computes Add w a b d p q = cut_whole w (a + b)
-operator_computes Subtract w a b d p q = cut_whole w (a + (2 ^ 32 - b)) ∙ cut_difference w a b q
+operator_computes Subtract w a b d p q = cut_whole w (a + (2 ^ 32 - b % 2 ^ 32)) ∙ cut_difference w a b q
 operator_computes Multiply w a b d p q = cut_whole w (a * b)
 operator_computes Divide w a b d p q = absurd (true≢false d)
 operator_computes Remainder w a b d p q = absurd (true≢false d)
@@ -155,7 +155,7 @@ cut_complement W8 b fits = omega arith
 cut_complement W16 b fits = omega arith
 cut_complement W32 b fits = omega arith
 
-cut_negative : (w : Width) (b : ℕ) → b < 2 ^ 32 → (0 + (2 ^ 32 - b)) % 2 ^ bits w ≡ (2 ^ bits w - b % 2 ^ bits w) % 2 ^ bits w
+cut_negative : (w : Width) (b : ℕ) → b < 2 ^ 32 → (0 + (2 ^ 32 - b % 2 ^ 32)) % 2 ^ bits w ≡ (2 ^ bits w - b % 2 ^ bits w) % 2 ^ bits w
 cut_negative W8 b fits = omega arith
 cut_negative W16 b fits = omega arith
 cut_negative W32 b fits = omega arith
@@ -163,7 +163,7 @@ cut_negative W32 b fits = omega arith
 pub prefix_computes : (operator : PrefixOperator) (w : Width) (b : ℕ) → b < 2 ^ 32 → composed_prefix operator w b ≡ prefix_value operator w b
 prefix_computes Not w b fits = ap word_of (grind (arith, nat_tests))
 prefix_computes Complement w b fits = ap (cut_value w) (one_less b fits) ∙ cut_whole w (2 ^ 32 - 1 - b) ∙ cut_complement w b fits
-prefix_computes Negate w b fits = cut_whole w (0 + (2 ^ 32 - b)) ∙ cut_negative w b fits
+prefix_computes Negate w b fits = cut_whole w (0 + (2 ^ 32 - b % 2 ^ 32)) ∙ cut_negative w b fits
 
 -- Rotations.
 

@@ -4,7 +4,7 @@ use Rattle.std.proofs.lemmas.Bool.Decides.{nat_tests}
 use Rattle.branch_removal.specs.StraightMeaning.{StraightState, with_variable, with_controls}
 use Rattle.codegen.specs.Layout.{variable_offset, control_offset}
 use Rattle.rv_machine.specs.Bytes.{ByteMap, number_at}
-use Rattle.rv_machine.specs.ByteLaws.{number_at_apart}
+use Rattle.rv_machine.proofs.ByteLaws.{number_at_apart}
 use Rattle.rv_machine.specs.Machine as machine
 use Rattle.simulation.proofs.Computing.{same_number}
 use Rattle.simulation.proofs.Masks.{mask_of, mask_fits}

@@ -13,11 +13,11 @@ use Rattle.rv_machine.specs.declared.observation.Event.TheVariants as event
 use Rattle.rv_machine.specs.declared.observation.Observation.{Observation}
 use Rattle.rv_machine.specs.Bytes.{number_at, with_number}
 use Rattle.rv_machine.specs.Effects.{effect_of, address_of}
-use Rattle.rv_machine.specs.EndingLaws.{ending_of-Computes}
+use Rattle.rv_machine.proofs.EndingLaws.{ending_of-Computes}
 use Rattle.rv_machine.specs.Leakage.{Leads, stays, turns}
-use Rattle.rv_machine.specs.Machine.{State, Code, ending_of, with_value, with_stored}
+use Rattle.rv_machine.specs.Machine.{State, Code, ending_of, with_value, with_stored, IsAt}
 use Rattle.rv_machine.specs.Registers.{register, with_register}
-use Rattle.rv_machine.specs.TurnLaws.{IsAt, turn_of, with_value-pc, with_value-regs, with_value-bytes, with_stored-pc, with_stored-regs, with_stored-bytes, load_leads, store_leads}
+use Rattle.rv_machine.proofs.TurnLaws.{turn_of, with_value-pc, with_value-regs, with_value-bytes, with_stored-pc, with_stored-regs, with_stored-bytes, load_leads, store_leads}
 use Rattle.branch_removal.specs.StraightMeaning.{StraightState}
 use Rattle.simulation.specs.Compiled.{IsInside}
 use Rattle.simulation.proofs.Straight.{none, always, Placed, Before, Runs}

@@ -10,7 +10,7 @@ use Rattle.rv_machine.specs.declared.observation.Observation.{Observation}
 use Rattle.rv_machine.specs.Leakage.{Leads, stays}
 use Rattle.rv_machine.specs.Machine as machine
 use Rattle.rv_machine.specs.Machine.{Code, word_at}
-use Rattle.rv_machine.specs.RunLaws.{Leads-append}
+use Rattle.rv_machine.proofs.RunLaws.{Leads-append}
 use Rattle.simulation.specs.Compiled.{IsInside}
 
 -- the words of these instructions stand at an address and after it

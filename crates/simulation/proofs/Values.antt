@@ -6,7 +6,7 @@ use Rattle.codegen.specs.Layout.{variable_offset, control_offset}
 use Rattle.inline.specs.Flat.{TermTree}
 use Rattle.inline.specs.FlatMeaning.{value_in}
 use Rattle.rv_machine.specs.Bytes.{ByteMap, number_at}
-use Rattle.rv_machine.specs.ByteLaws.{number_at_apart, number_at-with_number}
+use Rattle.rv_machine.proofs.ByteLaws.{number_at_apart, number_at-with_number}
 use Rattle.rv_machine.specs.Machine as machine
 use Rattle.simulation.proofs.Held.{Held}
 use Rattle.simulation.proofs.Masks.{mask_of}

@@ -20,8 +20,9 @@ use Rattle.rv_machine.specs.declared.observation.Observation.{Observation}
 use Rattle.rv_machine.specs.declared.stops.Stop.TheVariants.{Ecall}
 use Rattle.rv_machine.specs.Leakage.{Halts}
 use Rattle.rv_machine.specs.Machine as machine
-use Rattle.rv_machine.specs.RunLaws.{Halts-after}
-use Rattle.rv_machine.specs.TurnLaws.{IsAt, ecall_halts}
+use Rattle.rv_machine.specs.Machine.{IsAt}
+use Rattle.rv_machine.proofs.RunLaws.{Halts-after}
+use Rattle.rv_machine.proofs.TurnLaws.{ecall_halts}
 use Rattle.language.specs.declared.typing.WordType.{WordType}
 use Rattle.language.specs.declared.values.Arg.{Arg}
 use Rattle.simulation.specs.Compiled.{IsInside, AreBases}

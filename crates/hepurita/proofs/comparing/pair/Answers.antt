@@ -1,7 +1,7 @@
 use Rattle.std.proofs.Common.{List, Err, ap, sym, subst, ◌∙◌}
 use Rattle.std.proofs.lemmas.Result.{err_from_is_err_and}
 use Rattle.arguments.specs.Within.{AreWithin}
-use Rattle.observing.specs.Entries.{entries_of}
+use Rattle.rv_machine.specs.Entries.{entries_of}
 use Rattle.rv_machine.specs.declared.observation.Observation.{Observation}
 use Rattle.language.specs.declared.signature.Param.{Param}
 use Rattle.hepurita.specs.Paired.{Observed, pair_fault, compared}

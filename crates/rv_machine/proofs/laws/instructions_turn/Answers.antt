@@ -1,4 +1,4 @@
-use Rattle.rv_machine.specs.TurnLaws as laws
+use Rattle.rv_machine.proofs.TurnLaws as laws
 use Rattle.rv_machine.proofs.laws.instructions_turn.Goals as goal
 
 pub returns-clause-upper : goal.returns-clause-upper

@@ -1,4 +1,4 @@
-use Rattle.rv_machine.specs.ByteLaws.{number_at-with_number, number_at_apart, is_some-with_number}
+use Rattle.rv_machine.proofs.ByteLaws.{number_at-with_number, number_at_apart, is_some-with_number}
 use Rattle.rv_machine.proofs.laws.numbers_in_bytes.Goals as goal
 
 pub returns-clause-there : goal.returns-clause-there

@@ -1,4 +1,4 @@
-use Rattle.rv_machine.specs.RunLaws.{Leads-determined, Halts-determined, Ran-halts}
+use Rattle.rv_machine.proofs.RunLaws.{Leads-determined, Halts-determined, Ran-halts}
 use Rattle.rv_machine.proofs.laws.one_run.Goals as goal
 
 pub returns-clause-leads : goal.returns-clause-leads

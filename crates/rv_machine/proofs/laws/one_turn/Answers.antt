@@ -1,4 +1,4 @@
-use Rattle.rv_machine.specs.RunLaws.{Turn-determined}
+use Rattle.rv_machine.proofs.RunLaws.{Turn-determined}
 use Rattle.rv_machine.proofs.laws.one_turn.Goals as goal
 
 pub returns : goal.returns

@@ -1,4 +1,4 @@
-use Rattle.rv_machine.specs.RunLaws.{Leads-append, Halts-after}
+use Rattle.rv_machine.proofs.RunLaws.{Leads-append, Halts-after}
 use Rattle.rv_machine.proofs.laws.runs_compose.Goals as goal
 
 pub returns-clause-leads : goal.returns-clause-leads

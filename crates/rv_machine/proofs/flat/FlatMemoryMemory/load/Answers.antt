@@ -6,21 +6,21 @@ use Rattle.rv_machine.specs.Sizes.{byte_count}
 use Rattle.rv_machine.proofs.SizedNumbers.{one_byte, one_more_byte}
 use Rattle.rv_machine.proofs.flat.FlatMemoryMemory.load.Goals as goal
 
-pub returns-in-Byte : goal.returns-in-Byte
-returns-in-Byte c =
+pub returns-in-Byte-clause-number : goal.returns-in-Byte-clause-number
+returns-in-Byte-clause-number c =
     let m = flat_bytes c.args.self.now in
     let at : c.args.self.now.base + c.in_ok-start.start ≡ c.args.a = c.in_ok-start.ensures.within.0 in
     sym (ap (λ n. number_at m (byte_count n) c.args.a) c.in-Byte.is ∙ one_byte m c.args.a _ _ at c.byte.ensures.byte)
 
-pub returns-in-Half : goal.returns-in-Half
-returns-in-Half c =
+pub returns-in-Half-clause-number : goal.returns-in-Half-clause-number
+returns-in-Half-clause-number c =
     let m = flat_bytes c.args.self.now in
     let at : c.args.self.now.base + c.in_ok-start.start ≡ c.args.a = c.in_ok-start.ensures.within.0 in
     let high = one_byte m (c.args.a + 1) _ _ (omega arith) c.byte-in-Half-2.ensures.byte in
     sym (ap (λ n. number_at m (byte_count n) c.args.a) c.in-Half.is ∙ one_more_byte m 1 c.args.a _ _ _ at c.byte-in-Half.ensures.byte high)
 
-pub returns-in-Word : goal.returns-in-Word
-returns-in-Word c =
+pub returns-in-Word-clause-number : goal.returns-in-Word-clause-number
+returns-in-Word-clause-number c =
     let m = flat_bytes c.args.self.now in
     let at : c.args.self.now.base + c.in_ok-start.start ≡ c.args.a = c.in_ok-start.ensures.within.0 in
     let fourth = one_byte m (c.args.a + 1 + 1 + 1) _ _ (omega arith) c.byte-in-Word-2.ensures.byte in

@@ -1,7 +1,7 @@
 -- The bytes that were written are the number's.
 use Rattle.std.proofs.Common.{◌≡◌, ◌+◌, ◌/◌, sym, ap, ◌∙◌, arith}
 use Rattle.rv_machine.specs.Bytes.{with_number}
-use Rattle.rv_machine.specs.ByteLaws.{with_number-zero}
+use Rattle.rv_machine.proofs.ByteLaws.{with_number-zero}
 use Rattle.rv_machine.specs.Flat.{flat_bytes}
 use Rattle.rv_machine.specs.Sizes.{byte_count}
 use Rattle.rv_machine.proofs.SizedNumbers.{one_more_written}

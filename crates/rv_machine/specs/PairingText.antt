@@ -1,8 +1,8 @@
 -- How an answer is printed.
 use Rattle.std.specs.Prelude.{ℕ, List, ◌++◌, codes}
 use Rattle.std.specs.Fmt.{decimal}
-use Rattle.observing.specs.declared.pairing.Pairing.{Pairing}
-use Rattle.observing.specs.declared.pairing.Pairing.TheVariants.{Same, Differ}
+use Rattle.rv_machine.specs.declared.pairing.Pairing.{Pairing}
+use Rattle.rv_machine.specs.declared.pairing.Pairing.TheVariants.{Same, Differ}
 
 abbrev pub pairing_text : Pairing → List ℕ
 pairing_text Same = codes "same"

@@ -3,7 +3,7 @@ use Rattle.std.proofs.Common.{◌≡◌, ◌≢◌, ℕ, List, [], ◌∷◌, �
 use Rattle.std.specs.Prelude.{slice_get}
 use Rattle.rv_machine.specs.declared.observation.Event.{Event}
 use Rattle.rv_machine.specs.declared.observation.Observation.{Observation}
-use Rattle.observing.specs.Entries.{Entry, event, events_of, entries_of, IsFirstDifference}
+use Rattle.rv_machine.specs.Entries.{Entry, event, events_of, entries_of, IsFirstDifference}
 
 -- no list of entries begins with an event
 no_event_first : (e : Event) (list : List Entry) (seen : List Observation) → event e ∷ list ≡ entries_of seen → ⊥

@@ -1,9 +1,9 @@
 use Rattle.std.proofs.Common.{◌≡◌, ◌+◌, ◌<◌, length, arith, add-zero, add_assoc}
 use Rattle.std.proofs.lemmas.Grind.{common_steps}
-use Rattle.observing.specs.Entries.{entries_of, IsFirstDifference}
-use Rattle.observing.specs.declared.pairing.Pairing.TheVariants.{Differ}
-use Rattle.observing.proofs.Turns.{says-same, says-differ, pcs-differ, events-differ, turn-same, turn-moves, one-ends, other-ends, count-few}
-use Rattle.observing.proofs.pairing.first_difference.Goals as goal
+use Rattle.rv_machine.specs.Entries.{entries_of, IsFirstDifference}
+use Rattle.rv_machine.specs.declared.pairing.Pairing.TheVariants.{Differ}
+use Rattle.rv_machine.proofs.Pairs.{says-same, says-differ, pcs-differ, events-differ, turn-same, turn-moves, one-ends, other-ends, count-few}
+use Rattle.rv_machine.proofs.pairing.first_difference.Goals as goal
 
 other_ends : (c : goal.In_default-split_first) → IsFirstDifference (entries_of c.args.one.now) (entries_of c.args.other.now) c.turns.place
 other_ends c =

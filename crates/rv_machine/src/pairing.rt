@@ -1,10 +1,10 @@
 // The first place at which what two runs showed differs.
 
 ghost use Rattle.std.specs.Prelude.{◌≡◌, ◌↔◌, ℕ, ◌∷◌, [], length, IsTrue};
-ghost use Rattle.observing.specs.Entries.{entries_of, IsFirstDifference};
-ghost use Rattle.observing.specs.Text.{pairing_text};
+ghost use Rattle.rv_machine.specs.Entries.{entries_of, IsFirstDifference};
+ghost use Rattle.rv_machine.specs.PairingText.{pairing_text};
 
-use rv_machine::{Event, Observation};
+use crate::observation::{Event, Observation};
 use std::fmt;
 
 /// What two observers' lists are to each other.

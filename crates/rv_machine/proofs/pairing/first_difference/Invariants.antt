@@ -1,6 +1,6 @@
 use Rattle.std.proofs.Common.{◌≡◌, ℕ, ◌+◌, ◌*◌, ◌≤◌, length}
-use Rattle.observing.specs.Entries.{entries_of, IsFirstDifference}
-use Rattle.observing.proofs.pairing.first_difference.Given as goal
+use Rattle.rv_machine.specs.Entries.{entries_of, IsFirstDifference}
+use Rattle.rv_machine.proofs.pairing.first_difference.Given as goal
 
 -- what is found in what is left is found in the whole, after the entries so far
 abbrev pub invariant-turns : goal.invariant-turns

@@ -3,10 +3,10 @@ use Rattle.std.proofs.Common.{◌≡◌, ◌↔◌, ℕ, ◌+◌, List, [], ◌�
 use Rattle.std.specs.Prelude.{slice_get}
 use Rattle.rv_machine.specs.declared.observation.Event.{Event}
 use Rattle.rv_machine.specs.declared.observation.Observation.{Observation}
-use Rattle.observing.specs.declared.pairing.Pairing.{Pairing}
-use Rattle.observing.specs.declared.pairing.Pairing.TheVariants.{Same, Differ}
-use Rattle.observing.specs.Entries.{Entry, program_counter, event, events_of, entries_of, IsFirstDifference}
-use Rattle.observing.specs.EntryLaws.{differ-apart, first-unique}
+use Rattle.rv_machine.specs.declared.pairing.Pairing.{Pairing}
+use Rattle.rv_machine.specs.declared.pairing.Pairing.TheVariants.{Same, Differ}
+use Rattle.rv_machine.specs.Entries.{Entry, program_counter, event, events_of, entries_of, IsFirstDifference}
+use Rattle.rv_machine.proofs.EntryLaws.{differ-apart, first-unique}
 
 -- what an answer says of two lists of entries
 abbrev pub IsPairing : List Entry → List Entry → Pairing → Type 0
