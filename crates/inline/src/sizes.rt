@@ -1,8 +1,8 @@
 // The limits on a program's size.
 
-ghost use Rattle.std.specs.Prelude.{◌≡◌, ◌+◌, ◌-◌, ◌≤◌, ◌↔◌, length, map, IsTrue, IfOk, IfErr};
+ghost use Rattle.std.specs.Prelude.{◌≡◌, ◌+◌, ◌-◌, ◌≤◌, ◌↔◌, Some, length, map, IsTrue, IfOk, IfErr};
 ghost use Rattle.std.specs.Option.{SomeIff};
-ghost use Rattle.language.specs.FirstViolation.{IsRefusedFor};
+ghost use Rattle.language.specs.FirstViolation.{IsFirst};
 ghost use Rattle.language.specs.Size.{nodes_in, nodes_in_all, nodes_passed, call_nodes, right_nodes, return_nodes, statement_nodes, block_nodes, nodes_of, array_words, element_bytes, held_words, parameter_words, statement_words, block_words, size_violations};
 ghost use Rattle.language.specs.Tree.{block_tree, call_tree, expr_tree, parameter_tree, procedure_tree, right_tree, statement_tree};
 
@@ -203,13 +203,14 @@ fn nodes_within(export: &Procedure<'_>) -> Option<u32>
     Some(MOST_NODES - nodes_after_procedure(export)?)
 }
 
-/// How many nodes a procedure has, where it passes no limit; else the first that it passes.
+/// How many nodes a procedure has, where it passes no limit; else the first that it passes. No memory is asked for.
 pub fn measure(export: &Procedure<'_>) -> Result<u32, Refusal>
     ensures nodes { IfOk result (λ nodes. nodes ≡ nodes_of (procedure_tree export.now)) }
     ensures most_nodes { IfOk result (λ nodes. nodes ≤ 6000) }
     ensures most_words { IfOk result (λ _. parameter_words (map parameter_tree export.now.parameters.items) + block_words (block_tree export.now.body.items) ≤ 8192) }
     ensures within { IfOk result (λ _. length (size_violations (procedure_tree export.now)) ≡ 0) }
-    ensures refused { IfErr result (λ refusal. IsRefusedFor (size_violations (procedure_tree export.now)) refusal.rule refusal.place) }
+    ensures place { IfErr result (λ refusal. refusal.place ≡ Some export.now.place) }
+    ensures first { IfErr result (λ refusal. IsFirst (size_violations (procedure_tree export.now)) (record { place = export.now.place; rule = refusal.rule })) }
 {
     let Some(nodes) = nodes_within(export) else {
         return Err(Refusal::at(Rule::InlinedSize, export.place));
