@@ -38,24 +38,24 @@ fn kind_of_binary(operator: BinaryOperator, left: Kind) -> Kind
     ensures { result ≡ operation_kind (operation_of operator) left }
 {
     match operator {
-        BinaryOperator::Either
-        | BinaryOperator::Both
-        | BinaryOperator::Equal
-        | BinaryOperator::Unequal
-        | BinaryOperator::Less
-        | BinaryOperator::LessOrEqual
-        | BinaryOperator::Greater
-        | BinaryOperator::GreaterOrEqual => Kind::Boolean,
-        BinaryOperator::BitOr
-        | BinaryOperator::BitXor
-        | BinaryOperator::BitAnd
-        | BinaryOperator::ShiftLeft
-        | BinaryOperator::ShiftRight
-        | BinaryOperator::Add
-        | BinaryOperator::Subtract
-        | BinaryOperator::Multiply
-        | BinaryOperator::Divide
-        | BinaryOperator::Remainder => left,
+        BinaryOperator::Either => Kind::Boolean,
+        BinaryOperator::Both => Kind::Boolean,
+        BinaryOperator::Equal => Kind::Boolean,
+        BinaryOperator::Unequal => Kind::Boolean,
+        BinaryOperator::Less => Kind::Boolean,
+        BinaryOperator::LessOrEqual => Kind::Boolean,
+        BinaryOperator::Greater => Kind::Boolean,
+        BinaryOperator::GreaterOrEqual => Kind::Boolean,
+        BinaryOperator::BitOr => left,
+        BinaryOperator::BitXor => left,
+        BinaryOperator::BitAnd => left,
+        BinaryOperator::ShiftLeft => left,
+        BinaryOperator::ShiftRight => left,
+        BinaryOperator::Add => left,
+        BinaryOperator::Subtract => left,
+        BinaryOperator::Multiply => left,
+        BinaryOperator::Divide => left,
+        BinaryOperator::Remainder => left,
     }
 }
 

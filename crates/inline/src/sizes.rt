@@ -20,11 +20,13 @@ fn nodes_after(expr: &Expr<'_>, room: u32) -> Option<u32>
 {
     let room = room.checked_sub(1)?;
     match expr {
-        Expr::Number(_, _, _) | Expr::Truth(_, _) | Expr::Name(_, _) => Some(room),
-        Expr::Prefix(_, _, operand)
-        | Expr::Rotate(_, operand, _)
-        | Expr::Convert(_, _, operand)
-        | Expr::Element(_, _, _, operand) => nodes_after(operand, room),
+        Expr::Number(_, _, _) => Some(room),
+        Expr::Truth(_, _) => Some(room),
+        Expr::Name(_, _) => Some(room),
+        Expr::Prefix(_, _, operand) => nodes_after(operand, room),
+        Expr::Rotate(_, operand, _) => nodes_after(operand, room),
+        Expr::Convert(_, _, operand) => nodes_after(operand, room),
+        Expr::Element(_, _, _, index) => nodes_after(index, room),
         Expr::Binary(_, _, left, right) => nodes_after(right, nodes_after(left, room)?),
         Expr::Select(_, condition, accepted, otherwise) => {
             let room = nodes_after(accepted, nodes_after(condition, room)?)?;
