@@ -8,9 +8,9 @@ use Rattle.inline.specs.Flat as flat
 use Rattle.inline.specs.declared.numbering.Numbered.{Numbered}
 use Rattle.language.specs.declared.signature.Kind.{Kind}
 use Rattle.language.specs.declared.signature.Kind.TheVariants.{Boolean}
-use Rattle.language.specs.declared.signature.Param.{Param}
 use Rattle.language.specs.ExprTyping.{operation_of, operation_kind}
 use Rattle.language.specs.Operators.{width_of}
+pub use Rattle.language.specs.Signature.{param_of}
 use Rattle.language.specs.Size.{statement_words, block_words, nodes_of}
 use Rattle.language.specs.Tree.{ExprTree, number, truth, name, prefix, binary, rotate, convert, select, element, RightTree, called, computed, StatementTree, declaration, array, assignment, element_assignment, call, conditional, loop, BlockTree, nothing, first, ParameterTree, ReturnTree, ProcedureTree}
 
@@ -92,10 +92,6 @@ parameter_names p = with_parameters [] 0 p.parameters
 -- where `return` stands
 abbrev pub return_names : ProcedureTree → Numbers
 return_names p = names_after_all (parameter_names p) (length p.parameters) p.body
-
--- the export's parameter, without its name
-abbrev pub param_of : ParameterTree → Param
-param_of p = record { kind = p.kind; label = p.label; form = p.form; length = p.length }
 
 -- a procedure as one body with numbered variables
 abbrev pub flattened : ProcedureTree → FlatProgram

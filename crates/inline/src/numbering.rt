@@ -4,59 +4,19 @@ ghost use Rattle.inline.specs.Flat as flat;
 ghost use Rattle.inline.specs.Flat.{flat_block, flat_tree, term_tree};
 ghost use Rattle.inline.specs.Numbering as numbered;
 ghost use Rattle.names.specs.Scope.{declared};
-ghost use Rattle.language.specs.ExprTyping.{operation_kind, operation_of};
-ghost use Rattle.language.specs.Operators.{width_of};
 ghost use Rattle.language.specs.Size.{block_words, statement_words};
 ghost use Rattle.language.specs.Tree.{block_tree, expr_tree, parameter_tree, right_tree, statement_tree};
 
 use crate::{FlatStatement, Term};
-use language::{BinaryOperator, Expr, Kind, Param, Parameter, RightSide, Statement, WordType};
+use language::{Expr, Kind, Param, Parameter, RightSide, Statement, WordType};
 use names::Names;
 use std::alloc::{AllocError, Global};
-use word::Width;
 
 /// What a name stands for: a variable's number, and its kind.
 #[derive(Clone, Copy)]
 pub struct Numbered {
     pub number: u32,
     pub kind: Kind,
-}
-
-/// The width of a number; a bool lies in the narrowest.
-fn width_of(kind: Kind) -> Width
-    ensures { result ≡ width_of kind }
-{
-    match kind {
-        Kind::Boolean | Kind::Uint8 => Width::W8,
-        Kind::Uint16 => Width::W16,
-        Kind::Uint32 => Width::W32,
-    }
-}
-
-/// The kind of what an operator makes of a left operand of this kind.
-fn kind_of_binary(operator: BinaryOperator, left: Kind) -> Kind
-    ensures { result ≡ operation_kind (operation_of operator) left }
-{
-    match operator {
-        BinaryOperator::Either => Kind::Boolean,
-        BinaryOperator::Both => Kind::Boolean,
-        BinaryOperator::Equal => Kind::Boolean,
-        BinaryOperator::Unequal => Kind::Boolean,
-        BinaryOperator::Less => Kind::Boolean,
-        BinaryOperator::LessOrEqual => Kind::Boolean,
-        BinaryOperator::Greater => Kind::Boolean,
-        BinaryOperator::GreaterOrEqual => Kind::Boolean,
-        BinaryOperator::BitOr => left,
-        BinaryOperator::BitXor => left,
-        BinaryOperator::BitAnd => left,
-        BinaryOperator::ShiftLeft => left,
-        BinaryOperator::ShiftRight => left,
-        BinaryOperator::Add => left,
-        BinaryOperator::Subtract => left,
-        BinaryOperator::Multiply => left,
-        BinaryOperator::Divide => left,
-        BinaryOperator::Remainder => left,
-    }
 }
 
 /// The numbers of the names in scope, and the number that the next declaration gets.
@@ -110,12 +70,7 @@ impl<'a> Numbering<'a> {
         let mut params = Vec::new(self.alloc);
         for parameter in parameters {
             self.declare(parameter.name, parameter.kind)?;
-            params.push(Param {
-                kind: parameter.kind,
-                label: parameter.label,
-                form: parameter.form,
-                length: parameter.length,
-            })?;
+            params.push(parameter.param())?;
         }
         Ok(params)
     }
@@ -148,19 +103,19 @@ impl<'a> Numbering<'a> {
             Expr::Prefix(_, operator, operand) => {
                 let (term, kind) = self.typed(operand)?;
                 let operand = Box::new(alloc, term)?;
-                Ok((Term::Prefix(*operator, width_of(kind), operand), kind))
+                Ok((Term::Prefix(*operator, kind.width(), operand), kind))
             }
             Expr::Binary(_, operator, left, right) => {
                 let (term, kind) = self.typed(left)?;
                 let left = Box::new(alloc, term)?;
                 let right = Box::new(alloc, self.typed(right)?.0)?;
-                let whole = Term::Binary(*operator, width_of(kind), left, right);
-                Ok((whole, kind_of_binary(*operator, kind)))
+                let whole = Term::Binary(*operator, kind.width(), left, right);
+                Ok((whole, operator.result_kind(kind)))
             }
             Expr::Rotate(_, operand, amount) => {
                 let (term, kind) = self.typed(operand)?;
                 let operand = Box::new(alloc, term)?;
-                Ok((Term::Rotate(width_of(kind), operand, *amount), kind))
+                Ok((Term::Rotate(kind.width(), operand, *amount), kind))
             }
             Expr::Convert(_, kind, operand) => {
                 let operand = Box::new(alloc, self.typed(operand)?.0)?;

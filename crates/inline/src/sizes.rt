@@ -3,16 +3,16 @@
 ghost use Rattle.std.specs.Prelude.{◌≡◌, ◌+◌, ◌-◌, ◌≤◌, ◌↔◌, Some, length, map, IsTrue, IfOk, IfErr};
 ghost use Rattle.std.specs.Option.{SomeIff};
 ghost use Rattle.language.specs.FirstViolation.{IsFirst};
-ghost use Rattle.language.specs.Size.{nodes_in, nodes_in_all, nodes_passed, call_nodes, right_nodes, return_nodes, statement_nodes, block_nodes, nodes_of, array_words, element_bytes, held_words, parameter_words, statement_words, block_words, size_violations};
+ghost use Rattle.language.specs.Size.{nodes_in, nodes_in_all, nodes_passed, call_nodes, right_nodes, return_nodes, statement_nodes, block_nodes, nodes_of, parameter_words, statement_words, block_words, size_violations};
 ghost use Rattle.language.specs.Tree.{block_tree, call_tree, expr_tree, parameter_tree, procedure_tree, right_tree, statement_tree};
 
-use language::{Call, Expr, Form, Kind, Parameter, Procedure, Refusal, RightSide, Rule, Statement};
-
-/// The most nodes that a program may have.
-const MOST_NODES: u32 = 6000;
+use language::{
+    Call, Expr, MOST_DECLARED_BYTES, MOST_NODES, Parameter, Procedure, Refusal, RightSide, Rule,
+    Statement,
+};
 
 /// The most words, of 4 bytes each, that the limit on declared bytes allows.
-const MOST_WORDS: usize = 8192;
+const MOST_WORDS: u32 = MOST_DECLARED_BYTES / 4;
 
 /// How much room for nodes an expression leaves, where it fits.
 fn nodes_after(expr: &Expr<'_>, room: u32) -> Option<u32>
@@ -118,28 +118,14 @@ fn nodes_after_block(block: &[Statement<'_>], room: u32) -> Option<u32>
     Some(left)
 }
 
-/// How many words an array takes: the last may be taken in part.
-fn words_of_array(kind: Kind, length: u16) -> usize
-    ensures { result ≡ array_words kind length }
-{
-    let element_bytes = match kind {
-        Kind::Boolean | Kind::Uint8 => 1,
-        Kind::Uint16 => 2,
-        Kind::Uint32 => 4,
-    };
-    (usize::from(length) * element_bytes).div_ceil(4)
-}
-
 /// How much room for declared words a statement leaves, where it fits.
 #[cycle(words)]
-fn words_after_statement(statement: &Statement<'_>, room: usize) -> Option<usize>
+fn words_after_statement(statement: &Statement<'_>, room: u32) -> Option<u32>
     ensures { SomeIff result (statement_words (statement_tree statement.now) ≤ room) (room - statement_words (statement_tree statement.now)) }
 {
     match statement {
         Statement::Declare(_) => room.checked_sub(1),
-        Statement::DeclareArray(array) => {
-            room.checked_sub(words_of_array(array.kind, array.length))
-        }
+        Statement::DeclareArray(array) => { room.checked_sub(array.kind.array_words(array.length)) }
         Statement::Assign(_) | Statement::AssignElement(_) | Statement::Call(_) => Some(room),
         Statement::If(_, _, accepted, otherwise) => {
             words_after_block(otherwise, words_after_block(accepted, room)?)
@@ -150,7 +136,7 @@ fn words_after_statement(statement: &Statement<'_>, room: usize) -> Option<usize
 
 /// How much room for declared words some statements leave, where they fit.
 #[cycle(words)]
-fn words_after_block(block: &[Statement<'_>], room: usize) -> Option<usize>
+fn words_after_block(block: &[Statement<'_>], room: u32) -> Option<u32>
     ensures { SomeIff result (block_words (block_tree block.now) ≤ room) (room - block_words (block_tree block.now)) }
 {
     let mut left = room;
@@ -161,18 +147,12 @@ fn words_after_block(block: &[Statement<'_>], room: usize) -> Option<usize>
 }
 
 /// How much room for words some parameters leave, where they fit.
-fn words_after_parameters(parameters: &[Parameter<'_>], room: usize) -> Option<usize>
+fn words_after_parameters(parameters: &[Parameter<'_>], room: u32) -> Option<u32>
     ensures { SomeIff result (parameter_words (map parameter_tree parameters.now) ≤ room) (room - parameter_words (map parameter_tree parameters.now)) }
 {
     let mut left = room;
     for parameter in parameters {
-        let words = match parameter.form {
-            Form::SingleWord => 1,
-            Form::FixedArray | Form::MutableArray => {
-                words_of_array(parameter.kind, parameter.length)
-            }
-        };
-        left = left.checked_sub(words)?;
+        left = left.checked_sub(parameter.param().words())?;
     }
     Some(left)
 }

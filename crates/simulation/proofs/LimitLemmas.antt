@@ -5,7 +5,8 @@ use Rattle.std.proofs.lemmas.List.{length-map}
 use Rattle.language.specs.declared.rule.Rule.{Rule}
 use Rattle.language.specs.declared.rule.Rule.TheVariants.{InlinedSize, DeclaredBytes}
 use Rattle.language.specs.declared.typing.Violation.{Violation}
-use Rattle.language.specs.Size.{nodes_of, declared_bytes, MOST_NODES, MOST_DECLARED_BYTES, size_violations}
+use Rattle.language.specs.declared.limits.TheConstants.{MOST_NODES, MOST_DECLARED_BYTES}
+use Rattle.language.specs.Size.{nodes_of, declared_bytes, size_violations}
 use Rattle.language.specs.Tree.{ProcedureTree}
 use Rattle.language.specs.Types.{when}
 

@@ -1,6 +1,7 @@
 use Rattle.std.proofs.Common.{◌+◌, ◌<◌, ◌≤◌, map, sym, ◌∙◌, arith}
 use Rattle.std.proofs.lemmas.Bool.{false≢true}
-use Rattle.language.specs.Size.{block_words, declared_bytes, MOST_DECLARED_BYTES, MOST_NODES, nodes_of, parameter_words}
+use Rattle.language.specs.declared.limits.TheConstants.{MOST_DECLARED_BYTES, MOST_NODES}
+use Rattle.language.specs.Size.{block_words, declared_bytes, nodes_of, parameter_words}
 use Rattle.language.specs.Tree.{block_tree, parameter_tree, procedure_tree}
 use Rattle.inline.proofs.SizeLemmas.{too_many_bytes, too_many_nodes}
 use Rattle.inline.proofs.sizes.measure.Goals as goal
