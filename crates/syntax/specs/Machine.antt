@@ -24,7 +24,8 @@ use Rattle.syntax.specs.declared.token.Sign.TheVariants.{RotateLeft, OpenRound, 
 use Rattle.language.specs.declared.typing.WordType.{WordType}
 use Rattle.syntax.specs.Grammar.{prefix_of, operator_of, level_of, left_level_of, rotation_level, prefix_level, label_of, word_of, conversion_of, suffix_kind, amount_of, length_of}
 use Rattle.syntax.specs.Lexeme.{Lexeme}
-use Rattle.syntax.specs.Nesting.{Nest, after, nesting_limit}
+use Rattle.syntax.specs.Nesting.{Nest, after}
+use Rattle.syntax.specs.declared.nesting.TheConstants.{NESTING_LIMIT}
 use Rattle.syntax.specs.Reading.{Answer, accepted, refused}
 use Rattle.syntax.specs.Tokens.{Ending, ends_at, stops}
 use Rattle.language.specs.Tree.{ExprTree, number, truth, name, prefix, binary, rotate, convert, select, element, CallTree, RightTree, called, computed, StatementTree, declaration, array, assignment, element_assignment, call, conditional, loop, BlockTree, nothing, first, ParameterTree, ReturnTree, ProcedureTree, ProgramTree}
@@ -341,7 +342,7 @@ ending_answer (stops rule place) _ = refused rule place
 
 abbrev pub token_answer : Option State → Lexeme → Nest → (State → Answer) → Answer
 token_answer None t nest k = refused UnexpectedToken t.place
-token_answer (Some s) t nest k = if nat_lt nesting_limit nest.count then refused Nesting t.place else k s
+token_answer (Some s) t nest k = if nat_lt NESTING_LIMIT nest.count then refused Nesting t.place else k s
 
 -- the answer from a state on
 abbrev pub verdict : State → Nest → List Lexeme → Ending → Answer
