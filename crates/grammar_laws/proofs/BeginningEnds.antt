@@ -16,11 +16,11 @@ use Rattle.syntax.specs.Cases as cases
 use Rattle.syntax.specs.Cases.{Single, of_kind, any_number, any_amount, any_length, any_label, any_word, any_conversion, any_prefix, the_operator, IsOne, Phrase, Part, one, all, Case}
 use Rattle.syntax.specs.Grammar.{operator_of}
 use Rattle.syntax.specs.Lexeme.{Lexeme}
-use Rattle.syntax.specs.Tokens.{start}
+use Rattle.word.specs.Places.{origin}
 use Rattle.grammar_laws.proofs.BeginningLaws.{ending, token_then, phrase_then, by, frame}
 
 abbrev of : TokenKind → Lexeme
-of kind = record { kind = kind; place = start; text = [] }
+of kind = record { kind = kind; place = origin; text = [] }
 
 abbrev key : Keyword → Lexeme
 key word = of (token.Keyword word)

@@ -6,6 +6,7 @@ use Rattle.std.proofs.lemmas.Option.{same_Some}
 use Rattle.std.specs.Prelude.{nat_le}
 use Rattle.std.specs.Option.{option_map, option_and_then}
 use Rattle.word.specs.declared.place.Place.{Place}
+use Rattle.word.specs.Places.{origin}
 use Rattle.language.specs.declared.signature.Form.TheVariants.{SingleWord, FixedArray, MutableArray}
 use Rattle.language.specs.declared.signature.Kind.{Kind}
 use Rattle.language.specs.declared.signature.Kind.TheVariants.{Boolean}
@@ -383,7 +384,7 @@ program-finishes : (ts : List Lexeme) (p : ProgramTree) → Finishes program ts 
 program-finishes ts p (qs, in_list, is) = subst (λ xs. IsProgram ts (record { procedures = xs })) (sym is) (a_program ts qs in_list)
 
 made : TokenKind → Lexeme
-made kind = record { kind = kind; place = record { offset = 0; line = 1; column = 1 }; text = [] }
+made kind = record { kind = kind; place = origin; text = [] }
 
 made-kind : (kind : TokenKind) → (made kind).kind ≡ kind
 unfolding made

@@ -103,15 +103,23 @@ same-verdict s s' n (t ∷ ts) e last h =
     let n' = after t.kind n in
     ap (λ o. token_answer o t n' (λ next. verdict next n' ts e)) (h t)
 
+-- a further expression of the list
+abbrev pub further : Wanted → List ExprTree → (List ExprTree → State) → State
+further end es k = expr 1 (λ e. more_exprs end (es ++ e ∷ []) k)
+
 -- expressions of a list: a comma and a further one, or the end
 abbrev pub after_exprs : Wanted → List ExprTree → (List ExprTree → State) → State
-after_exprs end es k = either wanted.Comma (λ _. expr 1 (λ e. more_exprs end (es ++ e ∷ []) k)) (one end (λ _. k es))
+after_exprs end es k = either wanted.Comma (λ _. further end es k) (one end (λ _. k es))
 
 pub ahead-exprs : (end : Wanted) (es : List ExprTree) (k : List ExprTree → State) (p : Parser) → ahead (more_exprs end es k) p ≡ ahead (after_exprs end es k) p
 ahead-exprs end es k p = same-verdict (more_exprs end es k) (after_exprs end es k) (nest p.nesting) (lexemes p.rest.now) (ending p.end) refl (λ t. refl)
 
+-- parameters: a comma and a further one, or the end
+abbrev pub further_parameter : List ParameterTree → (List ParameterTree → State) → State
+further_parameter ps k = parameter (λ p. more_parameters (ps ++ p ∷ []) k)
+
 abbrev pub after_parameters : List ParameterTree → (List ParameterTree → State) → State
-after_parameters ps k = either wanted.Comma (λ _. parameter (λ p. more_parameters (ps ++ p ∷ []) k)) (one wanted.CloseRound (λ _. k ps))
+after_parameters ps k = either wanted.Comma (λ _. further_parameter ps k) (one wanted.CloseRound (λ _. k ps))
 
 pub ahead-parameters : (ps : List ParameterTree) (k : List ParameterTree → State) (p : Parser) → ahead (more_parameters ps k) p ≡ ahead (after_parameters ps k) p
 ahead-parameters ps k p = same-verdict (more_parameters ps k) (after_parameters ps k) (nest p.nesting) (lexemes p.rest.now) (ending p.end) refl (λ t. refl)

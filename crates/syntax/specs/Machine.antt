@@ -24,7 +24,8 @@ use Rattle.syntax.specs.declared.token.Sign.TheVariants.{RotateLeft, OpenRound, 
 use Rattle.language.specs.declared.typing.WordType.{WordType}
 use Rattle.syntax.specs.Grammar.{prefix_of, operator_of, level_of, left_level_of, rotation_level, prefix_level, label_of, word_of, conversion_of, suffix_kind, amount_of, length_of}
 use Rattle.syntax.specs.Lexeme.{Lexeme}
-use Rattle.syntax.specs.Nesting.{Nest, after, nesting_limit}
+use Rattle.syntax.specs.Nesting.{Nest, after}
+use Rattle.syntax.specs.declared.nesting.TheConstants.{NESTING_LIMIT}
 use Rattle.syntax.specs.Reading.{Answer, accepted, refused}
 use Rattle.syntax.specs.Tokens.{Ending, ends_at, stops}
 use Rattle.language.specs.Tree.{ExprTree, number, truth, name, prefix, binary, rotate, convert, select, element, CallTree, RightTree, called, computed, StatementTree, declaration, array, assignment, element_assignment, call, conditional, loop, BlockTree, nothing, first, ParameterTree, ReturnTree, ProcedureTree, ProgramTree}
@@ -141,28 +142,28 @@ arguments k = either wanted.CloseRound (λ _. k []) (some_exprs wanted.CloseRoun
 abbrev pub call_of : Lexeme → (CallTree → State) → State
 call_of t k = arguments (λ es. k (record { place = t.place; name = t.text; arguments = es }))
 
+-- an expression and the token that ends it
+abbrev pub ended : Wanted → (ExprTree → State) → State
+ended end k = expr 1 (λ e. one end (λ _. k e))
+
 -- a name's value, or an element's, after the name
 abbrev pub named : Lexeme → (ExprTree → State) → State
-named t k = either wanted.OpenSquare (λ opening. expr 1 (λ e. one wanted.CloseSquare (λ _. k (element opening.place t.place t.text e)))) (k (name t.place t.text))
+named t k = either wanted.OpenSquare (λ opening. ended wanted.CloseSquare (λ e. k (element opening.place t.place t.text e))) (k (name t.place t.text))
 
 -- what follows the keyword of a `select`
 abbrev pub after_select : Place → (ExprTree → State) → State
-after_select place k = one wanted.OpenRound (λ _. expr 1 (λ a. one wanted.Comma (λ _. expr 1 (λ b. one wanted.Comma (λ _. expr 1 (λ c. one wanted.CloseRound (λ _. k (select place a b c))))))))
-
--- an expression, after its opening bracket
-abbrev pub bracketed : (ExprTree → State) → State
-bracketed k = expr 1 (λ e. one wanted.CloseRound (λ _. k e))
+after_select place k = one wanted.OpenRound (λ _. ended wanted.Comma (λ a. ended wanted.Comma (λ b. ended wanted.CloseRound (λ c. k (select place a b c)))))
 
 -- what follows the keyword of a conversion
 abbrev pub converted : Place → Kind → (ExprTree → State) → State
-converted place kind k = one wanted.OpenRound (λ _. bracketed (λ e. k (convert place kind e)))
+converted place kind k = one wanted.OpenRound (λ _. ended wanted.CloseRound (λ e. k (convert place kind e)))
 
 -- what follows the first token of an operand
 abbrev pub operand : Begins → Lexeme → (ExprTree → State) → State
 operand (by_number value suffix) t k = k (number t.place value (suffix_kind suffix))
 operand (by_truth value) t k = k (truth t.place value)
 operand by_name t k = named t k
-operand by_bracket t k = bracketed k
+operand by_bracket t k = ended wanted.CloseRound k
 operand (by_prefix operator) t k = expr prefix_level (λ e. k (prefix t.place operator e))
 operand (by_conversion kind) t k = converted t.place kind k
 operand by_select t k = after_select t.place k
@@ -209,7 +210,7 @@ assigned t equals k = right_end (λ r. k (assignment equals t.place t.text r))
 
 -- an assignment to an element, after its name and `[`
 abbrev pub element_assigned : Lexeme → Place → (StatementTree → State) → State
-element_assigned t opening k = expr 1 (λ i. one wanted.CloseSquare (λ _. one wanted.Assign (λ equals. right_end (λ r. k (element_assignment equals.place opening t.place t.text i r)))))
+element_assigned t opening k = ended wanted.CloseSquare (λ i. one wanted.Assign (λ equals. right_end (λ r. k (element_assignment equals.place opening t.place t.text i r))))
 
 -- a call as a statement, after its name
 abbrev pub called_alone : Lexeme → (StatementTree → State) → State
@@ -225,15 +226,19 @@ block k = one wanted.OpenCurly (λ _. statements (λ b. one wanted.CloseCurly (�
 
 -- a conditional, after its keyword
 abbrev pub conditioned : Place → (StatementTree → State) → State
-conditioned place k = one wanted.OpenRound (λ _. expr 1 (λ e. one wanted.CloseRound (λ _. block (λ a. otherwise (λ b. k (conditional place e a b))))))
+conditioned place k = one wanted.OpenRound (λ _. ended wanted.CloseRound (λ e. block (λ a. otherwise (λ b. k (conditional place e a b)))))
 
 -- what follows `else`
 abbrev pub after_else : (BlockTree → State) → State
 after_else k = either wanted.If (λ word. conditioned word.place (λ s. k (first s nothing))) (block k)
 
+-- the counter of a loop, after its keyword
+abbrev pub counter : (Lexeme → State) → State
+counter k = one wanted.OpenRound (λ _. one wanted.Uint32 (λ _. one wanted.Name (λ t. one wanted.From (λ _. k t))))
+
 -- a loop, after its keyword
 abbrev pub looped : Place → (StatementTree → State) → State
-looped place k = one wanted.OpenRound (λ _. one wanted.Uint32 (λ _. one wanted.Name (λ t. one wanted.From (λ _. expr 1 (λ low. one wanted.To (λ _. expr 1 (λ high. one wanted.CloseRound (λ _. block (λ b. k (loop place t.place t.text low high b))))))))))
+looped place k = counter (λ t. ended wanted.To (λ low. ended wanted.CloseRound (λ high. block (λ b. k (loop place t.place t.text low high b)))))
 
 -- what follows the first token of a statement
 abbrev pub statement : Start → Lexeme → (StatementTree → State) → State
@@ -262,7 +267,7 @@ parameters k = either wanted.CloseRound (λ _. k []) (parameter (λ p. more_para
 
 -- the end of a body
 abbrev pub returned : (Option ReturnTree → State) → State
-returned k = either wanted.Return (λ t. expr 1 (λ e. one wanted.Semicolon (λ _. one wanted.CloseCurly (λ _. k (Some (record { place = t.place; value = e })))))) (one wanted.CloseCurly (λ _. k None))
+returned k = either wanted.Return (λ t. ended wanted.Semicolon (λ e. one wanted.CloseCurly (λ _. k (Some (record { place = t.place; value = e }))))) (one wanted.CloseCurly (λ _. k None))
 
 -- a procedure, after the type of its result
 abbrev pub procedure_from : Option Place → Option WordType → (ProcedureTree → State) → State
@@ -341,7 +346,7 @@ ending_answer (stops rule place) _ = refused rule place
 
 abbrev pub token_answer : Option State → Lexeme → Nest → (State → Answer) → Answer
 token_answer None t nest k = refused UnexpectedToken t.place
-token_answer (Some s) t nest k = if nat_lt nesting_limit nest.count then refused Nesting t.place else k s
+token_answer (Some s) t nest k = if nat_lt NESTING_LIMIT nest.count then refused Nesting t.place else k s
 
 -- the answer from a state on
 abbrev pub verdict : State → Nest → List Lexeme → Ending → Answer

@@ -1,5 +1,6 @@
 -- The tokens that a text spells. Each piece of the text is the longest spelling that stands there.
 use Rattle.std.specs.Prelude.{◌≡◌, ℕ, ◌+◌, ◌≤◌, ◌==◌, if◌then◌else◌, List, [], ◌∷◌, ◌++◌, length, take, drop}
+use Rattle.word.specs.Places.{origin}
 use Rattle.word.specs.declared.place.Place.{Place}
 use Rattle.language.specs.declared.rule.Rule.{Rule}
 use Rattle.language.specs.declared.rule.Rule.TheVariants.{UnknownCharacter, BadNumber as BadNumberRule}
@@ -20,10 +21,6 @@ pub data Ending : Type 0 where
 abbrev pub ending : ListEnd → Ending
 ending (TextEnd place) = ends_at place
 ending (Fault rule place) = stops rule place
-
--- where a text begins
-abbrev pub start : Place
-start = record { offset = 0; line = 1; column = 1 }
 
 -- the place after a byte: a line feed ends the line
 abbrev pub next_place : Place → ℕ → Place
@@ -58,7 +55,7 @@ pub data LexesFrom : Place → List ℕ → List Lexeme → Ending → Type 0 wh
 
 -- the text spells these tokens, with their places, and the list of them ends so
 abbrev pub Lexes : List ℕ → List Lexeme → Ending → Type 0
-Lexes text tokens end = LexesFrom start text tokens end
+Lexes text tokens end = LexesFrom origin text tokens end
 
 -- a text has one list of tokens
 abbrev pub OneList : Type 0

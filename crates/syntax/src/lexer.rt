@@ -1,7 +1,8 @@
 ghost use Rattle.std.specs.Prelude.{◌≡◌, ◌<◌, ◌≤◌, length, IfOk, IfErr, IsErrAnd, Some, None};
 ghost use Rattle.std.specs.List.{All};
 ghost use Rattle.syntax.specs.Lexeme.{lexemes};
-ghost use Rattle.syntax.specs.Tokens.{Lexes, OneList, IsSliceOf, ending, start};
+ghost use Rattle.syntax.specs.Tokens.{Lexes, OneList, IsSliceOf, ending};
+ghost use Rattle.word.specs.Places.{origin};
 ghost use Rattle.language.specs.WantOfMemory.{IsWantOfMemory};
 
 mod letters;
@@ -12,7 +13,7 @@ mod sign;
 
 use crate::{Place, Refusal, Rule, Token};
 use piece::{Piece, split_piece};
-use position::{START, place_after};
+use position::place_after;
 use std::alloc::Global;
 
 /// A text has at most this many bytes.
@@ -40,11 +41,11 @@ pub fn lex(alloc: Global, text: &str) -> Result<Lexed<'_>, Refusal>
 
     // The tokens' texts are cut from the text.
     ensures slices { IfOk result (λ l. All (IsSliceOf text.now) (lexemes l.tokens.items)) }
-    ensures too_long { TEXT_LIMIT < length text.now → IsErrAnd result (λ r. (r.rule ≡ Rule.TextTooLong) × (r.place ≡ Some start)) }
+    ensures too_long { TEXT_LIMIT < length text.now → IsErrAnd result (λ r. (r.rule ≡ Rule.TextTooLong) × (r.place ≡ Some origin)) }
     ensures memory { length text.now ≤ TEXT_LIMIT → IfErr result (λ r. IsWantOfMemory r.rule r.place) }
 {
     if text.len() > TEXT_LIMIT {
-        return Err(Refusal::at(Rule::TextTooLong, START));
+        return Err(Refusal::at(Rule::TextTooLong, Place::ORIGIN));
     }
     tokens_of(alloc, text)
 }
@@ -56,7 +57,7 @@ fn tokens_of(alloc: Global, text: &str) -> Result<Lexed<'_>, Refusal>
     ensures memory { IfErr result (λ r. IsWantOfMemory r.rule r.place) }
 {
     let mut tokens = Vec::new(alloc);
-    let mut place = START;
+    let mut place = Place::ORIGIN;
     let mut rest = text;
     'pieces: while !rest.is_empty() {
         let Some((piece, spelling, others)) = split_piece(rest) else {

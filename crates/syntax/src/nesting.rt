@@ -1,5 +1,6 @@
 ghost use Rattle.std.specs.Prelude.{◌≡◌, ◌<◌, ◌≤◌, OnOk};
-ghost use Rattle.syntax.specs.Nesting.{nesting_limit, effect_of as effect_that};
+ghost use Rattle.syntax.specs.declared.nesting.TheConstants.{NESTING_LIMIT};
+ghost use Rattle.syntax.specs.Nesting.{effect_of as effect_that};
 
 use crate::{Keyword, Sign, TokenKind};
 use std::alloc::{AllocError, Global};
@@ -25,7 +26,7 @@ pub struct Nesting {
     bases: Vec<u8>,
     /// Whether a `}` came last.
     after_block: bool,
-    ghost within: { count ≤ nesting_limit },
+    ghost within: { count ≤ NESTING_LIMIT },
 }
 
 impl Nesting {
@@ -77,7 +78,7 @@ impl Nesting {
 
     /// Takes in a token that comes next.
     pub fn take(&mut self, kind: TokenKind) -> Result<(), AllocError>
-        requires { (after kind (nest self.old)).count ≤ nesting_limit }
+        requires { (after kind (nest self.old)).count ≤ NESTING_LIMIT }
         ensures { OnOk result (nest self.new ≡ after kind (nest self.old)) }
     {
         let count = self.count_after(kind);

@@ -3,13 +3,6 @@ ghost use Rattle.syntax.specs.Tokens.{next_place, place_after};
 
 use crate::Place;
 
-/// Where a text begins.
-pub const START: Place = Place {
-    offset: 0,
-    line: 1,
-    column: 1,
-};
-
 /// The place after some bytes.
 pub fn place_after(from: Place, bytes: &[u8]) -> Place
     requires room { from.offset + length bytes.now < 2 ^ 31 }

@@ -126,8 +126,7 @@ impl<'t, 'a> Parser<'t, 'a> {
             → Leads (element_assigned (lexeme name.entry) bracket k) (λ s. k (statement_tree s)) result self.old self.new }
         ensures shorter { OnOk result (length self.new.rest.now ≤ length self.old.rest.now) }
     {
-        let index = self.expression(1)?;
-        self.expect(Wanted::CloseSquare)?;
+        let index = self.expression_to(Wanted::CloseSquare)?;
         let sign = self.expect(Wanted::Assign)?;
         let value = self.right_end()?;
         Ok(Statement::AssignElement(ElementAssignment {

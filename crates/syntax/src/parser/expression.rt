@@ -1,6 +1,6 @@
 ghost use Rattle.std.specs.Prelude.{◌≡◌, ◌≤◌, ◌<◌, ℕ, IfOk, IfErr, OnOk, OnSome, length};
 ghost use Rattle.syntax.specs.Lexeme.{lexeme};
-ghost use Rattle.syntax.specs.Machine.{State, expr, more, operand as operand_state, named as named_state, linked, link_level, after_select, converted, bracketed as bracketed_state};
+ghost use Rattle.syntax.specs.Machine.{State, expr, more, operand as operand_state, named as named_state, linked, link_level, after_select, converted, ended};
 ghost use Rattle.syntax.specs.ParserViews.{Leads, after_sign};
 ghost use Rattle.language.specs.Tree.{ExprTree, expr_tree, prefix as prefix_tree, binary as binary_tree, rotate as rotate_tree, convert as convert_tree, select as select_tree, element as element_tree};
 
@@ -207,7 +207,7 @@ impl<'t, 'a> Parser<'t, 'a> {
             )),
             Begins::Truth(value) => Ok(Expr::Truth(token.place, value)),
             Begins::Name => self.named(token),
-            Begins::Bracket => self.bracketed(),
+            Begins::Bracket => self.expression_to(Wanted::CloseRound),
             Begins::Prefix(operator) => {
                 let operand = self.expression(PREFIX_LEVEL)?;
                 prefix(self.alloc, token.place, operator, operand)
@@ -227,22 +227,21 @@ impl<'t, 'a> Parser<'t, 'a> {
         match self.takes(Wanted::OpenSquare)? {
             None => Ok(Expr::Name(name.place, name.text)),
             Some(opening) => {
-                let index = self.expression(1)?;
-                self.expect(Wanted::CloseSquare)?;
+                let index = self.expression_to(Wanted::CloseSquare)?;
                 element(self.alloc, opening.place, name, index)
             }
         }
     }
 
-    /// An expression, after its opening bracket, and the closing one.
+    /// An expression, and the token that ends it.
     #[cycle(expression)]
-    fn bracketed(&mut self) -> Result<Expr<'a>, Fault>
+    pub fn expression_to(&mut self, end: Wanted) -> Result<Expr<'a>, Fault>
         ensures leads { (k : ExprTree → State)
-            → Leads (bracketed_state k) (λ e. k (expr_tree e)) result self.old self.new }
-        ensures shorter { OnOk result (length self.new.rest.now ≤ length self.old.rest.now) }
+            → Leads (ended end k) (λ e. k (expr_tree e)) result self.old self.new }
+        ensures shorter { OnOk result (length self.new.rest.now < length self.old.rest.now) }
     {
         let expression = self.expression(1)?;
-        self.expect(Wanted::CloseRound)?;
+        self.expect(end)?;
         Ok(expression)
     }
 
@@ -254,7 +253,7 @@ impl<'t, 'a> Parser<'t, 'a> {
         ensures shorter { OnOk result (length self.new.rest.now ≤ length self.old.rest.now) }
     {
         self.expect(Wanted::OpenRound)?;
-        let operand = self.bracketed()?;
+        let operand = self.expression_to(Wanted::CloseRound)?;
         convert(self.alloc, place, kind, operand)
     }
 
@@ -266,12 +265,9 @@ impl<'t, 'a> Parser<'t, 'a> {
         ensures shorter { OnOk result (length self.new.rest.now ≤ length self.old.rest.now) }
     {
         self.expect(Wanted::OpenRound)?;
-        let condition = self.expression(1)?;
-        self.expect(Wanted::Comma)?;
-        let accepted = self.expression(1)?;
-        self.expect(Wanted::Comma)?;
-        let otherwise = self.expression(1)?;
-        self.expect(Wanted::CloseRound)?;
+        let condition = self.expression_to(Wanted::Comma)?;
+        let accepted = self.expression_to(Wanted::Comma)?;
+        let otherwise = self.expression_to(Wanted::CloseRound)?;
         select(self.alloc, place, condition, accepted, otherwise)
     }
 }

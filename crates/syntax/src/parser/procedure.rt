@@ -69,9 +69,11 @@ impl<'t, 'a> Parser<'t, 'a> {
         if self.takes(Wanted::CloseRound)?.is_some() {
             return Ok(parameters);
         }
-        parameters.push(self.parameter()?)?;
-        while self.takes(Wanted::Comma)?.is_some() {
+        'list: loop {
             parameters.push(self.parameter()?)?;
+            if self.takes(Wanted::Comma)?.is_none() {
+                break 'list;
+            }
         }
         self.expect(Wanted::CloseRound)?;
         Ok(parameters)
@@ -139,8 +141,7 @@ impl<'t, 'a> Parser<'t, 'a> {
             self.expect(Wanted::CloseCurly)?;
             return Ok(None);
         };
-        let value = self.expression(1)?;
-        self.expect(Wanted::Semicolon)?;
+        let value = self.expression_to(Wanted::Semicolon)?;
         self.expect(Wanted::CloseCurly)?;
         Ok(Some(Return {
             place: word.place,

@@ -16,9 +16,11 @@ impl<'t, 'a> Parser<'t, 'a> {
         ensures shorter { OnOk result (length self.new.rest.now < length self.old.rest.now) }
     {
         let mut expressions = Vec::new(self.alloc);
-        expressions.push(self.expression(1)?)?;
-        while self.takes(Wanted::Comma)?.is_some() {
+        'list: loop {
             expressions.push(self.expression(1)?)?;
+            if self.takes(Wanted::Comma)?.is_none() {
+                break 'list;
+            }
         }
         self.expect(end)?;
         Ok(expressions)

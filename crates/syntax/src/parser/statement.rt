@@ -1,6 +1,6 @@
 ghost use Rattle.std.specs.Prelude.{◌≡◌, ◌≤◌, ◌<◌, IfOk, IfErr, OnOk, OnSome, length};
-ghost use Rattle.syntax.specs.Lexeme.{lexeme};
-ghost use Rattle.syntax.specs.Machine.{State, starts_with, statements as statements_state, statement as statement_state, conditioned, looped, block as block_state, otherwise as otherwise_state, after_else};
+ghost use Rattle.syntax.specs.Lexeme.{Lexeme, lexeme};
+ghost use Rattle.syntax.specs.Machine.{State, starts_with, statements as statements_state, statement as statement_state, conditioned, counter as counter_state, looped, block as block_state, otherwise as otherwise_state, after_else};
 ghost use Rattle.syntax.specs.ParserViews.{Leads, after_start};
 ghost use Rattle.language.specs.Tree.{StatementTree, BlockTree, statement_tree, block_tree};
 
@@ -92,11 +92,23 @@ impl<'t, 'a> Parser<'t, 'a> {
         ensures shorter { OnOk result (length self.new.rest.now ≤ length self.old.rest.now) }
     {
         self.expect(Wanted::OpenRound)?;
-        let condition = self.expression(1)?;
-        self.expect(Wanted::CloseRound)?;
+        let condition = self.expression_to(Wanted::CloseRound)?;
         let accepted = self.block()?;
         let otherwise = self.otherwise()?;
         Ok(Statement::If(place, condition, accepted, otherwise))
+    }
+
+    /// The counter of a loop, after its keyword, and the word before its first number.
+    fn counter(&mut self) -> Result<Token<'a>, Fault>
+        ensures leads { (k : Lexeme → State)
+            → Leads (counter_state k) (λ t. k (lexeme t)) result self.old self.new }
+        ensures shorter { OnOk result (length self.new.rest.now < length self.old.rest.now) }
+    {
+        self.expect(Wanted::OpenRound)?;
+        self.expect(Wanted::Uint32)?;
+        let name = self.expect(Wanted::Name)?;
+        self.expect(Wanted::From)?;
+        Ok(name)
     }
 
     /// A loop, after its keyword.
@@ -106,14 +118,9 @@ impl<'t, 'a> Parser<'t, 'a> {
             → Leads (looped place k) (λ s. k (statement_tree s)) result self.old self.new }
         ensures shorter { OnOk result (length self.new.rest.now ≤ length self.old.rest.now) }
     {
-        self.expect(Wanted::OpenRound)?;
-        self.expect(Wanted::Uint32)?;
-        let name = self.expect(Wanted::Name)?;
-        self.expect(Wanted::From)?;
-        let low = self.expression(1)?;
-        self.expect(Wanted::To)?;
-        let high = self.expression(1)?;
-        self.expect(Wanted::CloseRound)?;
+        let name = self.counter()?;
+        let low = self.expression_to(Wanted::To)?;
+        let high = self.expression_to(Wanted::CloseRound)?;
         let body = self.block()?;
         let counter = Counter {
             place: name.place,

@@ -11,9 +11,7 @@ use super::wanted::Wanted;
 use super::{Fault, Parser};
 use crate::nesting::NESTING_LIMIT;
 use crate::{Keyword, Kind, Label, ListEnd, Rule, Token, TokenKind};
-
-/// The most elements of an array.
-const LENGTH_LIMIT: u32 = 4096;
+use language::MOST_ELEMENTS;
 
 /// The label that a keyword names.
 pub fn label_of(kind: TokenKind) -> Option<Label>
@@ -57,7 +55,7 @@ fn length_of(kind: TokenKind) -> Option<u16>
     ensures { result ≡ length_that kind }
 {
     let length = amount_of(kind)?;
-    if 1 <= length && length <= LENGTH_LIMIT {
+    if 1 <= length && length <= u32::from(MOST_ELEMENTS) {
         Some(length as u16)
     } else {
         None

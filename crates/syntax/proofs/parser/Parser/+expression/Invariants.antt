@@ -22,8 +22,8 @@ decreases-operand_from l = 8 * length l.self.now.rest.now + 5
 abbrev pub decreases-named : goal.decreases-named
 decreases-named l = 8 * length l.self.now.rest.now + 4
 
-abbrev pub decreases-bracketed : goal.decreases-bracketed
-decreases-bracketed l = 8 * length l.self.now.rest.now + 3
+abbrev pub decreases-expression_to : goal.decreases-expression_to
+decreases-expression_to l = 8 * length l.self.now.rest.now + 3
 
 abbrev pub decreases-conversion : goal.decreases-conversion
 decreases-conversion l = 8 * length l.self.now.rest.now + 4

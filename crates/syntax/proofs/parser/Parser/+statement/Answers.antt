@@ -1,7 +1,7 @@
 use Rattle.std.proofs.Common.{◌≡◌, ◌∙◌, None, arith, rules, ap, sym, subst}
 use Rattle.syntax.specs.declared.parser.wanted.Wanted.TheVariants as wanted
 use Rattle.syntax.specs.Lexeme.{Lexeme, lexeme}
-use Rattle.syntax.specs.Machine.{statements, block, otherwise, after_else, conditioned, expr, one, either}
+use Rattle.syntax.specs.Machine.{statements, block, otherwise, after_else, conditioned, ended, either}
 use Rattle.syntax.specs.ParserViews.{ahead, after_start}
 use Rattle.language.specs.Tree.{ExprTree, BlockTree, nothing, first, conditional, loop, expr_tree, block_tree}
 use Rattle.syntax.proofs.ParserSteps.{passed-after, leads-after, after-taken, after-none, ahead-otherwise, more_statements}
@@ -20,9 +20,8 @@ conditional-returns-clause-leads t c = λ k.
     let k₁ = λ (e : ExprTree). block (λ a. otherwise (λ b. k (conditional c.args.place e a b))) in
     let k₂ = λ (a : BlockTree). otherwise (λ b. k (conditional c.args.place (expr_tree c.in_ok-condition.condition) a b)) in
     let k₃ = λ (b : BlockTree). k (conditional c.args.place (expr_tree c.in_ok-condition.condition) (block_tree c.in_ok-accepted.accepted.items) b) in
-    c.in_ok-expect.ensures.leads (λ _. expr 1 (λ e. one wanted.CloseRound (λ _. k₁ e)))
-    ∙ c.in_ok-condition.ensures.leads (λ e. one wanted.CloseRound (λ _. k₁ e))
-    ∙ c.in_ok-expect-2.ensures.leads (λ _. k₁ (expr_tree c.in_ok-condition.condition))
+    c.in_ok-expect.ensures.leads (λ _. ended wanted.CloseRound k₁)
+    ∙ c.in_ok-condition.ensures.leads k₁
     ∙ c.in_ok-accepted.ensures.leads k₂
     ∙ c.in_ok-otherwise.ensures.leads k₃
     ∙ ap (λ s. ahead (k s) c.otherwise.new.self) (sym (row_trees.arms c.args.place c.in_ok-condition.condition c.in_ok-accepted.accepted c.in_ok-otherwise.otherwise))
@@ -30,19 +29,13 @@ conditional-returns-clause-leads t c = λ k.
 pub counted-returns-clause-leads : goal.counted-returns-clause-leads
 counted-returns-clause-leads t c = λ k.
     let made = λ (t : Lexeme) (low high : ExprTree) (b : BlockTree). k (loop c.args.place t.place t.text low high b) in
-    let k₂ = λ (t : Lexeme) (low : ExprTree). expr 1 (λ high. one wanted.CloseRound (λ _. block (made t low high))) in
-    let k₁ = λ (t : Lexeme). one wanted.From (λ _. expr 1 (λ low. one wanted.To (λ _. k₂ t low))) in
+    let k₂ = λ (t : Lexeme) (low : ExprTree). ended wanted.CloseRound (λ high. block (made t low high)) in
     let name = lexeme c.in_ok-name.name in
     let low = expr_tree c.in_ok-low.low in
     let high = expr_tree c.in_ok-high.high in
-    c.in_ok-expect.ensures.leads (λ _. one wanted.Uint32 (λ _. one wanted.Name k₁))
-    ∙ c.in_ok-expect-2.ensures.leads (λ _. one wanted.Name k₁)
-    ∙ c.in_ok-name.ensures.leads k₁
-    ∙ c.in_ok-expect-3.ensures.leads (λ _. expr 1 (λ low. one wanted.To (λ _. k₂ name low)))
-    ∙ c.in_ok-low.ensures.leads (λ low. one wanted.To (λ _. k₂ name low))
-    ∙ c.in_ok-expect-4.ensures.leads (λ _. k₂ name low)
-    ∙ c.in_ok-high.ensures.leads (λ high. one wanted.CloseRound (λ _. block (made name low high)))
-    ∙ c.in_ok-expect-5.ensures.leads (λ _. block (made name low high))
+    c.in_ok-name.ensures.leads (λ t. ended wanted.To (k₂ t))
+    ∙ c.in_ok-low.ensures.leads (k₂ name)
+    ∙ c.in_ok-high.ensures.leads (λ high. block (made name low high))
     ∙ c.in_ok-body.ensures.leads (made name low high)
     ∙ ap (λ s. ahead (k s) c.block.new.self) (sym (row_trees.bodies c.args.place (record { place = c.in_ok-name.name.place; name = c.in_ok-name.name.text }) c.in_ok-low.low c.in_ok-high.high c.in_ok-body.body))
 

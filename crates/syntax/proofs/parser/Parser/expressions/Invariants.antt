@@ -1,14 +1,15 @@
-use Rattle.std.proofs.Common.{◌≡◌, ◌<◌, map, List, length}
-use Rattle.syntax.specs.Machine.{State, some_exprs, more_exprs}
+use Rattle.std.proofs.Common.{◌≡◌, ◌≤◌, map, List, length}
+use Rattle.syntax.specs.Machine.{State, some_exprs}
 use Rattle.syntax.specs.ParserViews.{ahead}
 use Rattle.language.specs.Tree.{ExprTree, expr_tree}
+use Rattle.syntax.proofs.ParserSteps.{further}
 use Rattle.syntax.proofs.parser.Parser.expressions.Given as goal
 
-abbrev pub invariant-loop-expressions : goal.invariant-loop-expressions
-invariant-loop-expressions l = record {
-  same : (k : List ExprTree → State) → ahead (some_exprs l.end k) l.fn.self ≡ ahead (more_exprs l.end (map expr_tree l.expressions.items) k) l.self;
-  shorter : length l.self.rest.now < length l.fn.self.rest.now;
+abbrev pub invariant-list : goal.invariant-list
+invariant-list l = record {
+  same : (k : List ExprTree → State) → ahead (some_exprs l.end k) l.fn.self ≡ ahead (further l.end (map expr_tree l.expressions.items) k) l.self;
+  shorter : length l.self.rest.now ≤ length l.fn.self.rest.now;
 }
 
-abbrev pub decreases-loop-expressions : goal.decreases-loop-expressions
-decreases-loop-expressions l = length l.self.rest.now
+abbrev pub decreases-list : goal.decreases-list
+decreases-list l = length l.self.rest.now
