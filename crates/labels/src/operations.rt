@@ -24,7 +24,7 @@ pub fn operation(operator: BinaryOperator) -> Operation
         BinaryOperator::ShiftRight => Operation::Shift,
         BinaryOperator::Add => Operation::Arithmetic,
         BinaryOperator::Subtract => Operation::Arithmetic,
-        BinaryOperator::Multiply => Operation::Arithmetic,
+        BinaryOperator::Multiply => Operation::Multiplication,
         BinaryOperator::Divide => Operation::Division,
         BinaryOperator::Remainder => Operation::Division,
     }
@@ -36,6 +36,7 @@ pub fn is_uneven(operation: Operation, left: ValueType, right: ValueType) -> boo
 {
     match operation {
         Operation::Arithmetic => widths_differ(left, right),
+        Operation::Multiplication => widths_differ(left, right),
         Operation::Division => widths_differ(left, right),
         Operation::Shift => is_narrow(right),
         Operation::Equality => widths_differ(left, right),
@@ -50,6 +51,7 @@ pub fn takes(operation: Operation, left: ValueType, right: ValueType) -> bool
 {
     match operation {
         Operation::Arithmetic => is_numeric(left) && is_numeric(right),
+        Operation::Multiplication => is_numeric(left) && is_numeric(right),
         Operation::Division => is_numeric(left) && is_numeric(right),
         Operation::Shift => is_numeric(left) && is_numeric(right),
         Operation::Equality => are_alike(left, right),
@@ -65,6 +67,7 @@ pub fn divides_secret(operation: Operation, left: ValueType, right: ValueType) -
     match operation {
         Operation::Division => is_hidden(left) || is_hidden(right),
         Operation::Arithmetic => false,
+        Operation::Multiplication => false,
         Operation::Shift => false,
         Operation::Equality => false,
         Operation::Order => false,
@@ -78,6 +81,7 @@ pub fn operation_kind(operation: Operation, kind: Kind) -> Kind
 {
     match operation {
         Operation::Arithmetic => kind,
+        Operation::Multiplication => kind,
         Operation::Division => kind,
         Operation::Shift => kind,
         Operation::Equality => Kind::Boolean,

@@ -59,7 +59,9 @@ pub struct Violation {
 pub enum Operation {
     /// A number of two numbers of one width.
     Arithmetic,
-    /// The same of public ones.
+    /// The product of two numbers of one width.
+    Multiplication,
+    /// A number of two public numbers of one width.
     Division,
     /// A number of a number, and of a `uint32` by which it is shifted.
     Shift,
