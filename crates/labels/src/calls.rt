@@ -11,7 +11,9 @@ use crate::clashes::arrays_clash;
 use crate::expressions::expressions;
 use crate::first::First;
 use crate::kinds::{callee, is_secret};
-use language::{Call, Callee, Declared, Label, Parameter, Place, Procedure, Rule, ValueType, WordType};
+use language::{
+    Call, Callee, Declared, Label, Parameter, Place, Procedure, Rule, ValueType, WordType,
+};
 use names::Names;
 use std::alloc::{AllocError, Global};
 
@@ -74,7 +76,11 @@ fn note_call_control(first: &mut First, place: Place, control: Label, callee: Ca
 fn given(met: bool, wanted: Option<WordType>) -> Option<ValueType>
     ensures { result ≡ (if met then Some (result_value wanted) else None) }
 {
-    if met { Some(result_value(wanted)) } else { None }
+    if met {
+        Some(result_value(wanted))
+    } else {
+        None
+    }
 }
 
 /// Notes what a call violates, and gives its type where it is well typed.

@@ -22,9 +22,9 @@ use Rattle.language.specs.declared.typing.ValueType.TheVariants.{Word, Array}
 use Rattle.language.specs.declared.typing.WordType.{WordType}
 use Rattle.language.specs.ExprTyping.{operation_of}
 use Rattle.language.specs.Grammatical.{IsNumberKind}
-use Rattle.language.specs.Tree.{ExprTree, number, truth, name, prefix, binary, rotate, convert, select, element, CallTree, RightTree, called, computed, StatementTree, declaration, array, assignment, element_assignment, call, conditional, loop, BlockTree, nothing, first, ParameterTree, ReturnTree, ProcedureTree, ProgramTree}
+use Rattle.language.specs.Tree.{ExprTree, number, truth, name, prefix, binary, rotate, convert, select, element, CallTree, RightTree, called, computed, StatementTree, declaration, array, assignment, element_assignment, call, conditional, loop, BlockTree, nothing, first, ParameterTree, ReturnTree, ProcedureTree, ProgramTree, written}
 use Rattle.language.specs.Types.{Scope, found, declared, bits_of, joined, word}
-use Rattle.language.specs.Typing.{same_name, is_mutable, result_value, written, counter_as, parameter_as, scope_after, scope_after_all, with_procedure, body_scope, exports}
+use Rattle.language.specs.Typing.{same_name, is_mutable, result_value, counter_as, parameter_as, scope_after, scope_after_all, with_procedure, body_scope, exports}
 
 -- Types.
 

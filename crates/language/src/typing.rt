@@ -81,8 +81,13 @@ impl Operation {
         ensures { result ≡ operation_kind self first }
     {
         match self {
-            Operation::Arithmetic | Operation::Division | Operation::Shift => first,
-            Operation::Equality | Operation::Order | Operation::Logic => Kind::Boolean,
+            Operation::Arithmetic => first,
+            Operation::Multiplication => first,
+            Operation::Division => first,
+            Operation::Shift => first,
+            Operation::Equality => Kind::Boolean,
+            Operation::Order => Kind::Boolean,
+            Operation::Logic => Kind::Boolean,
         }
     }
 }
