@@ -4,7 +4,6 @@ ghost use Rattle.coverage.specs.Earliest.{sooner};
 ghost use Rattle.coverage.specs.NotCompiled.{uncompiled_call, uncompiled_expr, uncompiled_exprs, uncompiled_right};
 
 use crate::earliest::Earliest;
-use crate::forms::divides;
 use language::{Call, Expr, RightSide};
 
 /// Notes the nodes of an expression that are not compiled.
@@ -17,7 +16,7 @@ pub fn note_expr(earliest: &mut Earliest, expr: &Expr<'_>)
         Expr::Name(_, _) => {}
         Expr::Prefix(_, _, operand) => note_expr(earliest, operand),
         Expr::Binary(place, operator, left, right) => {
-            earliest.note_if(divides(*operator), *place);
+            earliest.note_if(operator.divides(), *place);
             note_expr(earliest, left);
             note_expr(earliest, right);
         }

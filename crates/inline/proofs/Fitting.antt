@@ -24,7 +24,7 @@ use Rattle.language.specs.Grammatical.{IsNumberKind}
 use Rattle.language.specs.Operators.{divides, operated, prefix_value, truth_of, width_of}
 use Rattle.language.specs.Types.{is_number, word}
 use Rattle.inline.proofs.NodeTypes.{prefix_typed, binary_typed, rotate_typed, convert_typed, select_typed}
-use Rattle.inline.proofs.OperandKinds.{a_number, a_bool, arithmetic_kinds, shifted_kind, rotated_kind, choice_kinds}
+use Rattle.inline.proofs.OperandKinds.{a_number, a_bool, arithmetic_kinds, product_kind, shifted_kind, rotated_kind, choice_kinds}
 use Rattle.inline.proofs.Rules.{is_met}
 
 -- Words.
@@ -75,7 +75,7 @@ operated_fits ShiftLeft k l m n a b whole none low high = of_number k _ (shifted
 operated_fits ShiftRight k l m n a b whole none low high = of_number k _ (shifted_kind k l m n none) (wrapped_fits (width_of k) _)
 operated_fits Add k l m n a b whole none low high = of_number k _ (arithmetic_kinds k l m n none).0 (wrapped_fits (width_of k) _)
 operated_fits Subtract k l m n a b whole none low high = of_number k _ (arithmetic_kinds k l m n none).0 (wrapped_fits (width_of k) _)
-operated_fits Multiply k l m n a b whole none low high = of_number k _ (arithmetic_kinds k l m n none).0 (wrapped_fits (width_of k) _)
+operated_fits Multiply k l m n a b whole none low high = of_number k _ (product_kind k l m n none) (wrapped_fits (width_of k) _)
 operated_fits Divide k l m n a b whole none low high = absurd (true≢false whole)
 operated_fits Remainder k l m n a b whole none low high = absurd (true≢false whole)
 

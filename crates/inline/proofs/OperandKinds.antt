@@ -6,7 +6,7 @@ use Rattle.language.specs.declared.signature.Kind.TheVariants.{Boolean, Uint8, U
 use Rattle.language.specs.declared.signature.Label.{Label}
 use Rattle.language.specs.declared.signature.Label.TheVariants.{Public, Secret}
 use Rattle.language.specs.declared.typing.Operation.{Operation}
-use Rattle.language.specs.declared.typing.Operation.TheVariants.{Arithmetic, Shift}
+use Rattle.language.specs.declared.typing.Operation.TheVariants.{Arithmetic, Multiplication, Shift}
 use Rattle.language.specs.ExprTyping.{operation_rules, rotate_rules, rotates_within, select_rules, is_uneven, takes}
 use Rattle.language.specs.Grammatical.{IsNumberKind}
 use Rattle.language.specs.Types.{when, word, is_number, is_secret, widths_differ, are_alike}
@@ -70,6 +70,9 @@ arithmetic_kinds k l m n none =
       a_number k (both (is_number k) (is_number l) kinds).0,
       one_kind k l m n (even_widths Arithmetic k l m n none) (ap (λ b. b || (not (is_number k) && not (is_number l))) kinds),
     )
+
+pub product_kind : (k l : Kind) (m n : Label) → length (operation_rules Multiplication (word k m) (word l n)) ≡ 0 → IsNumberKind k
+product_kind k l m n none = a_number k (both (is_number k) (is_number l) (taken Multiplication k l m n none)).0
 
 -- a number is shifted
 pub shifted_kind : (k l : Kind) (m n : Label) → length (operation_rules Shift (word k m) (word l n)) ≡ 0 → IsNumberKind k

@@ -1,7 +1,7 @@
-ghost use Rattle.std.specs.Prelude.{◌≡◌, ◌++◌, None, Some, fold, length, map, IfOk, OnOk};
+ghost use Rattle.std.specs.Prelude.{◌≡◌, ◌&&◌, None, Some, fold, length, map, IfOk, OnOk, if◌then◌else◌};
 ghost use Rattle.std.specs.Option.{option_map};
 ghost use Rattle.language.specs.Tree.{call_tree, expr_tree, parameter_tree, procedure_tree};
-ghost use Rattle.language.specs.Types.{are_met, at, unless, when};
+ghost use Rattle.language.specs.Types.{are_met, at, is_secret, when};
 ghost use Rattle.language.specs.Typing.{arguments_rules, call_type, call_violations, called_one, result_value};
 ghost use Rattle.language.specs.declared.rule.Rule.TheVariants.{CallAssignsPublicUnderSecretControl};
 ghost use Rattle.labels.specs.Sooner.{sooner};
@@ -11,7 +11,9 @@ use crate::clashes::arrays_clash;
 use crate::expressions::expressions;
 use crate::first::First;
 use crate::kinds::{callee, is_secret};
-use language::{Call, Callee, Declared, Label, Parameter, Procedure, Rule, ValueType, WordType};
+use language::{
+    Call, Callee, Declared, Label, Parameter, Place, Procedure, Rule, ValueType, WordType,
+};
 use names::Names;
 use std::alloc::{AllocError, Global};
 
@@ -60,6 +62,27 @@ fn called<'p, 'a>(
     Some((callee, earlier.get(callee.number)?))
 }
 
+/// Notes a call under secret control that may assign to something public, and says whether it is none.
+fn note_call_control(first: &mut First, place: Place, control: Label, callee: Callee) -> bool
+    ensures met { result ≡ are_met (when (is_secret control && callee.assigns_public) CallAssignsPublicUnderSecretControl) }
+    ensures first { first.new.seen ≡ fold sooner first.old.seen (at place (when (is_secret control && callee.assigns_public) CallAssignsPublicUnderSecretControl)) }
+{
+    let told = is_secret(control) && callee.assigns_public;
+    first.note_if(told, place, Rule::CallAssignsPublicUnderSecretControl);
+    !told
+}
+
+/// What a call gives, where it violates nothing.
+fn given(met: bool, wanted: Option<WordType>) -> Option<ValueType>
+    ensures { result ≡ (if met then Some (result_value wanted) else None) }
+{
+    if met {
+        Some(result_value(wanted))
+    } else {
+        None
+    }
+}
+
 /// Notes what a call violates, and gives its type where it is well typed.
 pub fn call(
     alloc: Global,
@@ -82,12 +105,6 @@ pub fn call(
     };
     let parameters = procedure.parameters.as_slice();
     let met = note_arguments(alloc, first, names, parameters, types.as_slice(), call)?;
-    let told = is_secret(control) && callee.assigns_public;
-    first.note_if(told, call.place, Rule::CallAssignsPublicUnderSecretControl);
-    let given = result_value(procedure.result);
-    if met && !told {
-        Ok(Some(given))
-    } else {
-        Ok(None)
-    }
+    let allowed = note_call_control(first, call.place, control, callee);
+    Ok(given(met && allowed, procedure.result))
 }

@@ -1,4 +1,6 @@
-ghost use Rattle.std.specs.Prelude.{◌≡◌, None, [], fold, length, map, IfOk, IfErr, OnOk};
+ghost use Rattle.std.specs.Prelude.{◌≡◌, None, Some, [], fold, length, map, IsOk, IfOk, IfErr, OnOk};
+ghost use Rattle.word.specs.Places.{origin};
+ghost use Rattle.language.specs.declared.rule.Rule.TheVariants.{NotExactlyOneExport};
 ghost use Rattle.language.specs.FirstViolation.{IsRefusedFor};
 ghost use Rattle.language.specs.Tree.{procedure_tree, program_tree};
 ghost use Rattle.language.specs.Typing.{export_violations, exports, procedures_violations, violations};
@@ -47,7 +49,8 @@ fn note_procedures(
     first: &mut First,
     procedures: &[Procedure<'_>],
 ) -> Result<(), AllocError>
-    ensures { OnOk result (first.new.seen ≡ fold sooner first.old.seen (procedures_violations [] [] (map procedure_tree procedures.now))) }
+    ensures first { OnOk result (first.new.seen ≡ fold sooner first.old.seen (procedures_violations [] [] (map procedure_tree procedures.now))) }
+    ensures memory { procedures.now ≡ [] → IsOk result }
 {
     let mut names = Names::new(alloc);
     for (index, it) in procedures.iter().enumerate() {
@@ -58,7 +61,8 @@ fn note_procedures(
 
 /// The first violation in a program, where there is one.
 fn first_violation(alloc: Global, program: &Program<'_>) -> Result<Option<Violation>, AllocError>
-    ensures { IfOk result (λ first. first ≡ fold sooner None (violations (program_tree program.now))) }
+    ensures first { IfOk result (λ first. first ≡ fold sooner None (violations (program_tree program.now))) }
+    ensures memory { program.now.procedures.items ≡ [] → IsOk result }
 {
     let mut first = First { seen: None };
     let procedures = program.procedures.as_slice();
@@ -67,9 +71,11 @@ fn first_violation(alloc: Global, program: &Program<'_>) -> Result<Option<Violat
     Ok(first.seen)
 }
 
-/// The program, where it is well typed; else its first violation.
+/// The program, where it is well typed; else its first violation. Memory is asked for the names of
+/// procedures and of what they declare, so not for an empty program.
 pub fn check<'p, 'a>(alloc: Global, program: &'p Program<'a>) -> Result<Checked<'p, 'a>, Refusal>
     ensures accepted { IfOk result (λ checked. checked.program.now ≡ program.now) }
+    ensures empty { program.now.procedures.items ≡ [] → IfErr result (λ refusal. (refusal.rule ≡ NotExactlyOneExport) × (refusal.place ≡ Some origin)) }
     ensures refused { IfErr result (λ refusal. IsRefusedFor (violations (program_tree program.now)) refusal.rule refusal.place) }
 {
     match first_violation(alloc, program)? {

@@ -1,10 +1,10 @@
 ghost use Rattle.std.specs.Prelude.{◌≡◌, ◌++◌, [], fold, is_some, map, OnOk, IfOk};
 ghost use Rattle.std.specs.Option.{option_map};
 ghost use Rattle.language.specs.ExprTyping.{exprs_violations, type_of, types_of};
-ghost use Rattle.language.specs.Tree.{procedure_tree, right_tree, statement_tree};
+ghost use Rattle.language.specs.Tree.{procedure_tree, right_tree, statement_tree, written};
 ghost use Rattle.language.specs.declared.tree.Statement.{Declare, DeclareArray};
 ghost use Rattle.language.specs.Types.{at, found, of_all, of_one};
-ghost use Rattle.language.specs.Typing.{array_rules, count_rules, declaration_control_rules, declaration_rules, right_type, right_violations, scope_after, statement_violations, values_rules, written};
+ghost use Rattle.language.specs.Typing.{array_rules, count_rules, declaration_control_rules, declaration_rules, right_type, right_violations, scope_after, statement_violations, values_rules};
 ghost use Rattle.labels.specs.Sooner.{sooner};
 ghost use Rattle.labels.specs.Written.{values_tree};
 

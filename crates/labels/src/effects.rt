@@ -20,8 +20,10 @@ fn is_public_mutable(label: Label, mutable: bool) -> bool
 fn call_assigns(names: &Names<'_, Declared>, call: &Call<'_>) -> bool
     ensures { result ≡ calls_one names.now (call_tree call.now) }
 {
-    let called = callee(names.find(call.name));
-    called.is_some_and(|it| it.assigns_public)
+    match callee(names.find(call.name)) {
+        Some(called) => called.assigns_public,
+        None => false,
+    }
 }
 
 /// Whether a right side may assign to something public.

@@ -6,7 +6,7 @@ ghost use Rattle.labels.specs.Sooner.{sooner};
 
 use crate::first::First;
 use crate::kinds::{bits, join};
-use crate::operations::{divides_secret, is_uneven, operation, operation_kind, takes};
+use crate::operations::{divides_secret, is_uneven, takes};
 use crate::types::{
     are_alike, is_array, is_bool, is_hidden, is_narrow, is_numeric, kind_of, label_of,
     widths_differ, word,
@@ -70,7 +70,7 @@ pub fn binary(
     let (Some(left), Some(right)) = (left, right) else {
         return None;
     };
-    let operation = operation(operator);
+    let operation = operator.operation();
     let uneven = is_uneven(operation, left, right);
     let wrong = !takes(operation, left, right);
     let told = divides_secret(operation, left, right);
@@ -80,7 +80,7 @@ pub fn binary(
     if uneven || wrong || told {
         return None;
     }
-    let kind = operation_kind(operation, kind_of(left));
+    let kind = operation.result_kind(kind_of(left));
     Some(word(kind, join(label_of(left), label_of(right))))
 }
 

@@ -1,34 +1,8 @@
 ghost use Rattle.std.specs.Prelude.{◌≡◌};
-ghost use Rattle.language.specs.ExprTyping.{divides_secret, is_uneven, operation_kind, operation_of, takes};
+ghost use Rattle.language.specs.ExprTyping.{divides_secret, is_uneven, takes};
 
 use crate::types::{are_alike, is_bool, is_hidden, is_narrow, is_numeric, widths_differ};
-use language::{BinaryOperator, Kind, Operation, ValueType};
-
-/// What an operator makes of its operands.
-pub fn operation(operator: BinaryOperator) -> Operation
-    ensures { result ≡ operation_of operator }
-{
-    match operator {
-        BinaryOperator::Either => Operation::Logic,
-        BinaryOperator::Both => Operation::Logic,
-        BinaryOperator::Equal => Operation::Equality,
-        BinaryOperator::Unequal => Operation::Equality,
-        BinaryOperator::Less => Operation::Order,
-        BinaryOperator::LessOrEqual => Operation::Order,
-        BinaryOperator::Greater => Operation::Order,
-        BinaryOperator::GreaterOrEqual => Operation::Order,
-        BinaryOperator::BitOr => Operation::Arithmetic,
-        BinaryOperator::BitXor => Operation::Arithmetic,
-        BinaryOperator::BitAnd => Operation::Arithmetic,
-        BinaryOperator::ShiftLeft => Operation::Shift,
-        BinaryOperator::ShiftRight => Operation::Shift,
-        BinaryOperator::Add => Operation::Arithmetic,
-        BinaryOperator::Subtract => Operation::Arithmetic,
-        BinaryOperator::Multiply => Operation::Arithmetic,
-        BinaryOperator::Divide => Operation::Division,
-        BinaryOperator::Remainder => Operation::Division,
-    }
-}
+use language::{Operation, ValueType};
 
 /// Whether the operands' widths do not go together.
 pub fn is_uneven(operation: Operation, left: ValueType, right: ValueType) -> bool
@@ -36,6 +10,7 @@ pub fn is_uneven(operation: Operation, left: ValueType, right: ValueType) -> boo
 {
     match operation {
         Operation::Arithmetic => widths_differ(left, right),
+        Operation::Multiplication => widths_differ(left, right),
         Operation::Division => widths_differ(left, right),
         Operation::Shift => is_narrow(right),
         Operation::Equality => widths_differ(left, right),
@@ -50,6 +25,7 @@ pub fn takes(operation: Operation, left: ValueType, right: ValueType) -> bool
 {
     match operation {
         Operation::Arithmetic => is_numeric(left) && is_numeric(right),
+        Operation::Multiplication => is_numeric(left) && is_numeric(right),
         Operation::Division => is_numeric(left) && is_numeric(right),
         Operation::Shift => is_numeric(left) && is_numeric(right),
         Operation::Equality => are_alike(left, right),
@@ -65,23 +41,10 @@ pub fn divides_secret(operation: Operation, left: ValueType, right: ValueType) -
     match operation {
         Operation::Division => is_hidden(left) || is_hidden(right),
         Operation::Arithmetic => false,
+        Operation::Multiplication => false,
         Operation::Shift => false,
         Operation::Equality => false,
         Operation::Order => false,
         Operation::Logic => false,
-    }
-}
-
-/// The kind of what it gives, by the kind of its first operand.
-pub fn operation_kind(operation: Operation, kind: Kind) -> Kind
-    ensures { result ≡ operation_kind operation kind }
-{
-    match operation {
-        Operation::Arithmetic => kind,
-        Operation::Division => kind,
-        Operation::Shift => kind,
-        Operation::Equality => Kind::Boolean,
-        Operation::Order => Kind::Boolean,
-        Operation::Logic => Kind::Boolean,
     }
 }

@@ -12,7 +12,7 @@ use Rattle.language.specs.declared.tree.BinaryOperator.TheVariants.{Either, Both
 use Rattle.language.specs.declared.tree.PrefixOperator.{PrefixOperator}
 use Rattle.language.specs.declared.tree.PrefixOperator.TheVariants.{Not, Complement, Negate}
 use Rattle.language.specs.declared.typing.Operation.{Operation}
-use Rattle.language.specs.declared.typing.Operation.TheVariants.{Arithmetic, Division, Shift, Equality, Order, Logic}
+use Rattle.language.specs.declared.typing.Operation.TheVariants.{Arithmetic, Multiplication, Division, Shift, Equality, Order, Logic}
 use Rattle.language.specs.declared.typing.ValueType.{ValueType}
 use Rattle.language.specs.declared.typing.VariableType.{VariableType}
 use Rattle.language.specs.declared.typing.Violation.{Violation}
@@ -36,13 +36,14 @@ operation_of ShiftLeft = Shift
 operation_of ShiftRight = Shift
 operation_of Add = Arithmetic
 operation_of Subtract = Arithmetic
-operation_of Multiply = Arithmetic
+operation_of Multiply = Multiplication
 operation_of Divide = Division
 operation_of Remainder = Division
 
 -- operands whose widths do not go together: a shift wants a `uint32` by which to shift
 abbrev pub is_uneven : Operation → ValueType → ValueType → Bool
 is_uneven Arithmetic a b = widths_differ a b
+is_uneven Multiplication a b = widths_differ a b
 is_uneven Division a b = widths_differ a b
 is_uneven Shift a b = is_narrow b
 is_uneven Equality a b = widths_differ a b
@@ -52,6 +53,7 @@ is_uneven Logic a b = false
 -- operands of the kinds that an operation takes
 abbrev pub takes : Operation → ValueType → ValueType → Bool
 takes Arithmetic a b = is_numeric a && is_numeric b
+takes Multiplication a b = is_numeric a && is_numeric b
 takes Division a b = is_numeric a && is_numeric b
 takes Shift a b = is_numeric a && is_numeric b
 takes Equality a b = are_alike a b
@@ -61,6 +63,7 @@ takes Logic a b = is_bool a && is_bool b
 -- a division of or by something secret
 abbrev pub divides_secret : Operation → ValueType → ValueType → Bool
 divides_secret Arithmetic a b = false
+divides_secret Multiplication a b = false
 divides_secret Division a b = is_hidden a || is_hidden b
 divides_secret Shift a b = false
 divides_secret Equality a b = false
@@ -77,6 +80,7 @@ operation_rules operation a b =
 -- the kind of what it gives
 abbrev pub operation_kind : Operation → Kind → Kind
 operation_kind Arithmetic kind = kind
+operation_kind Multiplication kind = kind
 operation_kind Division kind = kind
 operation_kind Shift kind = kind
 operation_kind Equality kind = Boolean

@@ -6,6 +6,7 @@ pub mod Blocks
 pub mod Types
 pub mod ExprTyping
 pub mod Typing
+pub mod WellTyped
 pub mod Size
 pub mod State
 pub mod Operators

@@ -3,6 +3,7 @@ use Rattle.std.specs.Prelude.{ℕ, Bool, true, false, not, ◌&&◌, ◌||◌, �
 use Rattle.std.specs.List.{list_any, slice_get}
 use Rattle.std.specs.Str.{bytes_eq}
 use Rattle.word.specs.declared.place.Place.{Place}
+use Rattle.word.specs.Places.{origin}
 use Rattle.language.specs.declared.rule.Rule.{Rule}
 use Rattle.language.specs.declared.rule.Rule.TheVariants.{NameDeclaredTwice, ProcedureNotDeclaredEarlier, NotExactlyOneExport, WidthsDiffer, WrongKind, ArgumentCount, ArrayShapeOrLabel, NotMutable, ReturnMismatch, ArrayPassedTwice, InitialiserCount, SecretToPublic, PublicAssignedUnderSecretControl, SecretBound, CallAssignsPublicUnderSecretControl}
 use Rattle.language.specs.declared.signature.Form.{Form}
@@ -21,7 +22,7 @@ use Rattle.language.specs.declared.typing.VariableType.{VariableType}
 use Rattle.language.specs.declared.typing.Violation.{Violation}
 use Rattle.language.specs.declared.typing.WordType.{WordType}
 use Rattle.language.specs.ExprTyping.{name_type, name_rules, type_of, types_of, expr_violations, exprs_violations, element_rules, element_type}
-use Rattle.language.specs.Tree.{ExprTree, name, CallTree, RightTree, called, computed, StatementTree, declaration, array, assignment, element_assignment, call, conditional, loop, BlockTree, nothing, first, ParameterTree, ReturnTree, ProcedureTree, ProgramTree}
+use Rattle.language.specs.Tree.{ExprTree, name, CallTree, RightTree, called, computed, StatementTree, declaration, array, assignment, element_assignment, call, conditional, loop, BlockTree, nothing, first, ParameterTree, ReturnTree, ProcedureTree, ProgramTree, written}
 use Rattle.language.specs.Types.{Scope, found, declared, variable, callee, same_kind, same_label, is_secret, joined, word, is_numeric, is_bool, is_array, is_narrow, is_hidden, kind_of, label_of, widths_differ, are_alike, when, at, unless, of_one, of_two, of_all}
 
 -- Values put where a type is wanted.
@@ -226,11 +227,6 @@ array_rules control taken label mutable kind size values types =
     when taken NameDeclaredTwice ++ values_rules (record { kind = kind; label = label }) types
     ++ count_rules size values ++ declaration_control_rules control label mutable
 
--- an array's written values
-abbrev pub written : Option (List ExprTree) → List ExprTree
-written None = []
-written (Some values) = values
-
 -- a value put into a target; an array as a whole is none
 abbrev pub target_rules : ValueType → ValueType → List Rule
 target_rules (Word wanted) given = value_rules wanted given
@@ -410,10 +406,6 @@ procedures_violations earlier scope [] = []
 procedures_violations earlier scope (p ∷ ps) =
     procedure_violations earlier scope p
     ++ procedures_violations (earlier ++ p ∷ []) (with_procedure scope (length earlier) p) ps
-
--- the beginning of a text
-abbrev pub origin : Place
-origin = record { offset = 0; line = 1; column = 1 }
 
 -- the places of `export`
 abbrev pub export_place : Option Place → List Place → List Place

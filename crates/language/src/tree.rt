@@ -74,7 +74,7 @@ impl BinaryOperator {
             BinaryOperator::ShiftRight => Operation::Shift,
             BinaryOperator::Add => Operation::Arithmetic,
             BinaryOperator::Subtract => Operation::Arithmetic,
-            BinaryOperator::Multiply => Operation::Arithmetic,
+            BinaryOperator::Multiply => Operation::Multiplication,
             BinaryOperator::Divide => Operation::Division,
             BinaryOperator::Remainder => Operation::Division,
         }

@@ -59,7 +59,9 @@ pub struct Violation {
 pub enum Operation {
     /// A number of two numbers of one width.
     Arithmetic,
-    /// The same of public ones.
+    /// The product of two numbers of one width.
+    Multiplication,
+    /// A number of two public numbers of one width.
     Division,
     /// A number of a number, and of a `uint32` by which it is shifted.
     Shift,
@@ -79,8 +81,13 @@ impl Operation {
         ensures { result ≡ operation_kind self first }
     {
         match self {
-            Operation::Arithmetic | Operation::Division | Operation::Shift => first,
-            Operation::Equality | Operation::Order | Operation::Logic => Kind::Boolean,
+            Operation::Arithmetic => first,
+            Operation::Multiplication => first,
+            Operation::Division => first,
+            Operation::Shift => first,
+            Operation::Equality => Kind::Boolean,
+            Operation::Order => Kind::Boolean,
+            Operation::Logic => Kind::Boolean,
         }
     }
 }

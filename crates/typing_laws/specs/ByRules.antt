@@ -1,0 +1,23 @@
+-- The table of violations and the rules of inference say the same.
+use Rattle.std.specs.Prelude.{◌≡◌, ◌↔◌, List, [], Some}
+use Rattle.language.specs.declared.signature.Label.{Label}
+use Rattle.language.specs.declared.typing.ValueType.{ValueType}
+use Rattle.language.specs.ExprTyping.{type_of, expr_violations}
+use Rattle.language.specs.Tree.{ExprTree, BlockTree, ProcedureTree, ProgramTree}
+use Rattle.language.specs.Types.{Scope}
+use Rattle.language.specs.Typing.{block_violations, violations}
+use Rattle.language.specs.WellTyped.{HasType, AreWellTyped, IsTypedProgram}
+
+-- an expression violates no rule exactly where the rules give it a type, and that is its type
+pub record ExpressionsByRules : Type 0 where
+  pub none : (scope : Scope) (e : ExprTree) → (expr_violations scope e ≡ []) ↔ ((type : ValueType) × HasType scope e type)
+  pub type : (scope : Scope) (e : ExprTree) (type : ValueType) → (type_of scope e ≡ Some type) ↔ HasType scope e type
+
+-- statements violate no rule exactly where they are well typed by the rules
+abbrev pub BlocksByRules : Type 0
+BlocksByRules = (earlier : List ProcedureTree) (scope : Scope) (control : Label) (block : BlockTree)
+    → (block_violations earlier scope control block ≡ []) ↔ AreWellTyped earlier scope control block
+
+-- so does a program
+abbrev pub ProgramsByRules : Type 0
+ProgramsByRules = (program : ProgramTree) → (violations program ≡ []) ↔ IsTypedProgram program

@@ -1,0 +1,8 @@
+// Typing in two ways: the table of violations, of which the first is named, and rules of inference, which
+// are what a reader wants to see and what proofs use. The laws here say that they are one. They stand on
+// the definitions of `language` alone, in a crate of their own since nothing waits for them.
+#![tactic(auto)]
+
+mod laws;
+
+pub use laws::expressions_by_rules;
