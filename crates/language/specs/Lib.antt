@@ -1,4 +1,4 @@
-pub mod RuleNames
+pub mod Rules
 pub mod Results
 pub mod Tree
 pub mod Signature
@@ -11,7 +11,6 @@ pub mod State
 pub mod Operators
 pub mod Meaning
 pub mod Evaluation
-pub mod RuleOrder
 pub mod WantOfMemory
 pub mod FirstViolation
 pub mod Grammatical
