@@ -3,7 +3,7 @@ use Rattle.std.proofs.Common.{◌≡◌, ◌≢◌, ◌<◌, ◌≤◌, ◌⊎�
 use Rattle.std.proofs.lemmas.Bool.Decides.{nat_tests}
 use Rattle.std.proofs.lemmas.List.Elements.{All-cons, All-nil, All-head, All-tail, Contains-append_right}
 use Rattle.language.specs.declared.typing.Violation.{Violation}
-use Rattle.language.specs.RuleOrder.{rank_of}
+use Rattle.language.specs.Rules.{rank_of}
 use Rattle.language.specs.FirstViolation.{IsNoLaterThan, IsFirst}
 use Rattle.labels.specs.Sooner.{comes_before, sooner}
 

@@ -1,7 +1,7 @@
 -- The first of the violations seen so far, kept as they come.
 use Rattle.std.specs.Prelude.{Bool, ◌==◌, ◌&&◌, ◌||◌, nat_lt, Option, None, Some, if◌then◌else◌}
 use Rattle.language.specs.declared.typing.Violation.{Violation}
-use Rattle.language.specs.RuleOrder.{rank_of}
+use Rattle.language.specs.Rules.{rank_of}
 
 -- whether u is named rather than v
 abbrev pub comes_before : Violation → Violation → Bool

@@ -3,7 +3,7 @@ use Rattle.std.specs.Prelude.{◌≡◌, ◌<◌, ◌≤◌, ◌⊎◌, List, Op
 use Rattle.word.specs.declared.place.Place.{Place}
 use Rattle.language.specs.declared.rule.Rule.{Rule}
 use Rattle.language.specs.declared.typing.Violation.{Violation}
-use Rattle.language.specs.RuleOrder.{rank_of}
+use Rattle.language.specs.Rules.{rank_of}
 use Rattle.language.specs.WantOfMemory.{IsWantOfMemory}
 
 -- u is named rather than v

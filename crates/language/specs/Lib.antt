@@ -1,4 +1,4 @@
-pub mod RuleNames
+pub mod Rules
 pub mod Results
 pub mod Tree
 pub mod Signature
@@ -12,7 +12,6 @@ pub mod State
 pub mod Operators
 pub mod Meaning
 pub mod Evaluation
-pub mod RuleOrder
 pub mod WantOfMemory
 pub mod FirstViolation
 pub mod Grammatical

@@ -1,5 +1,5 @@
 ghost use Rattle.std.specs.Prelude.{◌≡◌};
-ghost use Rattle.language.specs.RuleNames.{name_of};
+ghost use Rattle.language.specs.Rules.{name_of, refusal_text};
 ghost use Rattle.language.specs.WantOfMemory.{IsWantOfMemory};
 
 use crate::{Place, Rule};
@@ -61,6 +61,10 @@ impl<T: Drop> From<AllocFailed<T>> for Refusal {
 
 /// `L2 at 3:12: public assigned under secret control`, or `M1: memory`.
 impl fmt::Display for Refusal {
+    ghost use Rattle.std.specs.Prelude.{Some};
+
+    ghost output = { λ refusal. Some (refusal_text refusal.rule refusal.place) };
+
     fn fmt<W: fmt::Write>(&self, f: &mut fmt::Formatter<W>) -> fmt::Result {
         let rule = self.rule;
         let name = self.name;

@@ -1,6 +1,5 @@
 ghost use Rattle.std.specs.Prelude.{◌≡◌};
-ghost use Rattle.language.specs.RuleNames.{code_of, name_of};
-ghost use Rattle.language.specs.RuleOrder.{rank_of};
+ghost use Rattle.language.specs.Rules.{code_of, name_of, rank_of};
 
 use std::fmt;
 
@@ -41,6 +40,41 @@ pub enum Rule {
     NotCompiledYet,
 }
 
+/// Each rule's short code, and what it says in a few words, in the order of the rules.
+const ROWS: [(&str, &str); 31] = [
+    ("X1", "unknown character"),
+    ("X2", "bad number"),
+    ("X3", "unexpected token"),
+    ("X4", "nesting"),
+    ("X5", "text too long"),
+    ("N1", "undeclared name"),
+    ("N2", "name declared twice"),
+    ("N3", "procedure not declared earlier"),
+    ("N4", "not exactly one export"),
+    ("T1", "widths differ"),
+    ("T2", "wrong kind"),
+    ("T3", "literal out of range"),
+    ("T4", "argument count"),
+    ("T5", "array shape or label"),
+    ("T6", "not mutable"),
+    ("T7", "return"),
+    ("T8", "array passed twice"),
+    ("T9", "initialiser count"),
+    ("L1", "secret to public"),
+    ("L2", "public assigned under secret control"),
+    ("L3", "secret index"),
+    ("L4", "secret bound"),
+    ("L5", "secret division operand"),
+    ("L6", "call assigns public under secret control"),
+    ("S1", "inlined size"),
+    ("S2", "declared bytes"),
+    ("I1", "index out of range"),
+    ("I2", "divisor may be 0"),
+    ("S3", "work"),
+    ("M1", "memory"),
+    ("U1", "not in this stage"),
+];
+
 impl Rule {
     /// Its number in the order of declaration.
     pub fn rank(self) -> u8
@@ -53,85 +87,23 @@ impl Rule {
     pub fn code(self) -> &'static str
         ensures { result.now ≡ code_of self }
     {
-        match self {
-            Rule::UnknownCharacter => "X1",
-            Rule::BadNumber => "X2",
-            Rule::UnexpectedToken => "X3",
-            Rule::Nesting => "X4",
-            Rule::TextTooLong => "X5",
-            Rule::UndeclaredName => "N1",
-            Rule::NameDeclaredTwice => "N2",
-            Rule::ProcedureNotDeclaredEarlier => "N3",
-            Rule::NotExactlyOneExport => "N4",
-            Rule::WidthsDiffer => "T1",
-            Rule::WrongKind => "T2",
-            Rule::LiteralOutOfRange => "T3",
-            Rule::ArgumentCount => "T4",
-            Rule::ArrayShapeOrLabel => "T5",
-            Rule::NotMutable => "T6",
-            Rule::ReturnMismatch => "T7",
-            Rule::ArrayPassedTwice => "T8",
-            Rule::InitialiserCount => "T9",
-            Rule::SecretToPublic => "L1",
-            Rule::PublicAssignedUnderSecretControl => "L2",
-            Rule::SecretIndex => "L3",
-            Rule::SecretBound => "L4",
-            Rule::SecretDivisionOperand => "L5",
-            Rule::CallAssignsPublicUnderSecretControl => "L6",
-            Rule::InlinedSize => "S1",
-            Rule::DeclaredBytes => "S2",
-            Rule::IndexOutOfRange => "I1",
-            Rule::DivisorMayBeZero => "I2",
-            Rule::TooMuchWork => "S3",
-            Rule::OutOfMemory => "M1",
-            Rule::NotCompiledYet => "U1",
-        }
+        ROWS[self as usize].0
     }
 
     /// What it says, in a few words, as `secret to public`.
     pub fn name(self) -> &'static str
         ensures { result.now ≡ name_of self }
     {
-        match self {
-            Rule::UnknownCharacter => "unknown character",
-            Rule::BadNumber => "bad number",
-            Rule::UnexpectedToken => "unexpected token",
-            Rule::Nesting => "nesting",
-            Rule::TextTooLong => "text too long",
-            Rule::UndeclaredName => "undeclared name",
-            Rule::NameDeclaredTwice => "name declared twice",
-            Rule::ProcedureNotDeclaredEarlier => "procedure not declared earlier",
-            Rule::NotExactlyOneExport => "not exactly one export",
-            Rule::WidthsDiffer => "widths differ",
-            Rule::WrongKind => "wrong kind",
-            Rule::LiteralOutOfRange => "literal out of range",
-            Rule::ArgumentCount => "argument count",
-            Rule::ArrayShapeOrLabel => "array shape or label",
-            Rule::NotMutable => "not mutable",
-            Rule::ReturnMismatch => "return",
-            Rule::ArrayPassedTwice => "array passed twice",
-            Rule::InitialiserCount => "initialiser count",
-            Rule::SecretToPublic => "secret to public",
-            Rule::PublicAssignedUnderSecretControl => "public assigned under secret control",
-            Rule::SecretIndex => "secret index",
-            Rule::SecretBound => "secret bound",
-            Rule::SecretDivisionOperand => "secret division operand",
-            Rule::CallAssignsPublicUnderSecretControl => {
-                "call assigns public under secret control"
-            }
-            Rule::InlinedSize => "inlined size",
-            Rule::DeclaredBytes => "declared bytes",
-            Rule::IndexOutOfRange => "index out of range",
-            Rule::DivisorMayBeZero => "divisor may be 0",
-            Rule::TooMuchWork => "work",
-            Rule::OutOfMemory => "memory",
-            Rule::NotCompiledYet => "not in this stage",
-        }
+        ROWS[self as usize].1
     }
 }
 
 /// The code.
 impl fmt::Display for Rule {
+    ghost use Rattle.std.specs.Prelude.{Some};
+
+    ghost output = { λ rule. Some (code_of rule) };
+
     fn fmt<W: fmt::Write>(&self, f: &mut fmt::Formatter<W>) -> fmt::Result {
         f.write_str(self.code())
     }

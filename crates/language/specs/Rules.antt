@@ -1,5 +1,8 @@
--- The order in which rules are asked at one place.
-use Rattle.std.specs.Prelude.{ℕ}
+-- The rules: the order in which they are asked at one place, what each is called, and how a refusal is printed.
+use Rattle.std.specs.Prelude.{ℕ, List, [], ◌++◌, Option, Some, None, codes, slice_get, option_map, unwrap_or}
+use Rattle.word.specs.Places.{place_text}
+use Rattle.word.specs.declared.place.Place.{Place}
+use Rattle.language.specs.declared.rule.TheConstants.{ROWS}
 use Rattle.language.specs.declared.rule.Rule.{Rule}
 use Rattle.language.specs.declared.rule.Rule.TheVariants.{UnknownCharacter, BadNumber, UnexpectedToken, Nesting, TextTooLong, UndeclaredName, NameDeclaredTwice, ProcedureNotDeclaredEarlier, NotExactlyOneExport, WidthsDiffer, WrongKind, LiteralOutOfRange, ArgumentCount, ArrayShapeOrLabel, NotMutable, ReturnMismatch, ArrayPassedTwice, InitialiserCount, SecretToPublic, PublicAssignedUnderSecretControl, SecretIndex, SecretBound, SecretDivisionOperand, CallAssignsPublicUnderSecretControl, InlinedSize, DeclaredBytes, IndexOutOfRange, DivisorMayBeZero, TooMuchWork, OutOfMemory, NotCompiledYet}
 
@@ -36,3 +39,16 @@ rank_of DivisorMayBeZero = 27
 rank_of TooMuchWork = 28
 rank_of OutOfMemory = 29
 rank_of NotCompiledYet = 30
+
+-- its short code
+abbrev pub code_of : Rule → List ℕ
+code_of rule = unwrap_or (option_map (λ row. row.0.now) (slice_get ROWS (rank_of rule))) []
+
+-- what it says, in a few words
+abbrev pub name_of : Rule → List ℕ
+name_of rule = unwrap_or (option_map (λ row. row.1.now) (slice_get ROWS (rank_of rule))) []
+
+-- a refusal: the code, where it has a place the place, and the name
+abbrev pub refusal_text : Rule → Option Place → List ℕ
+refusal_text rule (Some place) = code_of rule ++ codes " at " ++ place_text place ++ codes ": " ++ name_of rule
+refusal_text rule None = code_of rule ++ codes ": " ++ name_of rule
