@@ -1,5 +1,6 @@
 pub mod Steps
 pub mod Numbers
 pub mod Slots
+pub mod FormatLemmas
 pub mod Images
 pub mod Loop

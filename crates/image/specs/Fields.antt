@@ -1,10 +1,11 @@
 -- The fields of an image, and which values they may have.
-use Rattle.std.specs.Prelude.{◌≡◌, ℕ, ◌+◌, ◌*◌, ◌/◌, ◌%◌, ◌^◌, ◌<◌, ◌≤◌, List, [], ◌∷◌, length, Option, IfSome}
+use Rattle.std.specs.Prelude.{◌≡◌, ℕ, ◌+◌, ◌*◌, ◌%◌, ◌^◌, ◌<◌, ◌≤◌, List, [], ◌∷◌, length, Option, IfSome}
 use Rattle.std.specs.List.{AllByRecursion}
 use Rattle.language.specs.declared.signature.Kind.{Kind}
-use Rattle.language.specs.declared.signature.Kind.TheVariants.{Boolean, Uint8, Uint16, Uint32}
 use Rattle.language.specs.declared.signature.Form.{Form}
-use Rattle.language.specs.declared.signature.Form.TheVariants.{SingleWord, FixedArray, MutableArray}
+use Rattle.language.specs.declared.signature.Form.TheVariants.{SingleWord}
+use Rattle.language.specs.Size.{held_words}
+pub use Rattle.image.specs.declared.limits.TheConstants.{MOST_PARAMETERS, MOST_FRAME_BYTES, MOST_STEPS, MOST_WORDS}
 use Rattle.image.specs.declared.slot.Slot.{Slot}
 use Rattle.image.specs.declared.slot.ResultSlot.{ResultSlot}
 
@@ -15,18 +16,9 @@ pub record Fields : Type 0 where
   pub max_steps : ℕ
   pub words : List ℕ
 
--- how many bytes an element of an array takes
-abbrev pub element_bytes : Kind → ℕ
-element_bytes Boolean = 1
-element_bytes Uint8 = 1
-element_bytes Uint16 = 2
-element_bytes Uint32 = 4
-
--- how many bytes the slot of a parameter takes: a word takes 4, and an array its elements, rounded up to a multiple of 4
+-- how many bytes the slot of a parameter takes: 4 for each word that it holds
 abbrev pub slot_bytes : Form → Kind → ℕ → ℕ
-slot_bytes SingleWord kind count = 4
-slot_bytes FixedArray kind count = (count * element_bytes kind + 3) / 4 * 4
-slot_bytes MutableArray kind count = (count * element_bytes kind + 3) / 4 * 4
+slot_bytes form kind count = 4 * held_words form kind count
 
 -- where a slot ends: the offset of the first byte after it
 abbrev pub slot_end : Slot → ℕ
@@ -62,15 +54,15 @@ pub record IsResultSlot (low : ℕ) (slot : ResultSlot) : Type 0 where
 
 -- fields that an image may have
 pub record IsImage (fields : Fields) : Type 0 where
-  pub count : length fields.slots ≤ 8192
+  pub count : length fields.slots ≤ MOST_PARAMETERS
   pub slots : AreSlots 0 fields.slots
   pub returned : IfSome fields.returned (λ slot. IsResultSlot (slots_end 0 fields.slots) slot)
   pub frame_aligned : fields.frame_bytes % 4 ≡ 0
-  pub frame_size : fields.frame_bytes ≤ 65536
+  pub frame_size : fields.frame_bytes ≤ MOST_FRAME_BYTES
   pub slots_inside : AllByRecursion (λ slot. slot_end slot ≤ fields.frame_bytes) fields.slots
   pub returned_inside : IfSome fields.returned (λ slot. result_end slot ≤ fields.frame_bytes)
   pub some_step : 1 ≤ fields.max_steps
-  pub steps : fields.max_steps ≤ 137438953536
+  pub steps : fields.max_steps ≤ MOST_STEPS
   pub some_word : 1 ≤ length fields.words
-  pub word_count : length fields.words ≤ 192064
+  pub word_count : length fields.words ≤ MOST_WORDS
   pub words : AllByRecursion (λ word. word < 2 ^ 32) fields.words

@@ -1,217 +1,100 @@
--- Reading an image from the first byte to the last: its fields, or the first fault.
-use Rattle.std.specs.Prelude.{◌≡◌, ℕ, zero, suc, ◌-◌, ◌%◌, Bool, ◌&&◌, List, [], ◌∷◌, length, drop, Option, Some, None, Result, Ok, Err, nat_lt, nat_le, ◌==◌, if◌then◌else◌}
-use Rattle.byteorder.specs.Endian.{little_number}
+-- The format of an image: its fields from the first to the last, which values each may have, and what is read by it.
+use Rattle.std.specs.Prelude.{◌≡◌, ℕ, zero, suc, ◌%◌, Bool, true, ◌&&◌, List, [], ◌∷◌, length, Option, Some, None, Result, Ok, Err, nat_lt, nat_le, ◌==◌}
 use Rattle.language.specs.declared.signature.Kind.{Kind}
 use Rattle.language.specs.declared.signature.Kind.TheVariants.{Boolean, Uint8, Uint16, Uint32}
 use Rattle.language.specs.declared.signature.Label.{Label}
 use Rattle.language.specs.declared.signature.Label.TheVariants.{Public, Secret}
-use Rattle.language.specs.declared.signature.Form.{Form}
 use Rattle.language.specs.declared.signature.Form.TheVariants.{SingleWord}
 use Rattle.image.specs.declared.slot.Slot.{Slot}
 use Rattle.image.specs.declared.slot.ResultSlot.{ResultSlot}
-use Rattle.image.specs.declared.fault.ImageRule.{ImageRule}
-use Rattle.image.specs.declared.fault.ImageRule.TheVariants.{Magic, Version, Profile, Truncated, FieldOutOfRange, TrailingBytes}
+use Rattle.image.specs.declared.fault.ImageRule.TheVariants.{Magic, Version, Profile, FieldOutOfRange}
 use Rattle.image.specs.declared.fault.ImageFault.{ImageFault}
 use Rattle.image.specs.declared.fault.ImageFault.TheVariants.{Field, Memory}
-use Rattle.image.specs.declared.fields.Fault.{Fault}
-use Rattle.image.specs.declared.fields.ReadError.{ReadError}
-use Rattle.image.specs.declared.fields.ReadError.TheVariants as errors
-use Rattle.image.specs.declared.reading.Layout.{Layout}
-use Rattle.image.specs.declared.reading.Code.{Code}
-use Rattle.image.specs.Fields.{Fields, slot_end, slots_end, result_end}
+use Rattle.image.specs.Fields.{Fields, slot_end, slots_end, result_end, MOST_PARAMETERS, MOST_FRAME_BYTES, MOST_STEPS, MOST_WORDS}
+use Rattle.image.specs.Format.{Format, ends, field, read_by}
 
-infixl 10 ◌>>=◌
-abbrev pub ◌>>=◌ : {A B : Type 0} → Result A Fault → (A → Result B Fault) → Result B Fault
-(Ok x) >>= f = f x
-(Err e) >>= f = Err e
+-- kinds and labels by their codes, those from 0 to 3 and to 1
+abbrev pub coded_kind : ℕ → Kind
+coded_kind zero = Boolean
+coded_kind (suc zero) = Uint8
+coded_kind (suc (suc zero)) = Uint16
+coded_kind (suc (suc (suc n))) = Uint32
 
--- a fault at the field that these bytes begin with
-abbrev pub fault_at : {A : Type 0} → ImageRule → List ℕ → Result A Fault
-fault_at rule field = Err (record { rule = rule; left = length field })
-
--- A field that is read is a value and the bytes after it.
-
-unfoldable pub byte_at : List ℕ → Result (ℕ × List ℕ) Fault
-byte_at [] = fault_at Truncated []
-byte_at (byte ∷ rest) = Ok (byte, rest)
-
--- a number of n bytes, the lowest first
-unfoldable pub number_at : ℕ → List ℕ → Result (ℕ × List ℕ) Fault
-number_at n bytes = if nat_lt (length bytes) n then fault_at Truncated bytes else Ok (little_number n bytes, drop n bytes)
-
--- a number of n bytes, where it is allowed
-unfoldable pub field_at : ℕ → (ℕ → Bool) → ImageRule → List ℕ → Result (ℕ × List ℕ) Fault
-field_at n allowed rule bytes = do
-  x ← number_at n bytes
-  if allowed x.0 then Ok x else fault_at rule bytes
-
--- a value that may be missing, where it is there
-abbrev pub found_at : {A : Type 0} → Option A → List ℕ → List ℕ → Result (A × List ℕ) Fault
-found_at (Some value) field rest = Ok (value, rest)
-found_at None field rest = fault_at FieldOutOfRange field
-
--- a byte that stands for a value
-unfoldable pub coded_at : {A : Type 0} → (ℕ → Option A) → List ℕ → Result (A × List ℕ) Fault
-coded_at value_of bytes = do
-  x ← byte_at bytes
-  found_at (value_of x.0) bytes x.1
-
-abbrev pub kind_of : ℕ → Option Kind
-kind_of zero = Some Boolean
-kind_of (suc zero) = Some Uint8
-kind_of (suc (suc zero)) = Some Uint16
-kind_of (suc (suc (suc zero))) = Some Uint32
-kind_of (suc (suc (suc (suc n)))) = None
-
-abbrev pub label_of : ℕ → Option Label
-label_of zero = Some Public
-label_of (suc zero) = Some Secret
-label_of (suc (suc n)) = None
-
--- arrays have no images yet
-abbrev pub form_of : ℕ → Option Form
-form_of zero = Some SingleWord
-form_of (suc n) = None
+abbrev pub coded_label : ℕ → Label
+coded_label zero = Public
+coded_label (suc n) = Secret
 
 -- a slot begins at a multiple of 4, and not below the end of the slot before it
 abbrev pub is_offset : ℕ → ℕ → Bool
 is_offset low n = (n % 4 == 0) && nat_le low n
 
 abbrev pub is_frame_size : ℕ → ℕ → Bool
-is_frame_size low n = (n % 4 == 0) && (nat_le n 65536 && nat_le low n)
+is_frame_size low n = (n % 4 == 0) && (nat_le n MOST_FRAME_BYTES && nat_le low n)
 
 abbrev pub is_step_limit : ℕ → Bool
-is_step_limit n = nat_le 1 n && nat_le n 137438953536
+is_step_limit n = nat_le 1 n && nat_le n MOST_STEPS
 
 abbrev pub is_word_count : ℕ → Bool
-is_word_count n = nat_le 1 n && nat_le n 192064
+is_word_count n = nat_le 1 n && nat_le n MOST_WORDS
 
--- magic, version and profile, and what stands after them. The magic is a number too, that of the bytes `FACI`.
-unfoldable pub preamble_at : List ℕ → Result (List ℕ) Fault
-preamble_at bytes = do
-  magic ← field_at 4 (λ n. n == 0x4943_4146) Magic bytes
-  version ← field_at 2 (λ n. n == 1) Version magic.1
-  profile ← field_at 2 (λ n. n == 1) Profile version.1
-  Ok profile.1
-
--- a slot, the one before it ending at `low`
-unfoldable pub slot_at : ℕ → List ℕ → Result (Slot × List ℕ) Fault
-slot_at low bytes = do
-  kind ← coded_at kind_of bytes
-  label ← coded_at label_of kind.1
-  form ← coded_at form_of label.1
-  count ← field_at 2 (λ n. n == 1) FieldOutOfRange form.1
-  offset ← field_at 4 (is_offset low) FieldOutOfRange count.1
-  Ok (record { param = record { kind = kind.0; label = label.0; form = form.0; length = count.0 }; offset = offset.0 }, offset.1)
+-- a parameter's slot, the one before it ending at `low`. Arrays have no images yet: the form is 0 and the length 1.
+unfoldable pub slot_format : ℕ → (Slot → Format) → Format
+slot_format low next =
+    field FieldOutOfRange 1 (λ n. nat_lt n 4) (λ kind.
+    field FieldOutOfRange 1 (λ n. nat_lt n 2) (λ label.
+    field FieldOutOfRange 1 (λ n. n == 0) (λ form.
+    field FieldOutOfRange 2 (λ n. n == 1) (λ count.
+    field FieldOutOfRange 4 (is_offset low) (λ offset.
+    next (record { param = record { kind = coded_kind kind; label = coded_label label; form = SingleWord; length = count }; offset = offset }))))))
 
 -- so many slots
-unfoldable pub slots_at : ℕ → ℕ → List ℕ → Result (List Slot × List ℕ) Fault
-slots_at zero low bytes = Ok ([], bytes)
-slots_at (suc n) low bytes = do
-  first ← slot_at low bytes
-  others ← slots_at n (slot_end first.0) first.1
-  Ok (first.0 ∷ others.0, others.1)
+unfoldable pub slots_format : ℕ → ℕ → (List Slot → Format) → Format
+slots_format zero low next = next []
+slots_format (suc n) low next = slot_format low (λ slot. slots_format n (slot_end slot) (λ slots. next (slot ∷ slots)))
 
-unfoldable pub result_slot_at : ℕ → List ℕ → Result (ResultSlot × List ℕ) Fault
-result_slot_at low bytes = do
-  kind ← coded_at kind_of bytes
-  label ← coded_at label_of kind.1
-  offset ← field_at 4 (is_offset low) FieldOutOfRange label.1
-  Ok (record { kind = kind.0; label = label.0; offset = offset.0 }, offset.1)
+-- whether there is a result, 1 or 0, and its slot where there is one
+abbrev pub flagged_format : ℕ → ℕ → (Option ResultSlot → Format) → Format
+flagged_format low zero next = next None
+flagged_format low (suc n) next =
+    field FieldOutOfRange 1 (λ n. nat_lt n 4) (λ kind.
+    field FieldOutOfRange 1 (λ n. nat_lt n 2) (λ label.
+    field FieldOutOfRange 4 (is_offset low) (λ offset.
+    next (Some (record { kind = coded_kind kind; label = coded_label label; offset = offset })))))
 
--- whether there is a result, and its slot where there is one
-abbrev pub flagged_at : ℕ → ℕ → List ℕ → List ℕ → Result (Option ResultSlot × List ℕ) Fault
-flagged_at zero low field rest = Ok (None, rest)
-flagged_at (suc zero) low field rest = result_slot_at low rest >>= λ slot. Ok (Some slot.0, slot.1)
-flagged_at (suc (suc n)) low field rest = fault_at FieldOutOfRange field
-
-unfoldable pub returned_at : ℕ → List ℕ → Result (Option ResultSlot × List ℕ) Fault
-returned_at low bytes = do
-  flag ← byte_at bytes
-  flagged_at flag.0 low bytes flag.1
+unfoldable pub result_format : ℕ → (Option ResultSlot → Format) → Format
+result_format low next = field FieldOutOfRange 1 (λ n. nat_lt n 2) (λ flag. flagged_format low flag next)
 
 -- so many code words
-unfoldable pub words_at : ℕ → List ℕ → Result (List ℕ × List ℕ) Fault
-words_at zero bytes = Ok ([], bytes)
-words_at (suc n) bytes = do
-  first ← number_at 4 bytes
-  others ← words_at n first.1
-  Ok (first.0 ∷ others.0, others.1)
+unfoldable pub words_format : ℕ → (List ℕ → Format) → Format
+words_format zero next = next []
+words_format (suc n) next = field FieldOutOfRange 4 (λ word. true) (λ word. words_format n (λ words. next (word ∷ words)))
 
 -- where the last slot ends, the parameters' ending at `low`
 abbrev pub layout_end : ℕ → Option ResultSlot → ℕ
 layout_end low None = low
 layout_end low (Some slot) = result_end slot
 
--- where words lie
-pub record LayoutFields : Type 0 where
-  pub slots : List Slot
-  pub returned : Option ResultSlot
-  pub frame_bytes : ℕ
-
-unfoldable pub layout_at : List ℕ → Result (LayoutFields × List ℕ) Fault
-layout_at bytes = do
-  count ← field_at 2 (λ n. nat_le n 8192) FieldOutOfRange bytes
-  slots ← slots_at count.0 0 count.1
-  returned ← returned_at (slots_end 0 slots.0) slots.1
-  frame ← field_at 4 (is_frame_size (layout_end (slots_end 0 slots.0) returned.0)) FieldOutOfRange returned.1
-  Ok (record { slots = slots.0; returned = returned.0; frame_bytes = frame.0 }, frame.1)
-
--- what runs
-pub record CodeFields : Type 0 where
-  pub max_steps : ℕ
-  pub words : List ℕ
-
-unfoldable pub code_at : List ℕ → Result (CodeFields × List ℕ) Fault
-code_at bytes = do
-  steps ← field_at 8 is_step_limit FieldOutOfRange bytes
-  count ← field_at 4 is_word_count FieldOutOfRange steps.1
-  words ← words_at count.0 count.1
-  Ok (record { max_steps = steps.0; words = words.0 }, words.1)
-
-abbrev pub fields_of : LayoutFields → CodeFields → Fields
-fields_of layout code = record { slots = layout.slots; returned = layout.returned; frame_bytes = layout.frame_bytes; max_steps = code.max_steps; words = code.words }
-
--- the fields at the front, and what stands after them
-unfoldable pub fields_at : List ℕ → Result (Fields × List ℕ) Fault
-fields_at bytes = do
-  rest ← preamble_at bytes
-  layout ← layout_at rest
-  code ← code_at layout.1
-  Ok (fields_of layout.0 code.0, code.1)
-
--- all of the bytes
-unfoldable pub all_of : List ℕ → Result Fields Fault
-all_of bytes = do
-  fields ← fields_at bytes
-  if length fields.1 == 0 then Ok fields.0 else fault_at TrailingBytes fields.1
-
--- the same, with each fault by the offset of its field
-abbrev pub placed : {A : Type 0} → ℕ → Result A Fault → Result A ImageFault
-placed total (Ok value) = Ok value
-placed total (Err fault) = Err (Field fault.rule (total - fault.left))
+-- The magic is the number of the bytes `FACI`.
+unfoldable pub image_format : Format
+image_format =
+    field Magic 4 (λ n. n == 0x4943_4146) (λ magic.
+    field Version 2 (λ n. n == 1) (λ version.
+    field Profile 2 (λ n. n == 1) (λ profile.
+    field FieldOutOfRange 2 (λ n. nat_le n MOST_PARAMETERS) (λ count.
+    slots_format count 0 (λ slots.
+    result_format (slots_end 0 slots) (λ returned.
+    field FieldOutOfRange 4 (is_frame_size (layout_end (slots_end 0 slots) returned)) (λ frame.
+    field FieldOutOfRange 8 is_step_limit (λ steps.
+    field FieldOutOfRange 4 is_word_count (λ count.
+    words_format count (λ words.
+    ends (record { slots = slots; returned = returned; frame_bytes = frame; max_steps = steps; words = words })))))))))))
 
 -- the fields that the bytes spell, or the first fault and the offset of its field
 abbrev pub reading : List ℕ → Result Fields ImageFault
-reading bytes = placed (length bytes) (all_of bytes)
+reading bytes = read_by (length bytes) image_format bytes
 
 -- what was read is what should be, unless memory ran out
 abbrev pub IsUnlessMemory : {A : Type 0} → Result A ImageFault → Result A ImageFault → Type 0
 IsUnlessMemory (Ok value) expected = expected ≡ Ok value
 IsUnlessMemory (Err Memory) expected = Unit {0}
 IsUnlessMemory (Err (Field rule offset)) expected = expected ≡ Err (Field rule offset)
-
--- the same for a part of an image, where a view shows what was read
-abbrev pub Fails : {Y : Type 0} → ReadError → Result Y Fault → Type 0
-Fails errors.Memory read = Unit {0}
-Fails (errors.Fault fault) read = read ≡ Err fault
-
-abbrev pub Gives : {X Y : Type 0} → (X → Y) → Result X ReadError → Result Y Fault → Type 0
-Gives view (Ok x) read = read ≡ Ok (view x)
-Gives view (Err e) read = Fails e read
-
-abbrev pub layout_fields : Layout → LayoutFields
-layout_fields layout = record { slots = layout.slots.items; returned = layout.returned; frame_bytes = layout.frame_bytes }
-
-abbrev pub code_fields : Code → CodeFields
-code_fields code = record { max_steps = code.max_steps; words = code.words.items }

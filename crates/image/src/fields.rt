@@ -2,8 +2,10 @@
 
 ghost use Rattle.std.specs.Prelude.{◌≡◌, ◌+◌, ◌%◌, ◌==◌, nat_le, length, Ok};
 ghost use Rattle.image.specs.declared.fields.ReadError.TheVariants.{Memory};
-ghost use Rattle.image.specs.Reading.{Gives, Fails, byte_at, number_at, field_at, coded_at, kind_of, label_of, form_of, is_offset, is_frame_size, is_step_limit, is_word_count, preamble_at, slot_at, result_slot_at, returned_at};
+ghost use Rattle.image.specs.Reading.{is_offset, is_frame_size, is_step_limit, is_word_count};
+ghost use Rattle.image.specs.Parts.{Gives, Fails, byte_at, number_at, field_at, coded_at, kind_of, label_of, form_of, preamble_at, slot_at, result_slot_at, returned_at};
 
+use crate::limits::{MOST_FRAME_BYTES, MOST_PARAMETERS, MOST_STEPS, MOST_WORDS};
 use crate::{ImageRule, ResultSlot, Slot};
 use byteorder::{ByteOrder, LittleEndian};
 use language::{Form, Kind, Label, Param};
@@ -15,14 +17,6 @@ const MAGIC: u32 = 0x4943_4146;
 const VERSION: u16 = 1;
 
 const PROFILE: u16 = 1;
-
-const MOST_PARAMETERS: u16 = 8_192;
-
-const MOST_FRAME_BYTES: u32 = 65_536;
-
-const MOST_STEPS: u64 = 137_438_953_536;
-
-const MOST_WORDS: u32 = 192_064;
 
 /// A field that is wrong.
 #[derive(Clone, Copy, Debug)]
@@ -64,7 +58,7 @@ pub fn fault_of(rule: ImageRule, field: &[u8]) -> ReadError
     })
 }
 
-#[tactic(auto, unfolding(crate::specs::Reading::byte_at))]
+#[tactic(auto, unfolding(crate::specs::Parts::byte_at))]
 fn read_byte(bytes: &[u8]) -> Result<(u8, &[u8]), ReadError>
     ensures { Gives (λ x. (x.0, x.1.now)) result (byte_at bytes.now) }
 {
@@ -74,7 +68,7 @@ fn read_byte(bytes: &[u8]) -> Result<(u8, &[u8]), ReadError>
     }
 }
 
-#[tactic(auto, unfolding(crate::specs::Reading::number_at))]
+#[tactic(auto, unfolding(crate::specs::Parts::number_at))]
 fn read_u16(bytes: &[u8]) -> Result<(u16, &[u8]), ReadError>
     ensures { Gives (λ x. (x.0, x.1.now)) result (number_at 2 bytes.now) }
 {
@@ -84,7 +78,7 @@ fn read_u16(bytes: &[u8]) -> Result<(u16, &[u8]), ReadError>
     Ok((LittleEndian::read_u16(bytes), &bytes[2..]))
 }
 
-#[tactic(auto, unfolding(crate::specs::Reading::number_at))]
+#[tactic(auto, unfolding(crate::specs::Parts::number_at))]
 pub fn read_u32(bytes: &[u8]) -> Result<(u32, &[u8]), ReadError>
     ensures { Gives (λ x. (x.0, x.1.now)) result (number_at 4 bytes.now) }
 {
@@ -94,7 +88,7 @@ pub fn read_u32(bytes: &[u8]) -> Result<(u32, &[u8]), ReadError>
     Ok((LittleEndian::read_u32(bytes), &bytes[4..]))
 }
 
-#[tactic(auto, unfolding(crate::specs::Reading::number_at))]
+#[tactic(auto, unfolding(crate::specs::Parts::number_at))]
 fn read_u64(bytes: &[u8]) -> Result<(u64, &[u8]), ReadError>
     ensures { Gives (λ x. (x.0, x.1.now)) result (number_at 8 bytes.now) }
 {
@@ -104,7 +98,7 @@ fn read_u64(bytes: &[u8]) -> Result<(u64, &[u8]), ReadError>
     Ok((LittleEndian::read_u64(bytes), &bytes[8..]))
 }
 
-#[tactic(auto, unfolding(crate::specs::Reading::field_at))]
+#[tactic(auto, unfolding(crate::specs::Parts::field_at))]
 fn read_magic(bytes: &[u8]) -> Result<(u32, &[u8]), ReadError>
     ensures { Gives (λ x. (x.0, x.1.now)) result (field_at 4 (λ n. n == 0x4943_4146) ImageRule.Magic bytes.now) }
 {
@@ -115,7 +109,7 @@ fn read_magic(bytes: &[u8]) -> Result<(u32, &[u8]), ReadError>
     Ok((magic, rest))
 }
 
-#[tactic(auto, unfolding(crate::specs::Reading::field_at))]
+#[tactic(auto, unfolding(crate::specs::Parts::field_at))]
 fn read_version(bytes: &[u8]) -> Result<(u16, &[u8]), ReadError>
     ensures { Gives (λ x. (x.0, x.1.now)) result (field_at 2 (λ n. n == 1) ImageRule.Version bytes.now) }
 {
@@ -126,7 +120,7 @@ fn read_version(bytes: &[u8]) -> Result<(u16, &[u8]), ReadError>
     Ok((version, rest))
 }
 
-#[tactic(auto, unfolding(crate::specs::Reading::field_at))]
+#[tactic(auto, unfolding(crate::specs::Parts::field_at))]
 fn read_profile(bytes: &[u8]) -> Result<(u16, &[u8]), ReadError>
     ensures { Gives (λ x. (x.0, x.1.now)) result (field_at 2 (λ n. n == 1) ImageRule.Profile bytes.now) }
 {
@@ -138,7 +132,7 @@ fn read_profile(bytes: &[u8]) -> Result<(u16, &[u8]), ReadError>
 }
 
 /// What stands after magic, version and profile.
-#[tactic(auto, unfolding(crate::specs::Reading::preamble_at))]
+#[tactic(auto, unfolding(crate::specs::Parts::preamble_at))]
 pub fn read_preamble(bytes: &[u8]) -> Result<&[u8], ReadError>
     ensures { Gives (λ x. x.now) result (preamble_at bytes.now) }
 {
@@ -148,9 +142,9 @@ pub fn read_preamble(bytes: &[u8]) -> Result<&[u8], ReadError>
     Ok(rest)
 }
 
-#[tactic(auto, unfolding(crate::specs::Reading::field_at))]
+#[tactic(auto, unfolding(crate::specs::Parts::field_at))]
 pub fn read_parameter_count(bytes: &[u8]) -> Result<(u16, &[u8]), ReadError>
-    ensures { Gives (λ x. (x.0, x.1.now)) result (field_at 2 (λ n. nat_le n 8192) ImageRule.FieldOutOfRange bytes.now) }
+    ensures { Gives (λ x. (x.0, x.1.now)) result (field_at 2 (λ n. nat_le n MOST_PARAMETERS) ImageRule.FieldOutOfRange bytes.now) }
 {
     let (count, rest) = read_u16(bytes)?;
     if count > MOST_PARAMETERS {
@@ -171,7 +165,7 @@ fn kind_from(code: u8) -> Option<Kind>
     }
 }
 
-#[tactic(auto, unfolding(crate::specs::Reading::coded_at))]
+#[tactic(auto, unfolding(crate::specs::Parts::coded_at))]
 fn read_kind(bytes: &[u8]) -> Result<(Kind, &[u8]), ReadError>
     ensures { Gives (λ x. (x.0, x.1.now)) result (coded_at kind_of bytes.now) }
 {
@@ -192,7 +186,7 @@ fn label_from(code: u8) -> Option<Label>
     }
 }
 
-#[tactic(auto, unfolding(crate::specs::Reading::coded_at))]
+#[tactic(auto, unfolding(crate::specs::Parts::coded_at))]
 fn read_label(bytes: &[u8]) -> Result<(Label, &[u8]), ReadError>
     ensures { Gives (λ x. (x.0, x.1.now)) result (coded_at label_of bytes.now) }
 {
@@ -213,7 +207,7 @@ fn form_from(code: u8) -> Option<Form>
     }
 }
 
-#[tactic(auto, unfolding(crate::specs::Reading::coded_at))]
+#[tactic(auto, unfolding(crate::specs::Parts::coded_at))]
 fn read_form(bytes: &[u8]) -> Result<(Form, &[u8]), ReadError>
     ensures { Gives (λ x. (x.0, x.1.now)) result (coded_at form_of bytes.now) }
 {
@@ -224,7 +218,7 @@ fn read_form(bytes: &[u8]) -> Result<(Form, &[u8]), ReadError>
     }
 }
 
-#[tactic(auto, unfolding(crate::specs::Reading::field_at))]
+#[tactic(auto, unfolding(crate::specs::Parts::field_at))]
 fn read_length(bytes: &[u8]) -> Result<(u16, &[u8]), ReadError>
     ensures { Gives (λ x. (x.0, x.1.now)) result (field_at 2 (λ n. n == 1) ImageRule.FieldOutOfRange bytes.now) }
 {
@@ -236,7 +230,7 @@ fn read_length(bytes: &[u8]) -> Result<(u16, &[u8]), ReadError>
 }
 
 /// The offset of a slot, the one before it ending at `low`.
-#[tactic(auto, unfolding(crate::specs::Reading::field_at))]
+#[tactic(auto, unfolding(crate::specs::Parts::field_at))]
 fn read_offset(low: u64, bytes: &[u8]) -> Result<(u32, &[u8]), ReadError>
     ensures { Gives (λ x. (x.0, x.1.now)) result (field_at 4 (is_offset low) ImageRule.FieldOutOfRange bytes.now) }
 {
@@ -248,7 +242,7 @@ fn read_offset(low: u64, bytes: &[u8]) -> Result<(u32, &[u8]), ReadError>
 }
 
 /// A parameter's slot, the slot before it ending at `low`.
-#[tactic(auto, unfolding(crate::specs::Reading::slot_at))]
+#[tactic(auto, unfolding(crate::specs::Parts::slot_at))]
 pub fn read_slot(low: u64, bytes: &[u8]) -> Result<(Slot, &[u8]), ReadError>
     ensures { Gives (λ x. (x.0, x.1.now)) result (slot_at low bytes.now) }
 {
@@ -266,7 +260,7 @@ pub fn read_slot(low: u64, bytes: &[u8]) -> Result<(Slot, &[u8]), ReadError>
     Ok((Slot { param, offset }, rest))
 }
 
-#[tactic(auto, unfolding(crate::specs::Reading::result_slot_at))]
+#[tactic(auto, unfolding(crate::specs::Parts::result_slot_at))]
 fn read_result_slot(low: u64, bytes: &[u8]) -> Result<(ResultSlot, &[u8]), ReadError>
     ensures { Gives (λ x. (x.0, x.1.now)) result (result_slot_at low bytes.now) }
 {
@@ -284,7 +278,7 @@ fn read_result_slot(low: u64, bytes: &[u8]) -> Result<(ResultSlot, &[u8]), ReadE
 }
 
 /// The result's slot, where there is a result. The last parameter's slot ends at `low`.
-#[tactic(auto, unfolding(crate::specs::Reading::returned_at))]
+#[tactic(auto, unfolding(crate::specs::Parts::returned_at))]
 pub fn read_returned(low: u64, bytes: &[u8]) -> Result<(Option<ResultSlot>, &[u8]), ReadError>
     ensures { Gives (λ x. (x.0, x.1.now)) result (returned_at low bytes.now) }
 {
@@ -300,7 +294,7 @@ pub fn read_returned(low: u64, bytes: &[u8]) -> Result<(Option<ResultSlot>, &[u8
 }
 
 /// How many bytes the frame has, where the last slot ends at `low`.
-#[tactic(auto, unfolding(crate::specs::Reading::field_at))]
+#[tactic(auto, unfolding(crate::specs::Parts::field_at))]
 pub fn read_frame_bytes(low: u64, bytes: &[u8]) -> Result<(u32, &[u8]), ReadError>
     ensures { Gives (λ x. (x.0, x.1.now)) result (field_at 4 (is_frame_size low) ImageRule.FieldOutOfRange bytes.now) }
 {
@@ -311,7 +305,7 @@ pub fn read_frame_bytes(low: u64, bytes: &[u8]) -> Result<(u32, &[u8]), ReadErro
     Ok((frame, rest))
 }
 
-#[tactic(auto, unfolding(crate::specs::Reading::field_at))]
+#[tactic(auto, unfolding(crate::specs::Parts::field_at))]
 pub fn read_max_steps(bytes: &[u8]) -> Result<(u64, &[u8]), ReadError>
     ensures { Gives (λ x. (x.0, x.1.now)) result (field_at 8 is_step_limit ImageRule.FieldOutOfRange bytes.now) }
 {
@@ -322,7 +316,7 @@ pub fn read_max_steps(bytes: &[u8]) -> Result<(u64, &[u8]), ReadError>
     Ok((steps, rest))
 }
 
-#[tactic(auto, unfolding(crate::specs::Reading::field_at))]
+#[tactic(auto, unfolding(crate::specs::Parts::field_at))]
 pub fn read_word_count(bytes: &[u8]) -> Result<(u32, &[u8]), ReadError>
     ensures { Gives (λ x. (x.0, x.1.now)) result (field_at 4 is_word_count ImageRule.FieldOutOfRange bytes.now) }
 {

@@ -1,19 +1,16 @@
 ghost use Rattle.std.specs.Prelude.{◌≡◌, length, IfOk, Ok};
 ghost use Rattle.image.specs.Fields.{Fields, IsImage, slots_end};
 ghost use Rattle.image.specs.Spelling.{spelling};
-ghost use Rattle.image.specs.Reading.{Gives, IsUnlessMemory, slots_at, words_at, layout_at, code_at, layout_end, layout_fields, code_fields, fields_of, all_of, reading};
+ghost use Rattle.image.specs.Reading.{IsUnlessMemory, reading};
+ghost use Rattle.image.specs.Parts.{Gives, slots_at, words_at, layout_at, code_at, layout_fields, code_fields, fields_of, all_of};
 
 use crate::fields::{
     ReadError, fault_of, read_frame_bytes, read_max_steps, read_parameter_count, read_preamble,
     read_returned, read_slot, read_u32, read_word_count,
 };
+use crate::limits::{PARAMETER_BYTES, WORD_BYTES};
 use crate::{Image, ImageFault, ImageRule, ResultSlot, Slot};
 use std::alloc::Global;
-
-/// How many bytes a parameter's fields take.
-const PARAMETER_BYTES: usize = 9;
-
-const WORD_BYTES: usize = 4;
 
 /// So many slots.
 fn read_slots(alloc: Global, count: u16, bytes: &[u8]) -> Result<(Vec<Slot>, &[u8]), ReadError>
@@ -65,7 +62,7 @@ struct Layout {
     frame_bytes: u32,
 }
 
-#[tactic(auto, unfolding(crate::specs::Reading::layout_at))]
+#[tactic(auto, unfolding(crate::specs::Parts::layout_at))]
 fn read_layout(alloc: Global, bytes: &[u8]) -> Result<(Layout, &[u8]), ReadError>
     ensures { Gives (λ x. (layout_fields x.0, x.1.now)) result (layout_at bytes.now) }
 {
@@ -93,7 +90,7 @@ struct Code {
     words: Vec<u32>,
 }
 
-#[tactic(auto, unfolding(crate::specs::Reading::code_at))]
+#[tactic(auto, unfolding(crate::specs::Parts::code_at))]
 fn read_code(alloc: Global, bytes: &[u8]) -> Result<(Code, &[u8]), ReadError>
     ensures { Gives (λ x. (code_fields x.0, x.1.now)) result (code_at bytes.now) }
 {
@@ -103,7 +100,7 @@ fn read_code(alloc: Global, bytes: &[u8]) -> Result<(Code, &[u8]), ReadError>
     Ok((Code { max_steps, words }, rest))
 }
 
-#[tactic(auto, unfolding(crate::specs::Reading::fields_at, crate::specs::Reading::all_of))]
+#[tactic(auto, unfolding(crate::specs::Parts::fields_at, crate::specs::Parts::all_of))]
 fn read_all(alloc: Global, bytes: &[u8]) -> Result<(Layout, Code), ReadError>
     ensures { Gives (λ x. fields_of (layout_fields x.0) (code_fields x.1)) result (all_of bytes.now) }
 {

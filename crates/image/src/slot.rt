@@ -1,7 +1,7 @@
 ghost use Rattle.std.specs.Prelude.{◌≡◌, ◌+◌};
-ghost use Rattle.image.specs.Fields.{slot_end, result_end, slot_bytes, element_bytes};
+ghost use Rattle.image.specs.Fields.{slot_end, result_end};
 
-use language::{Form, Kind, Label, Param};
+use language::{Kind, Label, Param};
 
 /// Where a parameter lies in the frame.
 #[derive(Clone, Copy, Debug, PartialEq, Eq)]
@@ -20,33 +20,12 @@ pub struct ResultSlot {
     pub offset: u32,
 }
 
-fn element_bytes_of(kind: Kind) -> u64
-    ensures { result ≡ element_bytes kind }
-{
-    match kind {
-        Kind::Boolean | Kind::Uint8 => 1,
-        Kind::Uint16 => 2,
-        Kind::Uint32 => 4,
-    }
-}
-
-fn bytes_of(param: Param) -> u64
-    ensures { result ≡ slot_bytes param.form param.kind param.length }
-{
-    match param.form {
-        Form::SingleWord => 4,
-        Form::FixedArray | Form::MutableArray => {
-            (u64::from(param.length) * element_bytes_of(param.kind)).div_ceil(4) * 4
-        }
-    }
-}
-
 impl Slot {
     /// The offset of the first byte after it.
     pub fn end(self) -> u64
         ensures { result ≡ slot_end self }
     {
-        u64::from(self.offset) + bytes_of(self.param)
+        u64::from(self.offset) + 4 * u64::from(self.param.words())
     }
 }
 

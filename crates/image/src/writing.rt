@@ -3,17 +3,11 @@ ghost use Rattle.std.specs.List.{flat_map};
 ghost use Rattle.byteorder.specs.Endian.{little_bytes};
 ghost use Rattle.image.specs.Spelling.{spelling, preamble, kind_code, label_code, form_code, spelled_slot, spelled_result, spelled_layout, spelled_code};
 
+use crate::limits::{FIXED_BYTES, PARAMETER_BYTES, WORD_BYTES};
 use crate::{Image, ResultSlot, Slot};
 use byteorder::{ByteOrder, LittleEndian};
 use language::{Form, Kind, Label, Refusal, Rule};
 use std::alloc::{AllocError, Global};
-
-/// How many bytes an image takes at most beside its parameters and its code words.
-const FIXED_BYTES: usize = 33;
-/// How many bytes a parameter's fields take.
-const PARAMETER_BYTES: usize = 9;
-
-const WORD_BYTES: usize = 4;
 
 fn code_of_kind(kind: Kind) -> u8
     ensures { result ≡ kind_code kind }

@@ -1,5 +1,5 @@
 -- The turns of the loops of this crate, over the lists that they go through.
-use Rattle.std.proofs.Common.{◌≡◌, ℕ, ◌+◌, ◌<◌, ◌≤◌, true, false, List, [], ◌∷◌, ◌++◌, Some, None, Result, drop, take, length, get_or, map, cond, is_some, ◌==◌, ◌⊎◌, inl, inr, nat_lt, replicate, refl, sym, ap, ap₂, subst, ◌∙◌, arith}
+use Rattle.std.proofs.Common.{◌≡◌, ℕ, ◌+◌, ◌<◌, ◌≤◌, true, false, List, [], ◌∷◌, ◌++◌, Some, None, Result, drop, take, length, get_or, map, cond, ◌==◌, ◌⊎◌, inl, inr, nat_lt, replicate, refl, sym, ap, ap₂, subst, ◌∙◌, arith}
 use Rattle.std.proofs.lemmas.List.{drop_more, drop_all, take_more, take-append-drop, map-append}
 use Rattle.std.proofs.lemmas.Bool.Decides.{nat_tests}
 use Rattle.std.proofs.lemmas.Result.{err_from_is_err_and}
@@ -12,7 +12,7 @@ use Rattle.language.specs.declared.tree.Parameter.{Parameter}
 use Rattle.language.specs.declared.tree.Procedure.{Procedure}
 use Rattle.language.specs.declared.tree.Statement.{Statement}
 use Rattle.language.specs.Evaluation.{Run, Knowledge, body_run, values, value, passed, run, run_all}
-use Rattle.language.specs.Meaning.{word_arguments, is_word, copied_out, exported, made_array}
+use Rattle.language.specs.Meaning.{word_arguments, is_word, copied_out, made_array}
 use Rattle.language.specs.declared.signature.Kind.{Kind}
 use Rattle.language.specs.State.{State, array}
 use Rattle.language.specs.State as state
@@ -77,21 +77,6 @@ pub find_later : (ps : List Procedure) (i : ℕ) (p : Procedure) (text : List �
     → known_of (take (i + 1) ps) text ≡ None
 find_later ps i p text less is none other =
     ap (λ qs. known_of qs text) (up_to ps i p less is) ∙ missed (take i ps) p text none (bytes_eq-symmetric text p.name.now ∙ other)
-
--- the first export
-module _ (ps : List Procedure) (i : ℕ) (p : Procedure) (less : i < length ps) (is : p ≡ get_or ps i p) where
-  at_next : exported (map procedure_tree (take i ps)) (map procedure_tree (drop i ps))
-      ≡ cond (is_some p.export) (Some (map procedure_tree (take i ps), procedure_tree p)) (exported (map procedure_tree (take (i + 1) ps)) (map procedure_tree (drop (i + 1) ps)))
-  at_next =
-      ap (λ qs. exported (map procedure_tree (take i ps)) (map procedure_tree qs)) (next_of ps i p less is)
-      ∙ ap (λ qs. cond (is_some p.export) (Some (map procedure_tree (take i ps), procedure_tree p)) (exported qs (map procedure_tree (drop (i + 1) ps))))
-      (sym (map-append procedure_tree (take i ps) (p ∷ [])) ∙ ap (map procedure_tree) (sym (up_to ps i p less is)))
-
-  pub export_here : is_some p.export ≡ true → exported (map procedure_tree (take i ps)) (map procedure_tree (drop i ps)) ≡ Some (map procedure_tree (take i ps), procedure_tree p)
-  export_here holds = at_next ∙ ap (λ b. cond b (Some (map procedure_tree (take i ps), procedure_tree p)) (exported (map procedure_tree (take (i + 1) ps)) (map procedure_tree (drop (i + 1) ps)))) holds
-
-  pub export_later : is_some p.export ≡ false → exported (map procedure_tree (take i ps)) (map procedure_tree (drop i ps)) ≡ exported (map procedure_tree (take (i + 1) ps)) (map procedure_tree (drop (i + 1) ps))
-  export_later fails = at_next ∙ ap (λ b. cond b (Some (map procedure_tree (take i ps), procedure_tree p)) (exported (map procedure_tree (take (i + 1) ps)) (map procedure_tree (drop (i + 1) ps)))) fails
 
 -- the statements of a block
 module _ (whole : Run State) (known : Knowledge) (start room : ℕ) (ss : List Statement) where

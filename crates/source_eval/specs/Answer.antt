@@ -5,15 +5,12 @@ use Rattle.arguments.specs.declared.fault.ArgumentFault.{ArgumentFault}
 use Rattle.language.specs.declared.signature.Param.{Param}
 use Rattle.language.specs.declared.values.Arg.{Arg}
 use Rattle.language.specs.Evaluation.{Run, program_run}
-use Rattle.language.specs.Meaning.{Ending, gives, faults, exported}
+use Rattle.language.specs.Meaning.{Ending, gives, faults}
 use Rattle.language.specs.Results.{Results}
-use Rattle.language.specs.Tree.{ParameterTree, ProcedureTree, ProgramTree}
+use Rattle.language.specs.Signature.{exported, param_of}
+use Rattle.language.specs.Tree.{ProcedureTree, ProgramTree}
 use Rattle.source_eval.specs.declared.fault.EvalFault.{EvalFault}
 use Rattle.source_eval.specs.declared.fault.EvalFault.TheVariants.{Argument, NoMeaning, Budget}
-
--- a parameter without its name
-abbrev pub param_of : ParameterTree → Param
-param_of p = record { kind = p.kind; label = p.label; form = p.form; length = p.length }
 
 -- the parameters of the export
 abbrev pub found_params : Option (List ProcedureTree × ProcedureTree) → List Param

@@ -1,11 +1,11 @@
 // The program.
 
-ghost use Rattle.std.specs.Prelude.{◌≡◌, ◌≢◌, [], Err, map, IfOk, IfErr};
+ghost use Rattle.std.specs.Prelude.{◌≡◌, ◌≢◌, Err, map, IfOk, IfErr};
 ghost use Rattle.std.specs.Option.{option_map};
 ghost use Rattle.language.specs.Evaluation.{export_run};
-ghost use Rattle.language.specs.Meaning.{argument_value, exported, final_arrays, holding};
+ghost use Rattle.language.specs.Meaning.{argument_value, final_arrays, holding};
 ghost use Rattle.language.specs.Tree.{parameter_tree, procedure_tree, program_tree};
-ghost use Rattle.source_eval.specs.Answer.{answer, param_of};
+ghost use Rattle.source_eval.specs.Answer.{answer};
 ghost use Rattle.source_eval.specs.Metering.{Ended, Stopped};
 ghost use Rattle.source_eval.specs.Views.{held, value_of, word_of};
 ghost use Rattle.source_eval.specs.declared.fault.EvalFault.TheVariants.{Memory};
@@ -15,39 +15,8 @@ use crate::statements::body;
 use crate::values::{Value, Word};
 use crate::variables::Variables;
 use arguments::first_fault;
-use language::{Arg, Args, Form, Kind, Numbers, Outcome, Param, Parameter, Procedure, Program};
+use language::{Arg, Args, Form, Kind, Numbers, Outcome, Parameter, Procedure, Program};
 use std::alloc::Global;
-
-/// The first exported procedure, and those before it.
-fn exported<'p, 'a>(
-    procedures: &'p [Procedure<'a>],
-) -> Option<(&'p [Procedure<'a>], &'p Procedure<'a>)>
-    ensures { option_map (λ found. (map procedure_tree found.0.now, procedure_tree found.1.now)) result ≡ exported [] (map procedure_tree procedures.now) }
-{
-    for (index, procedure) in procedures.iter().enumerate() {
-        if procedure.export.is_some() {
-            return Some((&procedures[..index], procedure));
-        }
-    }
-    None
-}
-
-/// Parameters without their names.
-fn params(alloc: Global, parameters: &[Parameter<'_>]) -> Result<Vec<Param>, EvalFault>
-    ensures ok { IfOk result (λ params. params.items ≡ map param_of (map parameter_tree parameters.now)) }
-    ensures memory { IfErr result (λ fault. fault ≡ Memory) }
-{
-    let mut params = Vec::new(alloc);
-    for parameter in parameters {
-        params.push(Param {
-            kind: parameter.kind,
-            label: parameter.label,
-            form: parameter.form,
-            length: parameter.length,
-        })?;
-    }
-    Ok(params)
-}
 
 /// What a parameter of this kind holds.
 fn argument_value(alloc: Global, kind: Kind, arg: &Arg) -> Result<Value, EvalFault>
@@ -143,13 +112,13 @@ pub fn eval(
 ) -> Result<Outcome, EvalFault>
     ensures { result ≢ Err Memory → result ≡ answer (program_tree program.now) args.now budget }
 {
-    let Some((earlier, export)) = exported(&program.procedures) else {
+    let Some((earlier, export)) = program.exported() else {
         return match first_fault(&[], args) {
             Some(fault) => Err(EvalFault::Argument(fault)),
             None => Ok(Outcome::new(None, Vec::new(alloc))),
         };
     };
-    let params = params(alloc, &export.parameters)?;
+    let params = export.params(alloc)?;
     if let Some(fault) = first_fault(&params, args) {
         return Err(EvalFault::Argument(fault));
     }

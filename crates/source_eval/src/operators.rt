@@ -1,9 +1,8 @@
 // What the operators make of words.
 
 ghost use Rattle.std.specs.Prelude.{◌≡◌, ◌≢◌, true, ◌==◌, ◌&&◌, IfOk, IfErr, if◌then◌else◌};
-ghost use Rattle.language.specs.ExprTyping.{operation_of, operation_kind};
 ghost use Rattle.language.specs.Meaning.{gives, faults};
-ghost use Rattle.language.specs.Operators.{binary_word, converted_word, divides, operated, prefix_value, prefix_word, rotated_word, selected_word, truth_of, width_of};
+ghost use Rattle.language.specs.Operators.{binary_word, converted_word, divides, operated, prefix_value, prefix_word, rotated_word, selected_word, truth_of};
 ghost use Rattle.source_eval.specs.Metering.{IsFault};
 ghost use Rattle.source_eval.specs.Views.{word_of};
 
@@ -12,55 +11,11 @@ use crate::values::Word;
 use language::{BinaryOperator, Kind, Place, PrefixOperator};
 use word::Width;
 
-/// The width of a number; a bool lies in the narrowest.
-fn width(kind: Kind) -> Width
-    ensures { result ≡ width_of kind }
-{
-    match kind {
-        Kind::Boolean | Kind::Uint8 => Width::W8,
-        Kind::Uint16 => Width::W16,
-        Kind::Uint32 => Width::W32,
-    }
-}
-
 /// Whether a bool is true.
 pub fn is_true(value: u32) -> bool
     ensures { result ≡ truth_of value }
 {
     value != 0
-}
-
-/// Whether a divisor 0 has no meaning.
-fn divides(operator: BinaryOperator) -> bool
-    ensures { result ≡ divides operator }
-{
-    matches!(operator, BinaryOperator::Divide | BinaryOperator::Remainder)
-}
-
-/// The kind of what an operator gives, its left operand of this kind.
-fn kind_after(operator: BinaryOperator, kind: Kind) -> Kind
-    ensures { result ≡ operation_kind (operation_of operator) kind }
-{
-    match operator {
-        BinaryOperator::Either
-        | BinaryOperator::Both
-        | BinaryOperator::Equal
-        | BinaryOperator::Unequal
-        | BinaryOperator::Less
-        | BinaryOperator::LessOrEqual
-        | BinaryOperator::Greater
-        | BinaryOperator::GreaterOrEqual => Kind::Boolean,
-        BinaryOperator::BitOr
-        | BinaryOperator::BitXor
-        | BinaryOperator::BitAnd
-        | BinaryOperator::ShiftLeft
-        | BinaryOperator::ShiftRight
-        | BinaryOperator::Add
-        | BinaryOperator::Subtract
-        | BinaryOperator::Multiply
-        | BinaryOperator::Divide
-        | BinaryOperator::Remainder => kind,
-    }
 }
 
 /// The value between two operands, the left of this width.
@@ -95,12 +50,12 @@ pub fn binary(place: Place, operator: BinaryOperator, a: Word, b: Word) -> Resul
     ensures ok { IfOk result (λ w. (if divides operator && (b.value == 0) then faults place else gives (binary_word operator (word_of a) (word_of b))) ≡ gives (word_of w)) }
     ensures err { IfErr result (IsFault (if divides operator && (b.value == 0) then faults place else gives (binary_word operator (word_of a) (word_of b)))) }
 {
-    if divides(operator) && b.value == 0 {
+    if operator.divides() && b.value == 0 {
         return Err(EvalFault::NoMeaning(place));
     }
     Ok(Word {
-        kind: kind_after(operator, a.kind),
-        value: operated(operator, width(a.kind), a.value, b.value),
+        kind: operator.result_kind(a.kind),
+        value: operated(operator, a.kind.width(), a.value, b.value),
     })
 }
 
@@ -108,7 +63,7 @@ pub fn binary(place: Place, operator: BinaryOperator, a: Word, b: Word) -> Resul
 pub fn prefix(operator: PrefixOperator, a: Word) -> Word
     ensures { word_of result ≡ prefix_word operator (word_of a) }
 {
-    let width = width(a.kind);
+    let width = a.kind.width();
     let value = match operator {
         PrefixOperator::Not => word::from_bool(word::not(is_true(a.value))),
         PrefixOperator::Complement => word::complement(width, a.value),
@@ -126,7 +81,7 @@ pub fn rotate(a: Word, amount: u32) -> Word
 {
     Word {
         kind: a.kind,
-        value: word::rotate_left(width(a.kind), a.value, amount),
+        value: word::rotate_left(a.kind.width(), a.value, amount),
     }
 }
 
@@ -136,7 +91,7 @@ pub fn convert(kind: Kind, a: Word) -> Word
 {
     Word {
         kind,
-        value: word::convert(width(kind), a.value),
+        value: word::convert(kind.width(), a.value),
     }
 }
 
