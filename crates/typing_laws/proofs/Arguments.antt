@@ -1,28 +1,24 @@
 -- Arguments beside their parameters.
-use Rattle.std.proofs.Common.{◌≡◌, ℕ, suc, Bool, true, false, not, ◌&&◌, ◌||◌, ◌==◌, List, [], ◌∷◌, ◌++◌, length, Option, Some, None, refl, sym, ap, ap₂, ◌∙◌, subst, true≢false, arith, if◌then◌else◌}
+use Rattle.std.proofs.Common.{◌≡◌, ℕ, suc, Bool, true, false, not, ◌&&◌, ◌||◌, ◌==◌, List, [], ◌∷◌, ◌++◌, length, Some, refl, sym, ap, ap₂, ◌∙◌, subst, true≢false, arith, if◌then◌else◌}
 use Rattle.std.proofs.lemmas.Bool.Decides.{nat_tests}
 use Rattle.std.proofs.lemmas.List.Folds.{list_any-append}
 use Rattle.std.proofs.lemmas.Option.{same_Some}
 use Rattle.std.specs.List.{list_any}
-use Rattle.word.specs.declared.place.Place.{Place}
-use Rattle.language.specs.declared.rule.Rule.{Rule}
-use Rattle.language.specs.declared.rule.Rule.TheVariants.{WrongKind, ArgumentCount, ArrayShapeOrLabel, NotMutable, ArrayPassedTwice}
+use Rattle.language.specs.declared.rule.Rule.TheVariants.{ArgumentCount, ArrayShapeOrLabel, NotMutable, ArrayPassedTwice}
 use Rattle.language.specs.declared.signature.Form.{Form}
 use Rattle.language.specs.declared.signature.Form.TheVariants.{SingleWord, FixedArray, MutableArray}
-use Rattle.language.specs.declared.signature.Kind.{Kind}
 use Rattle.language.specs.declared.signature.Label.{Label}
 use Rattle.language.specs.declared.signature.Label.TheVariants.{Public, Secret}
 use Rattle.language.specs.declared.typing.ArrayType.{ArrayType}
 use Rattle.language.specs.declared.typing.ValueType.{ValueType}
 use Rattle.language.specs.declared.typing.ValueType.TheVariants.{Word, Array, Nothing}
-use Rattle.language.specs.declared.typing.VariableType.{VariableType}
 use Rattle.language.specs.declared.typing.WordType.{WordType}
-use Rattle.language.specs.ExprTyping.{type_of, types_of, expr_violations, exprs_violations}
+use Rattle.language.specs.ExprTyping.{types_of, expr_violations, exprs_violations}
 use Rattle.language.specs.Tree.{ExprTree, name, ParameterTree}
-use Rattle.language.specs.Types.{Scope, found, variable, same_kind, same_label, is_secret, when, with_type}
+use Rattle.language.specs.Types.{Scope, variable, same_kind, same_label, when, with_type}
 use Rattle.language.specs.Typing.{parameter_value, is_mutable, same_array, shape_rules, argument_rules, argument_variable, is_immutable, Passed, passed_rules, all_passed_rules, array_name, same_name, clash, clashes, passed, arguments_rules}
-use Rattle.language.specs.WellTyped.{labelled, IsVariable, HasType, of_name, Suits, array_of, IsPassed, as_word, as_array, as_mutable_array, array_given, is_shared, SharesNone, ArePassed, none_passed, one_passed}
-use Rattle.typing_laws.proofs.Expressions.{has_type, typed, IsTyped, is_typed}
+use Rattle.language.specs.WellTyped.{labelled, IsVariable, HasType, of_name, array_of, IsPassed, as_word, as_array, as_mutable_array, array_given, is_shared, SharesNone, ArePassed, none_passed, one_passed}
+use Rattle.typing_laws.proofs.Expressions.{has_type, typed, is_typed}
 use Rattle.typing_laws.proofs.TypeTests.{both, neither, one_kind, same_as_itself}
 use Rattle.typing_laws.proofs.NoRules.{none_left, none_right, nothing_more, not_when, is_met}
 use Rattle.typing_laws.proofs.Values.{is_suited, suited}
@@ -48,7 +44,7 @@ module _ (scope : Scope) where
       let rest = all_typed more in
       (nothing_more (expr_violations scope e) (exprs_violations scope es) one.none rest.0, ap₂ with_type one.is rest.1)
 
--- One argument.
+  -- One argument.
 
   by_shape : (wanted : ArrayType) (given : ValueType) → shape_rules wanted given ≡ [] → given ≡ Array wanted
   by_shape wanted (Array a) h =

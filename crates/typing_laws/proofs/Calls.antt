@@ -1,20 +1,18 @@
 -- Calls and right sides.
-use Rattle.std.proofs.Common.{◌≡◌, ℕ, Bool, true, false, ◌&&◌, List, [], ◌∷◌, ◌++◌, slice_get, Option, Some, None, refl, sym, ap, ap₂, ◌∙◌, true≢false}
-use Rattle.std.proofs.lemmas.Option.{none-some, same_Some}
-use Rattle.word.specs.declared.place.Place.{Place}
-use Rattle.language.specs.declared.rule.Rule.TheVariants.{ProcedureNotDeclaredEarlier, CallAssignsPublicUnderSecretControl}
+use Rattle.std.proofs.Common.{◌≡◌, Bool, false, ◌&&◌, List, [], slice_get, Option, Some, None, refl, sym, ap, ap₂, ◌∙◌, true≢false}
+use Rattle.language.specs.declared.rule.Rule.TheVariants.{CallAssignsPublicUnderSecretControl}
 use Rattle.language.specs.declared.signature.Label.{Label}
 use Rattle.language.specs.declared.signature.Label.TheVariants.{Public, Secret}
 use Rattle.language.specs.declared.typing.Callee.{Callee}
 use Rattle.language.specs.declared.typing.Declared.{Declared}
 use Rattle.language.specs.declared.typing.Declared.TheVariants.{Procedure, Variable}
 use Rattle.language.specs.declared.typing.ValueType.{ValueType}
-use Rattle.language.specs.ExprTyping.{type_of, types_of, expr_violations, exprs_violations}
+use Rattle.language.specs.ExprTyping.{exprs_violations}
 use Rattle.language.specs.Tree.{ExprTree, CallTree, RightTree, called, computed, ProcedureTree}
-use Rattle.language.specs.Types.{Scope, found, callee, is_secret, at, when, unless, of_all}
+use Rattle.language.specs.Types.{Scope, found, callee, is_secret, at, when, of_all}
 use Rattle.language.specs.Typing.{arguments_rules, called_one, with_tree, known_call_rules, known_call_type, call_rules, call_type, call_violations, result_value, right_type, right_violations}
 use Rattle.language.specs.WellTyped.{IsCall, of_procedure, Gives, of_call, of_value}
-use Rattle.typing_laws.proofs.Arguments.{HaveTypes, have_types, all_typed, are_passed, passed_rules_none}
+use Rattle.typing_laws.proofs.Arguments.{have_types, all_typed, are_passed, passed_rules_none}
 use Rattle.typing_laws.proofs.Expressions.{has_type, typed, is_typed}
 use Rattle.typing_laws.proofs.NoRules.{none_left, none_right, nothing_more, no_rules, not_when, has_met}
 
@@ -85,7 +83,7 @@ module _ (earlier : List ProcedureTree) (scope : Scope) (control : Label) where
       let rules : known_call_rules scope control es (Some (k, p)) ts ≡ [] =
       nothing_more (arguments_rules scope p.parameters ts es) (when (is_secret control && k.assigns_public) CallAssignsPublicUnderSecretControl) n.none (ap (λ b. when b CallAssignsPublicUnderSecretControl) (told control k.assigns_public may)) in (
         nothing_more (exprs_violations scope es) (at c.place (call_rules earlier scope control c)) all.0
-        (ap₂ (λ o ts. at c.place (of_all [] (known_call_rules scope control es o) ts)) same all.1 ∙ ap (at c.place) rules),
+            (ap₂ (λ o ts. at c.place (of_all [] (known_call_rules scope control es o) ts)) same all.1 ∙ ap (at c.place) rules),
         ap₂ (λ o ts. of_all None (known_call_type scope control es o) ts) same all.1 ∙ has_met (known_call_rules scope control es (Some (k, p)) ts) (result_value p.result) rules,
       )
 

@@ -1,5 +1,5 @@
 -- The rules of inference give an expression exactly the type that it has.
-use Rattle.std.proofs.Common.{◌≡◌, ℕ, ◌^◌, ◌<◌, Bool, true, false, not, nat_lt, List, [], ◌++◌, Option, Some, None, is_some, refl, sym, ap, ap₂, ◌∙◌, subst, arith}
+use Rattle.std.proofs.Common.{◌≡◌, ℕ, ◌^◌, ◌<◌, Bool, true, not, nat_lt, List, [], ◌++◌, Option, Some, None, is_some, refl, sym, ap, ap₂, ◌∙◌, subst, arith}
 use Rattle.std.proofs.lemmas.Bool.Decides.{nat_tests}
 use Rattle.std.proofs.lemmas.Option.{none-some, same_Some}
 use Rattle.std.specs.Option.{option_map}
@@ -7,7 +7,7 @@ use Rattle.word.specs.declared.place.Place.{Place}
 use Rattle.language.specs.declared.rule.Rule.{Rule}
 use Rattle.language.specs.declared.rule.Rule.TheVariants.{UndeclaredName, LiteralOutOfRange}
 use Rattle.language.specs.declared.signature.Kind.{Kind}
-use Rattle.language.specs.declared.signature.Kind.TheVariants.{Boolean, Uint32}
+use Rattle.language.specs.declared.signature.Kind.TheVariants.{Boolean}
 use Rattle.language.specs.declared.signature.Label.TheVariants.{Public}
 use Rattle.language.specs.declared.tree.BinaryOperator.{BinaryOperator}
 use Rattle.language.specs.declared.tree.PrefixOperator.{PrefixOperator}
@@ -16,7 +16,6 @@ use Rattle.language.specs.declared.typing.Declared.TheVariants.{Procedure, Varia
 use Rattle.language.specs.declared.typing.ValueType.{ValueType}
 use Rattle.language.specs.declared.typing.ValueType.TheVariants.{Word, Array}
 use Rattle.language.specs.declared.typing.VariableType.{VariableType}
-use Rattle.language.specs.declared.typing.Violation.{Violation}
 use Rattle.language.specs.ExprTyping.{operation_of, operation_kind, operation_rules, binary_rules, binary_type, prefix_rules, prefix_type, rotate_rules, rotate_type, convert_rules, convert_type, select_rules, select_type, element_rules, element_type, number_rules, name_type, name_rules, type_of, expr_violations}
 use Rattle.language.specs.Tree.{ExprTree, number, truth, name, prefix, binary, rotate, convert, select, element}
 use Rattle.language.specs.Types.{Scope, found, variable, bits_of, word, joined, kind_of, label_of, at, when, unless, of_one, of_two, of_three}

@@ -6,3 +6,4 @@ pub mod Values
 pub mod Arguments
 pub mod Calls
 pub mod Statements
+pub mod Programs

@@ -1,5 +1,5 @@
 -- Where no rule is violated.
-use Rattle.std.proofs.Common.{◌≡◌, Bool, true, false, not, List, [], ◌∷◌, ◌++◌, Option, Some, None, refl, ap, ap₂}
+use Rattle.std.proofs.Common.{◌≡◌, Bool, true, false, not, List, [], ◌∷◌, ◌++◌, Some, refl, ap, ap₂}
 use Rattle.std.proofs.lemmas.Option.{none-some, same_Some}
 use Rattle.word.specs.declared.place.Place.{Place}
 use Rattle.language.specs.declared.rule.Rule.{Rule}

@@ -1,11 +1,11 @@
 -- The rules of each node of an expression, and what it makes, by the rules of inference.
-use Rattle.std.proofs.Common.{◌≡◌, ℕ, ◌<◌, Bool, true, false, not, ◌&&◌, ◌||◌, nat_lt, [], ◌++◌, Some, refl, sym, ap, ap₂, ◌∙◌, subst, true≢false, arith}
+use Rattle.std.proofs.Common.{◌≡◌, ℕ, ◌<◌, Bool, true, false, not, ◌&&◌, nat_lt, [], ◌++◌, refl, sym, ap, ap₂, ◌∙◌, subst, true≢false, arith}
 use Rattle.std.proofs.lemmas.Bool.Decides.{nat_tests}
 use Rattle.language.specs.declared.rule.Rule.TheVariants.{WidthsDiffer, WrongKind, LiteralOutOfRange, SecretIndex, SecretDivisionOperand}
 use Rattle.language.specs.declared.signature.Kind.{Kind}
 use Rattle.language.specs.declared.signature.Kind.TheVariants.{Boolean, Uint8, Uint16, Uint32}
 use Rattle.language.specs.declared.signature.Label.{Label}
-use Rattle.language.specs.declared.signature.Label.TheVariants.{Public, Secret}
+use Rattle.language.specs.declared.signature.Label.TheVariants.{Public}
 use Rattle.language.specs.declared.tree.PrefixOperator.{PrefixOperator}
 use Rattle.language.specs.declared.tree.PrefixOperator.TheVariants.{Not, Complement, Negate}
 use Rattle.language.specs.declared.typing.ArrayType.{ArrayType}
@@ -16,9 +16,9 @@ use Rattle.language.specs.declared.typing.ValueType.TheVariants.{Word, Array, No
 use Rattle.language.specs.declared.typing.WordType.{WordType}
 use Rattle.language.specs.ExprTyping.{is_uneven, takes, divides_secret, operation_rules, operation_kind, prefix_rules, rotates_within, rotate_rules, convert_rules, select_rules, element_rules}
 use Rattle.language.specs.Grammatical.{IsNumberKind}
-use Rattle.language.specs.Types.{bits_of, word, joined, is_number, is_numeric, is_bool, is_array, is_narrow, is_hidden, is_secret, kind_of, label_of, widths_differ, are_alike, same_kind, when}
+use Rattle.language.specs.Types.{bits_of, word, joined, is_number, is_numeric, is_bool, is_array, is_narrow, is_hidden, is_secret, widths_differ, are_alike, when}
 use Rattle.language.specs.WellTyped.{labelled, Makes, arithmetic, multiplication, division, shift, equality, order, logic, Takes}
-use Rattle.typing_laws.proofs.TypeTests.{both, neither, a_number, a_bool, by_number, same_as_itself, one_width, alike_kinds, a_full_word, a_public, numeric_word, bool_word, AreWords, numeric_words, bool_words, alike_words}
+use Rattle.typing_laws.proofs.TypeTests.{both, neither, a_number, a_bool, by_number, one_width, alike_kinds, a_full_word, a_public, numeric_word, bool_word, AreWords, numeric_words, bool_words, alike_words}
 use Rattle.typing_laws.proofs.NoRules.{none_left, none_right, not_when, is_met}
 
 -- A sign.

@@ -4,10 +4,9 @@ use Rattle.std.proofs.lemmas.Bool.Decides.{nat_tests}
 use Rattle.word.specs.declared.place.Place.{Place}
 use Rattle.language.specs.declared.rule.Rule.TheVariants.{NameDeclaredTwice, WidthsDiffer, WrongKind, InitialiserCount, SecretBound}
 use Rattle.language.specs.declared.signature.Kind.{Kind}
-use Rattle.language.specs.declared.signature.Kind.TheVariants.{Boolean, Uint32}
+use Rattle.language.specs.declared.signature.Kind.TheVariants.{Uint32}
 use Rattle.language.specs.declared.signature.Label.{Label}
 use Rattle.language.specs.declared.signature.Label.TheVariants.{Public}
-use Rattle.language.specs.declared.typing.ArrayType.{ArrayType}
 use Rattle.language.specs.declared.typing.Declared.{Declared}
 use Rattle.language.specs.declared.typing.Declared.TheVariants.{Variable}
 use Rattle.language.specs.declared.typing.ValueType.{ValueType}
@@ -18,10 +17,10 @@ use Rattle.language.specs.ExprTyping.{name_type, name_rules, type_of, types_of, 
 use Rattle.language.specs.Tree.{ExprTree, RightTree, StatementTree, declaration, array, assignment, element_assignment, call, conditional, loop, BlockTree, nothing, first, ProcedureTree, written}
 use Rattle.language.specs.Types.{Scope, found, declared, variable, word, joined, is_bool, is_numeric, is_narrow, is_hidden, label_of, at, when, of_one, of_two, of_all}
 use Rattle.language.specs.Typing.{value_rules, values_rules, count_rules, declaration_control_rules, declaration_rules, array_rules, target_rules, change_rules, assignment_rules, element_assignment_rules, condition_rules, control_under, bounds_rules, counter_as, scope_after, right_type, right_violations, statement_violations, block_violations}
-use Rattle.language.specs.WellTyped.{labelled, HasType, Suits, Gives, AllSuit, none_wanted, one_suits, HasCount, all_zero, all_given, FlowsTo, IsVariable, IsWellTyped, declares, declares_array, assigns, assigns_element, calls, chooses, repeats, AreWellTyped, no_statement, one_more}
+use Rattle.language.specs.WellTyped.{labelled, HasType, Suits, Gives, AllSuit, none_wanted, one_suits, HasCount, all_zero, all_given, FlowsTo, IsWellTyped, declares, declares_array, assigns, assigns_element, calls, chooses, repeats, AreWellTyped, no_statement, one_more}
 use Rattle.typing_laws.proofs.Arguments.{HaveTypes, none_typed, one_typed, have_types, all_typed}
 use Rattle.typing_laws.proofs.Calls.{call_known, call_none, right_known, right_none}
-use Rattle.typing_laws.proofs.Expressions.{IsThere, a_variable, variable_there, has_type, typed, is_typed, name_known, name_typed}
+use Rattle.typing_laws.proofs.Expressions.{a_variable, variable_there, has_type, typed, is_typed, name_known, name_typed}
 use Rattle.typing_laws.proofs.TypeTests.{both, neither, bool_word}
 use Rattle.typing_laws.proofs.Nodes.{public_index, is_element}
 use Rattle.typing_laws.proofs.NoRules.{none_left, none_right, nothing_more, no_rules, not_when, is_met}
@@ -209,3 +208,69 @@ mutual
       let here = statement_violations earlier scope control s in
       let there = block_violations earlier (scope_after scope s) control rest in
       one_more (statement_typed s earlier scope control (none_left here there h)) (block_typed rest earlier (scope_after scope s) control (none_right here there h))
+
+-- From the rules to the table.
+
+mutual
+  pub statement_none : {earlier : List ProcedureTree} {scope : Scope} {control : Label} {s : StatementTree} → IsWellTyped earlier scope control s → statement_violations earlier scope control s ≡ []
+  statement_none {earlier = earlier} (declares {scope = scope} {control = control} {place = place} {label = label} {mutable = mutable} {kind = kind} {text = text} {right = right} {given = given} new has suit flow) =
+      let x = right_none earlier scope control has in
+      let rule = when (is_some (found scope text)) NameDeclaredTwice in
+      let fits = value_rules (labelled kind label) (Word given) in
+      let none : declaration_rules control (is_some (found scope text)) label mutable kind (Word given) ≡ [] =
+      nothing_more (rule ++ fits) (declaration_control_rules control label mutable) (nothing_more rule fits (ap (λ o. when (is_some o) NameDeclaredTwice) new) (suited suit)) (declared_under control label mutable flow) in
+      nothing_more (right_violations earlier scope control right) _ x.0 (ap (λ t. at place (of_one [] (declaration_rules control (is_some (found scope text)) label mutable kind) t)) x.1 ∙ ap (at place) none)
+  statement_none {earlier = earlier} (declares_array {scope = scope} {control = control} {place = place} {label = label} {mutable = mutable} {kind = kind} {size = size} {text = text} {values = values} new all count flow) =
+      let x = suited_types scope (labelled kind label) all in
+      let types = all_typed scope x.1 in
+      let rule = when (is_some (found scope text)) NameDeclaredTwice in
+      let fits = values_rules (labelled kind label) x.0 in
+      let none : array_rules control (is_some (found scope text)) label mutable kind size values x.0 ≡ [] =
+      nothing_more (rule ++ fits ++ count_rules size values) (declaration_control_rules control label mutable)
+      (nothing_more (rule ++ fits) (count_rules size values) (nothing_more rule fits (ap (λ o. when (is_some o) NameDeclaredTwice) new) x.2) (counted count)) (declared_under control label mutable flow) in
+      nothing_more (exprs_violations scope (written values)) _ types.0 (ap (λ t. at place (of_all [] (array_rules control (is_some (found scope text)) label mutable kind size values) t)) types.1 ∙ ap (at place) none)
+  statement_none {earlier = earlier} (assigns {scope = scope} {control = control} {place = place} {target = target} {text = text} {right = right} {given = given} {wanted = wanted} is has suit flow) =
+      let x = right_none earlier scope control has in
+      let none : target_rules (Word wanted) (Word given) ++ change_rules control true wanted.label ≡ [] = nothing_more (value_rules wanted (Word given)) (change_rules control true wanted.label) (suited suit) (changed flow) in
+      nothing_more (at target (name_rules scope text) ++ right_violations earlier scope control right) _
+      (nothing_more (at target (name_rules scope text)) (right_violations earlier scope control right) (name_known scope target text (Word wanted) true is) x.0)
+      (ap₂ (λ o t. at place (assignment_rules control (variable o) t)) is x.1 ∙ ap (at place) none)
+  statement_none {earlier = earlier} (assigns_element {scope = scope} {control = control} {place = place} {bracket = bracket} {target = target} {text = text} {index = index} {right = right} {given = given} {array = list} is has value suit flow) =
+      let i = is_typed scope has in
+      let x = right_none earlier scope control value in
+      let named = name_typed scope text (Array list) true is in
+      let vi = expr_violations scope index in
+      let node = at bracket (of_two [] element_rules (name_type scope text) (type_of scope index)) in
+      let made : of_two None element_type (name_type scope text) (type_of scope index) ≡ Some (Word list.element) = ap₂ (of_two None element_type) named i.is in
+      let none : value_rules list.element (Word given) ++ change_rules control true list.element.label ≡ [] = nothing_more (value_rules list.element (Word given)) (change_rules control true list.element.label) (suited suit) (changed flow) in
+      nothing_more (at target (name_rules scope text) ++ vi ++ node ++ right_violations earlier scope control right) _
+      (nothing_more (at target (name_rules scope text) ++ vi ++ node) (right_violations earlier scope control right)
+      (nothing_more (at target (name_rules scope text) ++ vi) node (nothing_more (at target (name_rules scope text)) vi (name_known scope target text (Array list) true is) i.none)
+      (ap₂ (λ o t. at bracket (of_two [] element_rules o t)) named i.is)) x.0)
+      (ap₂ (λ o t. at place (element_assignment_rules control (variable o) t (right_type earlier scope control right))) is made
+      ∙ ap (λ t. at place (element_assignment_rules control (Some (record { value = Array list; mutable = true })) (Some (Word list.element)) t)) x.1 ∙ ap (at place) none)
+  statement_none {earlier = earlier} (calls {scope = scope} {control = control} is) = (call_none earlier scope control is).0
+  statement_none {earlier = earlier} (chooses {scope = scope} {control = control} {place = place} {condition = condition} {accepted = accepted} {otherwise = otherwise} {label = label} has one other) =
+      let x = is_typed scope has in
+      let all = expr_violations scope condition in
+      let own = at place (of_one [] condition_rules (type_of scope condition)) in
+      let under = control_under control (type_of scope condition) in
+      nothing_more (all ++ own ++ block_violations earlier scope under accepted) (block_violations earlier scope under otherwise)
+      (nothing_more (all ++ own) (block_violations earlier scope under accepted) (nothing_more all own x.none (ap (λ t. at place (of_one [] condition_rules t)) x.is))
+      (ap (λ t. block_violations earlier scope (control_under control t) accepted) x.is ∙ block_none one))
+      (ap (λ t. block_violations earlier scope (control_under control t) otherwise) x.is ∙ block_none other)
+  statement_none {earlier = earlier} (repeats {scope = scope} {control = control} {place = place} {counter = counter} {text = text} {low = low} {high = high} {body = body} one other new inner) =
+      let x = is_typed scope one in
+      let y = is_typed scope other in
+      let vl = expr_violations scope low in
+      let vh = expr_violations scope high in
+      let own = at place (of_two [] bounds_rules (type_of scope low) (type_of scope high)) in
+      let rule = at counter (when (is_some (found scope text)) NameDeclaredTwice) in
+      nothing_more (vl ++ vh ++ own ++ rule) (block_violations earlier (declared scope text counter_as) control body)
+      (nothing_more (vl ++ vh ++ own) rule (nothing_more (vl ++ vh) own (nothing_more vl vh x.none y.none) (ap₂ (λ s t. at place (of_two [] bounds_rules s t)) x.is y.is))
+      (ap (λ o. at counter (when (is_some o) NameDeclaredTwice)) new)) (block_none inner)
+
+  pub block_none : {earlier : List ProcedureTree} {scope : Scope} {control : Label} {b : BlockTree} → AreWellTyped earlier scope control b → block_violations earlier scope control b ≡ []
+  block_none no_statement = refl
+  block_none {earlier = earlier} (one_more {scope = scope} {control = control} {statement = s} {rest = rest} here there) =
+      nothing_more (statement_violations earlier scope control s) (block_violations earlier (scope_after scope s) control rest) (statement_none here) (block_none there)

@@ -1,6 +1,5 @@
 -- Values put where a type is wanted.
-use Rattle.std.proofs.Common.{◌≡◌, Bool, true, false, not, ◌&&◌, [], ◌++◌, List, refl, sym, ap, ap₂, ◌∙◌, subst, true≢false}
-use Rattle.language.specs.declared.rule.Rule.{Rule}
+use Rattle.std.proofs.Common.{◌≡◌, Bool, true, false, not, ◌&&◌, [], ◌++◌, refl, sym, ap, ◌∙◌, subst, true≢false}
 use Rattle.language.specs.declared.rule.Rule.TheVariants.{WidthsDiffer, WrongKind, NotMutable, SecretToPublic, PublicAssignedUnderSecretControl}
 use Rattle.language.specs.declared.signature.Kind.{Kind}
 use Rattle.language.specs.declared.signature.Kind.TheVariants.{Boolean, Uint8, Uint16, Uint32}

@@ -5,4 +5,4 @@
 
 mod laws;
 
-pub use laws::expressions_by_rules;
+pub use laws::{blocks_by_rules, expressions_by_rules, programs_by_rules};
