@@ -6,6 +6,8 @@
 #[cfg(test)]
 mod arguing;
 #[cfg(test)]
+mod checking;
+#[cfg(test)]
 mod covering;
 #[cfg(test)]
 mod evaluating;
