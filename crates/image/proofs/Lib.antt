@@ -4,3 +4,4 @@ pub mod Slots
 pub mod FormatLemmas
 pub mod Images
 pub mod Loop
+pub mod Lengths

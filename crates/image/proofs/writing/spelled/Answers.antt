@@ -1,0 +1,10 @@
+use Rattle.std.proofs.Common.{◌≡◌, ◌≤◌, length, rules, subst, sym}
+use Rattle.image.specs.declared.limits.TheConstants.{LONGEST_IMAGE}
+use Rattle.image.specs.Spelling.{spelling}
+use Rattle.image.proofs.Lengths.{short}
+use Rattle.image.proofs.writing.spelled.Goals as goal
+
+pub returns-clause-short : goal.returns-clause-short
+returns-clause-short c =
+    let is : c.put_code.new.out.items ≡ spelling c.args.image.now = search rules in
+    subst (λ bytes. length bytes ≤ LONGEST_IMAGE) (sym is) (short c.args.image.now c.slots.ensures.allowed)
