@@ -16,7 +16,7 @@ use Rattle.language.specs.Tree.{ExprTree, CallTree, RightTree, StatementTree, Bl
 use Rattle.syntax.specs.declared.parser.statement.Start.{Start}
 use Rattle.syntax.specs.declared.parser.statement.Start.TheVariants.{Declaration as by_label, Target as by_target, Conditional as by_if, Loop as by_for}
 use Rattle.syntax.specs.declared.parser.wanted.Wanted.TheVariants as wanted
-use Rattle.syntax.specs.Machine.{State, procedures, one, either, a_label, a_kind, more_parameters, expr, statements, otherwise, kind_of, fits, starts_with, sized, call_of, right_end, first_values, declared_array, declared_word, declared_as, declared, assigned, element_assigned, called_alone, targeted, block, conditioned, after_else, statement, parameter_name, labelled, parameter, parameters, returned, procedure_from, result_type, procedure, program, started, step, at_end, run}
+use Rattle.syntax.specs.private.Machine.{State, procedures, one, either, a_label, a_kind, more_parameters, expr, statements, otherwise, kind_of, fits, starts_with, sized, call_of, right_end, first_values, declared_array, declared_word, declared_as, declared, assigned, element_assigned, called_alone, targeted, block, conditioned, after_else, statement, parameter_name, labelled, parameter, parameters, returned, procedure_from, result_type, procedure, program, started, step, at_end, run}
 use Rattle.syntax.proofs.MachineKinds.{fits-kind, label-starts, label-no, word-no-mut}
 use Rattle.syntax.proofs.MachineSound.{and_then_some}
 use Rattle.syntax.proofs.MachineExpressions.{Lacks, one-run, either-run, other-run, label-run, kind-run, length-run, expr-one-run, call-run, right-end-run, values-run}

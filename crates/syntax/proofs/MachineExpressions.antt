@@ -20,7 +20,7 @@ use Rattle.syntax.specs.declared.parser.operator.Link.{Link}
 use Rattle.syntax.specs.declared.parser.operator.Link.TheVariants.{Operator as by_operator, Rotation as by_rotation}
 use Rattle.syntax.specs.declared.parser.wanted.Wanted.{Wanted}
 use Rattle.syntax.specs.declared.parser.wanted.Wanted.TheVariants as wanted
-use Rattle.syntax.specs.Machine.{State, one, either, a_label, a_kind, a_length, an_amount, expr, more, more_exprs, kind_of, fits, begins_of, link_of, link_level, link_left_level, some_exprs, call_of, named, operand, linked, right_from, right, right_end, first_values, within, joined, step, run}
+use Rattle.syntax.specs.private.Machine.{State, one, either, a_label, a_kind, a_length, an_amount, expr, more, more_exprs, kind_of, fits, begins_of, link_of, link_level, link_left_level, some_exprs, call_of, named, operand, linked, right_from, right, right_end, first_values, within, joined, step, run}
 use Rattle.syntax.proofs.MachineKinds.{kind-fits, fits-kind, Bars, prefix-begins, conversion-begins, operator-links, weak_level, left_levels, operator-bars}
 
 -- such a token stands next, but not of this kind

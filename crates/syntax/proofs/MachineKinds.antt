@@ -19,7 +19,7 @@ use Rattle.language.specs.declared.tree.BinaryOperator.{BinaryOperator}
 use Rattle.language.specs.declared.tree.BinaryOperator.TheVariants as operator
 use Rattle.language.specs.declared.tree.PrefixOperator.{PrefixOperator}
 use Rattle.syntax.specs.Grammar.{prefix_of, operator_of, level_of, left_level_of, label_of, word_of, conversion_of}
-use Rattle.syntax.specs.Machine.{kind_of, fits, begins_of, link_of, link_level, starts_with}
+use Rattle.syntax.specs.private.Machine.{kind_of, fits, begins_of, link_of, link_level, starts_with}
 
 -- a token that fits is of the wanted kind
 pub kind-fits : (what : Wanted) (kind : TokenKind) → fits what kind ≡ true → kind ≡ kind_of what

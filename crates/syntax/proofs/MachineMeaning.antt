@@ -5,7 +5,7 @@ use Rattle.language.specs.declared.signature.Label.{Label}
 use Rattle.syntax.specs.Grammar.{ExprAt, MoreExprs, MoreParameters, Statements, Otherwise, Procedures, label_of, word_of, length_of, amount_of}
 use Rattle.syntax.specs.Lexeme.{Lexeme}
 use Rattle.language.specs.Tree.{ExprTree, BlockTree, ParameterTree, ProcedureTree, ProgramTree}
-use Rattle.syntax.specs.Machine.{State, procedures, one, either, a_label, a_kind, a_length, an_amount, more_parameters, expr, more, more_exprs, statements, otherwise, kind_of}
+use Rattle.syntax.specs.private.Machine.{State, procedures, one, either, a_label, a_kind, a_length, an_amount, more_parameters, expr, more, more_exprs, statements, otherwise, kind_of}
 
 -- an expression that ends at these tokens may go on and be the tree at the rest
 abbrev pub Grows : ℕ → ℕ → ExprTree → List Lexeme → ExprTree → List Lexeme → Type 0

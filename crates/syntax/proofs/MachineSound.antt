@@ -29,7 +29,7 @@ use Rattle.syntax.specs.declared.parser.statement.Start.{Start}
 use Rattle.syntax.specs.declared.parser.statement.Start.TheVariants.{Declaration as by_label, Target as by_target, Conditional as by_if, Loop as by_for}
 use Rattle.syntax.specs.declared.parser.wanted.Wanted.{Wanted}
 use Rattle.syntax.specs.declared.parser.wanted.Wanted.TheVariants as wanted
-use Rattle.syntax.specs.Machine.{State, procedures, one, either, a_label, a_kind, a_length, an_amount, more_parameters, expr, more, more_exprs, statements, otherwise, kind_of, fits, begins_of, link_of, link_level, link_left_level, starts_with, some_exprs, call_of, named, operand, linked, right_from, right, right_end, first_values, declared_array, declared_word, declared_as, declared, targeted, block, conditioned, after_else, statement, labelled, parameter, parameters, returned, procedure_from, result_type, procedure, program, started, within, joined, step_result, step, at_end, run}
+use Rattle.syntax.specs.private.Machine.{State, procedures, one, either, a_label, a_kind, a_length, an_amount, more_parameters, expr, more, more_exprs, statements, otherwise, kind_of, fits, begins_of, link_of, link_level, link_left_level, starts_with, some_exprs, call_of, named, operand, linked, right_from, right, right_end, first_values, declared_array, declared_word, declared_as, declared, targeted, block, conditioned, after_else, statement, labelled, parameter, parameters, returned, procedure_from, result_type, procedure, program, started, within, joined, step_result, step, at_end, run}
 use Rattle.syntax.proofs.MachineKinds.{kind-fits, begins-by, links-by, starts-by}
 use Rattle.syntax.proofs.MachineMeaning.{Grows, Finishes}
 

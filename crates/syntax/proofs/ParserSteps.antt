@@ -19,8 +19,8 @@ use Rattle.syntax.specs.Grammar.{label_of, word_of, amount_of, length_of}
 use Rattle.syntax.specs.Lexeme.{Lexeme, lexeme, lexemes}
 use Rattle.syntax.specs.Nesting.{Nest, after}
 use Rattle.syntax.specs.Tokens.{Ending, ending}
-use Rattle.syntax.specs.Machine.{State, procedures, fits, one, either, statements, starts_with, statement, started, a_label, a_kind, a_length, an_amount, expr, more, more_exprs, more_parameters, otherwise, after_else, begins_of, operand, link_of, link_level, link_left_level, linked, within, joined, step, at_end, parameter, procedure, verdict, ending_answer, token_answer}
-use Rattle.syntax.specs.ParserViews.{Leads, FaultIs, ahead, nest, taken}
+use Rattle.syntax.specs.private.Machine.{State, procedures, fits, one, either, statements, starts_with, statement, started, a_label, a_kind, a_length, an_amount, expr, more, more_exprs, more_parameters, otherwise, after_else, begins_of, operand, link_of, link_level, link_left_level, linked, within, joined, step, at_end, parameter, procedure, verdict, ending_answer, token_answer}
+use Rattle.syntax.specs.private.ParserViews.{Leads, FaultIs, ahead, nest, taken}
 use Rattle.syntax.specs.Reading.{Answer}
 use Rattle.language.specs.Tree.{ExprTree, StatementTree, BlockTree, nothing, first, ParameterTree, ProcedureTree, expr_tree}
 use Rattle.syntax.proofs.MachineExpressions.{within_level}

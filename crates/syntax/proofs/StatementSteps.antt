@@ -3,8 +3,8 @@ use Rattle.std.proofs.Common.{◌≡◌, List, [], ◌∷◌, ◌++◌, refl, ap
 use Rattle.std.proofs.Math.Path.{fun_ext}
 use Rattle.syntax.specs.declared.parser.Parser.{Parser}
 use Rattle.language.specs.declared.tree.Statement.{Statement}
-use Rattle.syntax.specs.Machine.{State, statements}
-use Rattle.syntax.specs.ParserViews.{ahead}
+use Rattle.syntax.specs.private.Machine.{State, statements}
+use Rattle.syntax.specs.private.ParserViews.{ahead}
 use Rattle.language.specs.Tree.{BlockTree, nothing, first, statement_tree, block_tree}
 
 -- some statements, and then a block

@@ -75,7 +75,7 @@ no_x digits hexadecimal all e =
     let bad : 33 < 10 = both.1.0 in
     omega arith
 
-value_unique : (digits : List ℕ) (v w : ℕ) → WritesValue digits v → WritesValue digits w → v ≡ w
+pub value_unique : (digits : List ℕ) (v w : ℕ) → WritesValue digits v → WritesValue digits w → v ≡ w
 value_unique digits v w a b =
     ⊎_elim
     (λ d. ⊎_elim (λ f. d.1 ∙ sym f.1) (λ h. absurd (no_x digits h.0 d.0.1 h.1)) b)

@@ -6,5 +6,4 @@ pub mod Cases
 pub mod Beginning
 pub mod Nesting
 pub mod Reading
-pub mod Machine
-pub mod ParserViews
+pub mod private

@@ -31,7 +31,7 @@ pub struct Nesting {
 
 impl Nesting {
     ghost use Rattle.syntax.specs.Nesting.{outside, base_of, count_before, after};
-    ghost use Rattle.syntax.specs.ParserViews.{nest};
+    ghost use Rattle.syntax.specs.private.ParserViews.{nest};
 
     /// Before the first token.
     pub fn new(alloc: Global) -> Self

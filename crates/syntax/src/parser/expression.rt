@@ -1,7 +1,7 @@
 ghost use Rattle.std.specs.Prelude.{◌≡◌, ◌≤◌, ◌<◌, ℕ, IfOk, IfErr, OnOk, OnSome, length};
 ghost use Rattle.syntax.specs.Lexeme.{lexeme};
-ghost use Rattle.syntax.specs.Machine.{State, expr, more, operand as operand_state, named as named_state, linked, link_level, after_select, converted, ended};
-ghost use Rattle.syntax.specs.ParserViews.{Leads, after_sign};
+ghost use Rattle.syntax.specs.private.Machine.{State, expr, more, operand as operand_state, named as named_state, linked, link_level, after_select, converted, ended};
+ghost use Rattle.syntax.specs.private.ParserViews.{Leads, after_sign};
 ghost use Rattle.language.specs.Tree.{ExprTree, expr_tree, prefix as prefix_tree, binary as binary_tree, rotate as rotate_tree, convert as convert_tree, select as select_tree, element as element_tree};
 
 use super::operator::{

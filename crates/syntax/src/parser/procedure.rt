@@ -1,7 +1,7 @@
 ghost use Rattle.std.specs.Prelude.{◌≡◌, ◌≤◌, ◌<◌, List, Option, OnOk, length, map};
 ghost use Rattle.std.specs.Option.{option_map};
-ghost use Rattle.syntax.specs.Machine.{State, exported, result_type as result_type_state, parameter_name, parameter as parameter_state, labelled, parameters as parameters_state, returned as returned_state, procedure as procedure_state};
-ghost use Rattle.syntax.specs.ParserViews.{Leads};
+ghost use Rattle.syntax.specs.private.Machine.{State, exported, result_type as result_type_state, parameter_name, parameter as parameter_state, labelled, parameters as parameters_state, returned as returned_state, procedure as procedure_state};
+ghost use Rattle.syntax.specs.private.ParserViews.{Leads};
 ghost use Rattle.language.specs.Tree.{ParameterTree, ReturnTree, ProcedureTree, parameter_tree, return_tree, procedure_tree};
 ghost use Rattle.word.specs.declared.place.Place.{Place as PlaceOf};
 ghost use Rattle.language.specs.declared.typing.WordType.{WordType as WordTypeOf};

@@ -1,7 +1,7 @@
 ghost use Rattle.std.specs.Prelude.{◌≡◌, ◌≤◌, ◌<◌, IfOk, IfErr, OnOk, OnSome, length};
 ghost use Rattle.syntax.specs.Lexeme.{Lexeme, lexeme};
-ghost use Rattle.syntax.specs.Machine.{State, starts_with, statements as statements_state, statement as statement_state, conditioned, counter as counter_state, looped, block as block_state, otherwise as otherwise_state, after_else};
-ghost use Rattle.syntax.specs.ParserViews.{Leads, after_start};
+ghost use Rattle.syntax.specs.private.Machine.{State, starts_with, statements as statements_state, statement as statement_state, conditioned, counter as counter_state, looped, block as block_state, otherwise as otherwise_state, after_else};
+ghost use Rattle.syntax.specs.private.ParserViews.{Leads, after_start};
 ghost use Rattle.language.specs.Tree.{StatementTree, BlockTree, statement_tree, block_tree};
 
 use super::step::label_of;

@@ -1,8 +1,8 @@
 ghost use Rattle.std.specs.Prelude.{◌≡◌, ◌≤◌, ◌<◌, IfOk, IfErr, OnOk, OnSome, Some, None, [], ◌∷◌, length, ℕ};
 ghost use Rattle.syntax.specs.Grammar.{label_of as label_that, word_of as word_that, amount_of as amount_that, length_of as length_that};
 ghost use Rattle.syntax.specs.Lexeme.{Lexeme, lexeme};
-ghost use Rattle.syntax.specs.Machine.{State, one, either, a_label, a_kind, a_length, an_amount, sized, step, ending_answer};
-ghost use Rattle.syntax.specs.ParserViews.{Leads, FaultIs, taken};
+ghost use Rattle.syntax.specs.private.Machine.{State, one, either, a_label, a_kind, a_length, an_amount, sized, step, ending_answer};
+ghost use Rattle.syntax.specs.private.ParserViews.{Leads, FaultIs, taken};
 ghost use Rattle.syntax.specs.Tokens.{ending};
 ghost use Rattle.language.specs.declared.signature.Label.{Label as LabelOf};
 ghost use Rattle.language.specs.declared.signature.Kind.{Kind as KindOf};

@@ -1,5 +1,5 @@
 ghost use Rattle.std.specs.Prelude.{◌≡◌};
-ghost use Rattle.syntax.specs.Machine.{fits as fits_that};
+ghost use Rattle.syntax.specs.private.Machine.{fits as fits_that};
 
 use crate::{Keyword, Sign, TokenKind};
 

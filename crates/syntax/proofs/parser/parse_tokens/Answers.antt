@@ -1,7 +1,7 @@
 use Rattle.std.proofs.Common.{ap, sym, subst, ◌∙◌, inr}
 use Rattle.syntax.specs.Lexeme.{lexemes}
-use Rattle.syntax.specs.Machine.{program, verdict}
-use Rattle.syntax.specs.ParserViews.{nest, FaultIs}
+use Rattle.syntax.specs.private.Machine.{program, verdict}
+use Rattle.syntax.specs.private.ParserViews.{nest, FaultIs}
 use Rattle.syntax.specs.Reading.{Answers, refused}
 use Rattle.syntax.specs.Tokens.{ending}
 use Rattle.syntax.proofs.MachineAnswers.{answers}

@@ -1,6 +1,6 @@
 use Rattle.std.proofs.Common.{sym}
 use Rattle.syntax.specs.Lexeme.{lexeme}
-use Rattle.syntax.specs.Machine.{expr, more, operand}
+use Rattle.syntax.specs.private.Machine.{expr, more, operand}
 use Rattle.language.specs.Tree.{ExprTree, expr_tree}
 use Rattle.syntax.proofs.ParserSteps.{passed, leads-after, operand-step}
 use Rattle.syntax.proofs.parser.Parser.+expression.Goals as goal

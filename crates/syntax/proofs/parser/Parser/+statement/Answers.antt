@@ -1,8 +1,8 @@
 use Rattle.std.proofs.Common.{◌≡◌, ◌∙◌, None, arith, rules, ap, sym, subst}
 use Rattle.syntax.specs.declared.parser.wanted.Wanted.TheVariants as wanted
 use Rattle.syntax.specs.Lexeme.{Lexeme, lexeme}
-use Rattle.syntax.specs.Machine.{statements, block, otherwise, after_else, conditioned, ended, either}
-use Rattle.syntax.specs.ParserViews.{ahead, after_start}
+use Rattle.syntax.specs.private.Machine.{statements, block, otherwise, after_else, conditioned, ended, either}
+use Rattle.syntax.specs.private.ParserViews.{ahead, after_start}
 use Rattle.language.specs.Tree.{ExprTree, BlockTree, nothing, first, conditional, loop, expr_tree, block_tree}
 use Rattle.syntax.proofs.ParserSteps.{passed-after, leads-after, after-taken, after-none, ahead-otherwise, more_statements}
 use Rattle.syntax.proofs.StatementSteps.{followed_by, followed-nothing, ahead-push}

@@ -1,6 +1,6 @@
 use Rattle.std.proofs.Common.{◌≡◌, ◌≤◌, length, ◌+◌, ◌*◌}
-use Rattle.syntax.specs.Machine.{State, statements}
-use Rattle.syntax.specs.ParserViews.{ahead}
+use Rattle.syntax.specs.private.Machine.{State, statements}
+use Rattle.syntax.specs.private.ParserViews.{ahead}
 use Rattle.language.specs.Tree.{BlockTree}
 use Rattle.syntax.proofs.StatementSteps.{followed_by}
 use Rattle.syntax.proofs.parser.Parser.+statement.Given as goal

@@ -1,6 +1,6 @@
 use Rattle.std.proofs.Common.{sym}
 use Rattle.syntax.specs.Lexeme.{lexeme}
-use Rattle.syntax.specs.Machine.{an_amount}
+use Rattle.syntax.specs.private.Machine.{an_amount}
 use Rattle.syntax.proofs.ParserSteps.{passed, amount-step}
 use Rattle.syntax.proofs.parser.Parser.amount.Goals as goal
 

@@ -1,6 +1,6 @@
 use Rattle.std.proofs.Common.{[], map}
 use Rattle.syntax.specs.declared.parser.wanted.Wanted.TheVariants as wanted
-use Rattle.syntax.specs.Machine.{arguments, some_exprs}
+use Rattle.syntax.specs.private.Machine.{arguments, some_exprs}
 use Rattle.language.specs.Tree.{expr_tree}
 use Rattle.syntax.proofs.ParserSteps.{leads-after, after-none}
 use Rattle.syntax.proofs.parser.Parser.arguments.Goals as goal

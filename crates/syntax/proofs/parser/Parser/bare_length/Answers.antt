@@ -1,6 +1,6 @@
 use Rattle.std.proofs.Common.{sym}
 use Rattle.syntax.specs.Lexeme.{lexeme}
-use Rattle.syntax.specs.Machine.{a_length}
+use Rattle.syntax.specs.private.Machine.{a_length}
 use Rattle.syntax.proofs.ParserSteps.{passed, length-step}
 use Rattle.syntax.proofs.parser.Parser.bare_length.Goals as goal
 

@@ -1,5 +1,5 @@
 use Rattle.std.proofs.Common.{true, false}
-use Rattle.syntax.specs.Machine.{declared, declared_as}
+use Rattle.syntax.specs.private.Machine.{declared, declared_as}
 use Rattle.language.specs.Tree.{statement_tree}
 use Rattle.syntax.proofs.ParserSteps.{leads-after, after-taken, after-none}
 use Rattle.syntax.proofs.parser.Parser.declared.Goals as goal

@@ -1,7 +1,7 @@
 use Rattle.std.proofs.Common.{◌∙◌}
 use Rattle.syntax.specs.declared.parser.wanted.Wanted.TheVariants as wanted
 use Rattle.language.specs.declared.signature.Kind.{Kind}
-use Rattle.syntax.specs.Machine.{declared_as, declared_array, declared_word, either, sized}
+use Rattle.syntax.specs.private.Machine.{declared_as, declared_array, declared_word, either, sized}
 use Rattle.language.specs.Tree.{statement_tree}
 use Rattle.syntax.proofs.ParserSteps.{leads-after, after-taken, after-none}
 use Rattle.syntax.proofs.parser.Parser.declared_as.Goals as goal

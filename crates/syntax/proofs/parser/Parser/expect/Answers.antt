@@ -1,6 +1,6 @@
 use Rattle.std.proofs.Common.{◌≡◌, true, rules}
 use Rattle.syntax.specs.Lexeme.{lexeme}
-use Rattle.syntax.specs.Machine.{one, fits}
+use Rattle.syntax.specs.private.Machine.{one, fits}
 use Rattle.syntax.proofs.ParserSteps.{passed, one-step}
 use Rattle.syntax.proofs.parser.Parser.expect.Goals as goal
 

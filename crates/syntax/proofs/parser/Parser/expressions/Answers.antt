@@ -2,8 +2,8 @@ use Rattle.std.proofs.Common.{◌≡◌, ◌∙◌, ◌++◌, ◌∷◌, [], Lis
 use Rattle.syntax.specs.declared.parser.Parser.{Parser}
 use Rattle.syntax.specs.declared.parser.wanted.Wanted.{Wanted}
 use Rattle.language.specs.declared.tree.Expr.{Expr}
-use Rattle.syntax.specs.Machine.{State, some_exprs, more_exprs, one}
-use Rattle.syntax.specs.ParserViews.{ahead}
+use Rattle.syntax.specs.private.Machine.{State, some_exprs, more_exprs, one}
+use Rattle.syntax.specs.private.ParserViews.{ahead}
 use Rattle.language.specs.Tree.{ExprTree, expr_tree}
 use Rattle.syntax.proofs.ParserSteps.{passed-after, some-taken, none-taken, ahead-exprs, further, after_exprs, map-push}
 use Rattle.syntax.proofs.parser.Parser.expressions.Goals as goal

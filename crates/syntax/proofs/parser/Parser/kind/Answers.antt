@@ -1,6 +1,6 @@
 use Rattle.std.proofs.Common.{sym}
 use Rattle.syntax.specs.Lexeme.{lexeme}
-use Rattle.syntax.specs.Machine.{a_kind}
+use Rattle.syntax.specs.private.Machine.{a_kind}
 use Rattle.syntax.proofs.ParserSteps.{passed, kind-step}
 use Rattle.syntax.proofs.parser.Parser.kind.Goals as goal
 

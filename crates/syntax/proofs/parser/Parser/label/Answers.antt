@@ -1,6 +1,6 @@
 use Rattle.std.proofs.Common.{sym}
 use Rattle.syntax.specs.Lexeme.{lexeme}
-use Rattle.syntax.specs.Machine.{a_label}
+use Rattle.syntax.specs.private.Machine.{a_label}
 use Rattle.syntax.proofs.ParserSteps.{passed, label-step}
 use Rattle.syntax.proofs.parser.Parser.label.Goals as goal
 

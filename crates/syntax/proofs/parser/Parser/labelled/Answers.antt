@@ -3,7 +3,7 @@ use Rattle.syntax.specs.declared.parser.wanted.Wanted.TheVariants as wanted
 use Rattle.language.specs.declared.signature.Form.TheVariants.{SingleWord, FixedArray, MutableArray}
 use Rattle.language.specs.declared.signature.Kind.{Kind}
 use Rattle.language.specs.declared.signature.Label.{Label}
-use Rattle.syntax.specs.Machine.{State, labelled, parameter_name, a_kind, one, either, sized}
+use Rattle.syntax.specs.private.Machine.{State, labelled, parameter_name, a_kind, one, either, sized}
 use Rattle.language.specs.Tree.{ParameterTree, parameter_tree}
 use Rattle.syntax.proofs.ParserSteps.{leads-after, some-taken, none-taken}
 use Rattle.syntax.proofs.parser.Parser.labelled.Goals as goal

@@ -1,4 +1,4 @@
-use Rattle.syntax.specs.Machine.{parameter, labelled}
+use Rattle.syntax.specs.private.Machine.{parameter, labelled}
 use Rattle.language.specs.Tree.{parameter_tree}
 use Rattle.syntax.proofs.ParserSteps.{leads-after}
 use Rattle.syntax.proofs.parser.Parser.parameter.Goals as goal

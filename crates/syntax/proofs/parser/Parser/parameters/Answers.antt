@@ -2,8 +2,8 @@ use Rattle.std.proofs.Common.{◌≡◌, ◌∙◌, ◌++◌, ◌∷◌, [], Lis
 use Rattle.syntax.specs.declared.parser.Parser.{Parser}
 use Rattle.syntax.specs.declared.parser.wanted.Wanted.TheVariants as wanted
 use Rattle.language.specs.declared.tree.Parameter.{Parameter}
-use Rattle.syntax.specs.Machine.{State, parameters, more_parameters, one}
-use Rattle.syntax.specs.ParserViews.{ahead}
+use Rattle.syntax.specs.private.Machine.{State, parameters, more_parameters, one}
+use Rattle.syntax.specs.private.ParserViews.{ahead}
 use Rattle.language.specs.Tree.{ParameterTree, parameter_tree}
 use Rattle.syntax.proofs.ParserSteps.{passed-after, some-taken, none-taken, ahead-parameters, further_parameter, after_parameters, map-push}
 use Rattle.syntax.proofs.parser.Parser.parameters.Goals as goal

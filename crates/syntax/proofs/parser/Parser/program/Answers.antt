@@ -1,6 +1,6 @@
 use Rattle.std.proofs.Common.{◌≡◌, ap, sym, ◌∙◌, ◌++◌, ◌∷◌, [], map, length, nat_eq, false, rules}
-use Rattle.syntax.specs.Machine.{program, procedures, procedure}
-use Rattle.syntax.specs.ParserViews.{ahead}
+use Rattle.syntax.specs.private.Machine.{program, procedures, procedure}
+use Rattle.syntax.specs.private.ParserViews.{ahead}
 use Rattle.syntax.specs.Reading.{accepted}
 use Rattle.language.specs.Tree.{ProcedureTree, program_tree, procedure_tree}
 use Rattle.syntax.proofs.ParserSteps.{passed-answer, ahead-procedure, map-push}

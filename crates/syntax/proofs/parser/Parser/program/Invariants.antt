@@ -1,6 +1,6 @@
 use Rattle.std.proofs.Common.{◌≡◌, map, length}
-use Rattle.syntax.specs.Machine.{program, procedures}
-use Rattle.syntax.specs.ParserViews.{ahead}
+use Rattle.syntax.specs.private.Machine.{program, procedures}
+use Rattle.syntax.specs.private.ParserViews.{ahead}
 use Rattle.language.specs.Tree.{procedure_tree}
 use Rattle.syntax.proofs.parser.Parser.program.Given as goal
 

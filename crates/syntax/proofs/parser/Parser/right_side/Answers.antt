@@ -1,5 +1,5 @@
 use Rattle.syntax.specs.Lexeme.{lexeme}
-use Rattle.syntax.specs.Machine.{right, right_from, expr}
+use Rattle.syntax.specs.private.Machine.{right, right_from, expr}
 use Rattle.language.specs.Tree.{right_tree, computed}
 use Rattle.syntax.proofs.ParserSteps.{leads-after, after-taken}
 use Rattle.syntax.proofs.parser.Parser.right_side.Goals as goal

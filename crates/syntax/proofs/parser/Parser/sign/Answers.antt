@@ -1,7 +1,7 @@
 use Rattle.std.proofs.Common.{◌≤◌, arith, sym}
 use Rattle.syntax.specs.Lexeme.{lexeme}
-use Rattle.syntax.specs.Machine.{more, linked, link_level, link_left_level}
-use Rattle.syntax.specs.ParserViews.{after_sign}
+use Rattle.syntax.specs.private.Machine.{more, linked, link_level, link_left_level}
+use Rattle.syntax.specs.private.ParserViews.{after_sign}
 use Rattle.syntax.proofs.ParserSteps.{passed, sign-step}
 use Rattle.syntax.proofs.parser.Parser.sign.Goals as goal
 

@@ -1,7 +1,7 @@
 use Rattle.std.proofs.Common.{sym}
 use Rattle.syntax.specs.Lexeme.{lexeme}
-use Rattle.syntax.specs.Machine.{statements, statement}
-use Rattle.syntax.specs.ParserViews.{after_start}
+use Rattle.syntax.specs.private.Machine.{statements, statement}
+use Rattle.syntax.specs.private.ParserViews.{after_start}
 use Rattle.syntax.proofs.ParserSteps.{passed, start-step, more_statements}
 use Rattle.syntax.proofs.parser.Parser.start.Goals as goal
 

@@ -1,7 +1,7 @@
 use Rattle.std.proofs.Common.{◌≡◌, true, rules}
 use Rattle.syntax.specs.Lexeme.{lexeme}
-use Rattle.syntax.specs.Machine.{either, fits}
-use Rattle.syntax.specs.ParserViews.{taken}
+use Rattle.syntax.specs.private.Machine.{either, fits}
+use Rattle.syntax.specs.private.ParserViews.{taken}
 use Rattle.syntax.proofs.ParserSteps.{passed, either-step}
 use Rattle.syntax.proofs.parser.Parser.takes.Goals as goal
 

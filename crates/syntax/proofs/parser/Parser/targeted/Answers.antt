@@ -1,7 +1,7 @@
 use Rattle.std.proofs.Common.{◌≡◌, ◌∙◌, None, rules}
 use Rattle.syntax.specs.declared.parser.wanted.Wanted.TheVariants as wanted
 use Rattle.syntax.specs.Lexeme.{Lexeme, lexeme}
-use Rattle.syntax.specs.Machine.{State, targeted, assigned, element_assigned, called_alone, either}
+use Rattle.syntax.specs.private.Machine.{State, targeted, assigned, element_assigned, called_alone, either}
 use Rattle.language.specs.Tree.{StatementTree, statement_tree}
 use Rattle.syntax.proofs.ParserSteps.{leads-after, after-taken, after-none}
 use Rattle.syntax.proofs.parser.Parser.targeted.Goals as goal

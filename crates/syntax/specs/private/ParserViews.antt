@@ -1,4 +1,4 @@
--- The parser's values, as the machine sees them. The contracts of its private functions cite these, and no public one does.
+-- The values of the parser, as the machine sees them.
 use Rattle.std.specs.Prelude.{◌≡◌, Option, Some, None, Result, MatchResult, ℕ}
 use Rattle.syntax.specs.declared.nesting.Nesting.{Nesting}
 use Rattle.syntax.specs.declared.parser.Fault.{Fault}
@@ -8,7 +8,7 @@ use Rattle.syntax.specs.declared.parser.expression.Joint.{Joint}
 use Rattle.syntax.specs.declared.parser.statement.Begun.{Begun}
 use Rattle.syntax.specs.declared.token.Token.{Token}
 use Rattle.syntax.specs.Lexeme.{Lexeme, lexeme, lexemes}
-use Rattle.syntax.specs.Machine.{State, linked, statements, statement, verdict}
+use Rattle.syntax.specs.private.Machine.{State, linked, statements, statement, verdict}
 use Rattle.syntax.specs.Nesting.{Nest}
 use Rattle.syntax.specs.Reading.{Answer, refused}
 use Rattle.syntax.specs.Tokens.{ending}

@@ -1,5 +1,4 @@
 -- A machine that reads a program token by token. A state is what may stand next, and carries the trees so far.
--- The contracts of the private functions of the parser cite it, and no public one does: the grammar is Grammar.antt.
 use Rattle.std.specs.Prelude.{ℕ, ◌+◌, Bool, true, false, ◌&&◌, List, [], ◌∷◌, ◌++◌, Option, Some, None, if◌then◌else◌}
 use Rattle.std.specs.Prelude.{nat_le, nat_lt}
 use Rattle.std.specs.Option.{option_map, option_and_then}
