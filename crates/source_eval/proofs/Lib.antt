@@ -10,7 +10,6 @@ pub mod WorkedOut
 pub mod EarlierCalls
 pub mod ValuesHad
 pub mod EndsHad
-pub mod TypedExpressions
 pub mod NamedCalls
 pub mod OneEnd
 pub mod RowLemmas

@@ -1,5 +1,6 @@
 -- A program that violates no rule comes to exactly one end.
 use Rattle.std.proofs.Common.{◌≡◌, List, length, sym}
+use Rattle.std.proofs.lemmas.List.{nil_from_length}
 use Rattle.language.specs.declared.values.Arg.{Arg}
 use Rattle.language.specs.Evaluation.{program_run}
 use Rattle.language.specs.Meaning.{Ending, Gives}
@@ -9,9 +10,13 @@ use Rattle.language.specs.Typing.{violations}
 use Rattle.source_eval.proofs.EndsHad.{program-had}
 use Rattle.source_eval.proofs.NamedCalls.{one-exported, all-call-earlier}
 use Rattle.source_eval.proofs.WorkedOut.{worked-out}
+use Rattle.typing_laws.proofs.Programs.{programs}
 
 pub end-had : (program : ProgramTree) (args : List Arg) → length (violations program) ≡ 0 → Gives program args (program_run program args).ends
-end-had program args none = let export = one-exported program none in program-had program args export.0 export.1 (all-call-earlier program none)
+end-had program args none =
+    let typed = (programs program).0 (nil_from_length (violations program) none) in
+    let export = one-exported program typed in
+    program-had program args export.0 export.1 (all-call-earlier program typed)
 
 pub exactly-one : (program : ProgramTree) (args : List Arg) → length (violations program) ≡ 0 → (ending : Ending Results) × Gives program args ending × ((other : Ending Results) → Gives program args other → other ≡ ending)
 exactly-one program args none = ((program_run program args).ends, end-had program args none, λ other d. sym (worked-out program args other d))
