@@ -39,16 +39,23 @@ layout_long f =
     let result = result_long f.returned in
     let count : length (little_bytes 2 (length f.slots)) ≡ 2 = length-bytes_low_first 0 2 (length f.slots) in
     let frame : length (little_bytes 4 f.frame_bytes) ≡ 4 = length-bytes_low_first 0 4 f.frame_bytes in
-    omega (arith, length-append (little_bytes 2 (length f.slots)) (flat_map spelled_slot f.slots ++ (spelled_result f.returned ++ little_bytes 4 f.frame_bytes)),
-    length-append (flat_map spelled_slot f.slots) (spelled_result f.returned ++ little_bytes 4 f.frame_bytes), length-append (spelled_result f.returned) (little_bytes 4 f.frame_bytes))
+    omega (
+      arith,
+      length-append (little_bytes 2 (length f.slots)) (flat_map spelled_slot f.slots ++ (spelled_result f.returned ++ little_bytes 4 f.frame_bytes)),
+      length-append (flat_map spelled_slot f.slots) (spelled_result f.returned ++ little_bytes 4 f.frame_bytes),
+      length-append (spelled_result f.returned) (little_bytes 4 f.frame_bytes),
+    )
 
 code_long : (f : Fields) → length (spelled_code f) ≡ 12 + 4 * length f.words
 code_long f =
     let words = words_long f.words in
     let steps : length (little_bytes 8 f.max_steps) ≡ 8 = length-bytes_low_first 0 8 f.max_steps in
     let count : length (little_bytes 4 (length f.words)) ≡ 4 = length-bytes_low_first 0 4 (length f.words) in
-    omega (arith, length-append (little_bytes 8 f.max_steps) (little_bytes 4 (length f.words) ++ flat_map (λ word. little_bytes 4 word) f.words),
-    length-append (little_bytes 4 (length f.words)) (flat_map (λ word. little_bytes 4 word) f.words))
+    omega (
+      arith,
+      length-append (little_bytes 8 f.max_steps) (little_bytes 4 (length f.words) ++ flat_map (λ word. little_bytes 4 word) f.words),
+      length-append (little_bytes 4 (length f.words)) (flat_map (λ word. little_bytes 4 word) f.words),
+    )
 
 pub short : (f : Fields) → IsImage f → length (spelling f) ≤ LONGEST_IMAGE
 short f h =
