@@ -15,3 +15,4 @@ pub mod Registers
 pub mod SignedWords
 pub mod Sizes
 pub mod Stops
+pub mod TurnRecording

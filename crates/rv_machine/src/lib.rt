@@ -20,6 +20,7 @@ pub mod recorders;
 pub mod recording;
 mod signed;
 pub mod stops;
+pub mod turn_recorder;
 mod values;
 
 pub use code::CodeRegion;
@@ -32,3 +33,4 @@ pub use paged::{AddressRange, PagedMemory};
 pub use pairing::{Pairing, first_difference};
 pub use recorders::{ListRecorder, NullRecorder};
 pub use stops::Stop;
+pub use turn_recorder::TurnRecorder;
