@@ -8,6 +8,8 @@ mod fields;
 #[cfg(test)]
 mod instructions;
 #[cfg(test)]
+mod paged;
+#[cfg(test)]
 mod pairs;
 #[cfg(test)]
 mod runs;

@@ -3,6 +3,7 @@ pub mod Calls
 pub mod EndingLaws
 pub mod EntryLaws
 pub mod Fresh
+pub mod Pages
 pub mod Pairs
 pub mod RunLaws
 pub mod SizedNumbers

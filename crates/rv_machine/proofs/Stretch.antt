@@ -27,7 +27,7 @@ module _ (base : ℕ) (items : List ℕ) where
   below : (a : ℕ) → a < base → bytes_from base items a ≡ None
   below a h = rw (lt-leb base a h)
 
-  above : (a : ℕ) → base + length items ≤ a → bytes_from base items a ≡ None
+  pub above : (a : ℕ) → base + length items ≤ a → bytes_from base items a ≡ None
   above a h = rw (le-leb base a (omega arith)) (slice_get_past items (a - base) (omega arith))
 
   pub byte_within : (a k : ℕ) → a ≡ base + k → k < length items → bytes_from base items a ≡ Some (get_or items k 0)

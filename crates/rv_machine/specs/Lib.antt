@@ -1,4 +1,5 @@
 pub mod Bytes
+pub mod Decoded
 pub mod Effects
 pub mod Entries
 pub mod Flat
@@ -6,6 +7,7 @@ pub mod Harts
 pub mod Leakage
 pub mod ListRecording
 pub mod Machine
+pub mod Paged
 pub mod PairingText
 pub mod Recording
 pub mod Regions
@@ -13,3 +15,4 @@ pub mod Registers
 pub mod SignedWords
 pub mod Sizes
 pub mod Stops
+pub mod TurnRecording

@@ -1,6 +1,6 @@
 // A memory whose data is one stretch of bytes.
 
-ghost use Rattle.std.specs.Prelude.{◌≡◌, ℕ, ◌+◌, ◌-◌, ◌*◌, ◌/◌, ◌%◌, ◌^◌, ◌≤◌, ◌<◌, Some, is_some, IfOk, IfSome, vec_len};
+ghost use Rattle.std.specs.Prelude.{◌≡◌, true, false, None, ℕ, ◌+◌, ◌-◌, ◌*◌, ◌/◌, ◌%◌, ◌^◌, ◌≤◌, ◌<◌, Some, is_some, IfOk, IfSome, vec_len};
 ghost use Rattle.rv_machine.specs.Sizes.{byte_count};
 
 use crate::memory::{Memory, Size};
@@ -25,6 +25,16 @@ impl FlatMemory {
     {
         let bytes = vec![in alloc; 0u8; bytes as usize]?;
         Ok(FlatMemory { base, bytes })
+    }
+
+    // Whether one of these bytes is data.
+    pub(crate) fn touches(&self, a: u32, n: Size) -> bool
+        ensures apart { result ≡ false → (x : ℕ) → a ≤ x → x < a + byte_count n → flat_bytes self.now x ≡ None }
+        ensures byte { result ≡ true → n ≡ Size.Byte → is_some (flat_bytes self.now a) ≡ true }
+    {
+        let a = u64::from(a);
+        let base = u64::from(self.base);
+        a < base + self.bytes.len() as u64 && base < a + u64::from(n.bytes())
     }
 
     // Where these bytes stand, if each of them is data.

@@ -14,7 +14,7 @@ pub enum Event {
 }
 
 /// What one turn shows: the program counter, and the event where the instruction has one.
-#[derive(Clone, Copy, Debug, PartialEq, Eq)]
+#[derive(Clone, Copy, Debug, Default, PartialEq, Eq)]
 pub struct Observation {
     pub pc: u32,
     pub event: Option<Event>,

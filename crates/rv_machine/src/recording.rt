@@ -1,7 +1,8 @@
 // What a recorder is to the machine.
 
 ghost use Rattle.std.specs.Prelude.{◌≡◌, ℕ, ◌+◌, Bool, List, [], ◌∷◌, IsOk, OnOk, OnErr};
-ghost use Rattle.rv_machine.specs.Recording.{kept, one_more};
+ghost use Rattle.rv_machine.specs.Recording.{kept};
+ghost use Rattle.word.specs.Counts.{one_more};
 ghost use Rattle.rv_machine.specs.declared.observation.Observation.{Observation};
 
 use crate::observation::Observation;

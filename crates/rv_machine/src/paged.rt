@@ -1,0 +1,181 @@
+// A memory whose data are ranges of addresses, in pages.
+
+ghost use Rattle.std.specs.Prelude.{◌≡◌, ℕ, ◌+◌, ◌^◌, ◌≤◌, ◌<◌, true, false, [], ◌∷◌, Some, None, is_some, slice_get, take, IfOk, OnOk, IfSome, IsSome, IsTrue};
+ghost use Rattle.std.specs.List.{All};
+ghost use Rattle.rv_machine.specs.declared.flat.FlatMemory.{FlatMemory};
+ghost use Rattle.rv_machine.specs.Bytes.{number_at, with_number};
+ghost use Rattle.rv_machine.specs.Flat.{flat_bytes};
+ghost use Rattle.rv_machine.specs.Paged.{zeros_in, first_of, bytes_in, paged_bytes};
+ghost use Rattle.rv_machine.specs.Sizes.{byte_count};
+
+use crate::flat::FlatMemory;
+use crate::memory::{Memory, Size};
+use std::alloc::{AllocError, Global};
+
+/// The bytes of a page; the last one of a range ends with the range.
+const PAGE_BYTES: u64 = 4096;
+
+/// Addresses from the beginning on, up to the end, which is the first one after them.
+#[derive(Clone, Copy, Debug, PartialEq, Eq)]
+pub struct AddressRange {
+    pub begin: u64,
+    pub end: u64,
+}
+
+/// A memory whose data are ranges of addresses. Its pages are made with it, so that loads and
+/// stores take no memory.
+#[derive(Drop)]
+pub struct PagedMemory {
+    pages: Vec<FlatMemory>,
+}
+
+// Puts the pages of a range behind the others.
+fn add_pages(
+    alloc: Global,
+    pages: &mut Vec<FlatMemory>,
+    range: AddressRange,
+) -> Result<(), AllocError>
+    requires { range.end ≤ 2 ^ 32 }
+    ensures { OnOk result ((a : ℕ)
+        → bytes_in pages.new.items a ≡ first_of (bytes_in pages.old.items a) (zeros_in (range ∷ []) a)) }
+{
+    let mut begin = range.begin;
+    'pages: while begin < range.end {
+        let bytes = PAGE_BYTES.min(range.end - begin);
+        pages.push(FlatMemory::new(alloc, begin as u32, bytes as u32)?)?;
+        begin += bytes;
+    }
+    Ok(())
+}
+
+impl PagedMemory {
+    /// Zero bytes at the addresses of these ranges.
+    pub fn new(alloc: Global, ranges: &[AddressRange]) -> Result<PagedMemory, AllocError>
+        requires { All (λ range. range.end ≤ 2 ^ 32) ranges.now }
+        ensures { IfOk result (λ memory. paged_bytes memory ≡ zeros_in ranges.now) }
+    {
+        let mut pages = Vec::new(alloc);
+        for &range in ranges {
+            add_pages(alloc, &mut pages, range)?;
+        }
+        Ok(PagedMemory { pages })
+    }
+
+    // The page that has all these bytes, where no page before it has one of them.
+    fn holder(&self, a: u32, n: Size) -> Option<usize>
+        ensures page { IfSome result (λ index. (page : FlatMemory) × (slice_get self.now.pages.items index ≡ Some page)
+            × (is_some (number_at (flat_bytes page) (byte_count n) a) ≡ true)) }
+        ensures first { IfSome result (λ index. (x : ℕ) → a ≤ x → x < a + byte_count n
+            → bytes_in (take index self.now.pages.items) x ≡ None) }
+        ensures none { result ≡ None → n ≡ Size.Byte → paged_bytes self.now a ≡ None }
+    {
+        for index in 0..self.pages.len() {
+            let page = &self.pages[index];
+            if page.load(a, n).is_some() {
+                return Some(index);
+            }
+            if page.touches(a, n) {
+                return None;
+            }
+        }
+        None
+    }
+}
+
+impl PagedMemory {
+    // The byte at this address, if it is data.
+    fn byte(&self, a: u32) -> Option<u32>
+        ensures number { result ≡ number_at (paged_bytes self.now) 1 a }
+        ensures fits { IfSome result (λ byte. byte < 256) }
+    {
+        match self.holder(a, Size::Byte) {
+            Some(index) => {
+                let page = &self.pages[index];
+                page.load(a, Size::Byte)
+            }
+            None => None,
+        }
+    }
+
+    // The number of the two bytes from this address on, if they are data.
+    fn half(&self, a: u32) -> Option<u32>
+        ensures number { result ≡ number_at (paged_bytes self.now) 2 a }
+        ensures fits { IfSome result (λ half. half < 65536) }
+        ensures within { IsSome result → a + 2 ≤ 2 ^ 32 }
+    {
+        if let Some(index) = self.holder(a, Size::Half) {
+            let page = &self.pages[index];
+            return page.load(a, Size::Half);
+        }
+        let low = self.byte(a)?;
+        let high = self.byte(a.checked_add(1)?)?;
+        Some(low + 256 * high)
+    }
+
+    // The number of the four bytes from this address on, if they are data.
+    fn word(&self, a: u32) -> Option<u32>
+        ensures number { result ≡ number_at (paged_bytes self.now) 4 a }
+        ensures within { IsSome result → a + 4 ≤ 2 ^ 32 }
+    {
+        if let Some(index) = self.holder(a, Size::Word) {
+            let page = &self.pages[index];
+            return page.load(a, Size::Word);
+        }
+        let low = self.half(a)?;
+        let high = self.half(a.checked_add(2)?)?;
+        Some(low + 65_536 * high)
+    }
+
+    // Puts these bytes, where one page has them all.
+    fn put(&mut self, a: u32, n: Size, v: u32) -> bool
+        ensures stored { result ≡ true → paged_bytes self.new ≡ with_number (paged_bytes self.old) (byte_count n) a v }
+        ensures data { result ≡ true → is_some (number_at (paged_bytes self.old) (byte_count n) a) ≡ true }
+        ensures unchanged { result ≡ false → paged_bytes self.new ≡ paged_bytes self.old }
+        ensures byte { n ≡ Size.Byte → result ≡ is_some (paged_bytes self.old a) }
+        ensures extent { (x : ℕ) → is_some (paged_bytes self.new x) ≡ is_some (paged_bytes self.old x) }
+    {
+        let Some(index) = self.holder(a, n) else {
+            return false;
+        };
+        let page = &mut self.pages[index];
+        page.store(a, n, v);
+        true
+    }
+}
+
+impl Memory for PagedMemory {
+    ghost use Rattle.rv_machine.specs.Paged.{paged_bytes};
+
+    ghost bytes = { paged_bytes };
+
+    fn load(&self, a: u32, n: Size) -> Option<u32> {
+        match n {
+            Size::Byte => self.byte(a),
+            Size::Half => self.half(a),
+            Size::Word => self.word(a),
+        }
+    }
+
+    fn store(&mut self, a: u32, n: Size, v: u32) -> bool {
+        if self.put(a, n, v) {
+            return true;
+        }
+        if self.load(a, n).is_none() {
+            return false;
+        }
+        match n {
+            Size::Byte => {}
+            Size::Half => {
+                self.put(a + 1, Size::Byte, v / 256);
+                self.put(a, Size::Byte, v);
+            }
+            Size::Word => {
+                self.put(a + 3, Size::Byte, v / 256 / 256 / 256);
+                self.put(a + 2, Size::Byte, v / 256 / 256);
+                self.put(a + 1, Size::Byte, v / 256);
+                self.put(a, Size::Byte, v);
+            }
+        }
+        true
+    }
+}
