@@ -6,5 +6,6 @@ pub mod Same
 pub mod Fitting
 pub mod Fit
 pub mod BranchTrees
-pub mod FewControls
+pub mod BoundLemmas
 pub mod Paths
+pub mod Removed

@@ -4,3 +4,5 @@ pub mod Removal
 pub mod StraightMeaning
 pub mod Fitness
 pub mod Path
+pub mod Bounds
+pub mod Removed

@@ -3,10 +3,8 @@
 #![tactic(auto)]
 
 mod controls;
-mod laws;
 mod removal;
 mod straight;
 
-pub use laws::{controls_are_few, public_paths_agree, removal_keeps_outcome, straight_is_fit};
 pub use removal::remove;
 pub use straight::{Straight, StraightStatement};

@@ -1,6 +1,9 @@
 ghost use Rattle.std.specs.Prelude.{◌≡◌, ◌+◌, ◌^◌, ◌<◌, ◌++◌, IfOk, OnOk};
 ghost use Rattle.inline.specs.Flat.{term_tree, flat_tree, flat_block};
-ghost use Rattle.branch_removal.specs.Removal.{set_within, removed, removed_all, controls_in, controls_in_all, straightened};
+ghost use Rattle.inline.specs.FlatSize.{IsSized};
+ghost use Rattle.inline.specs.FlatTyping.{IsTypedProgram};
+ghost use Rattle.branch_removal.specs.Removal.{set_within, removed, removed_all, controls_in, controls_in_all};
+ghost use Rattle.branch_removal.specs.Removed.{IsRemoved};
 ghost use Rattle.branch_removal.specs.Straight.{straight_tree, straight_trees};
 
 use crate::controls::controls_in_all;
@@ -60,10 +63,12 @@ fn push_removed_all<'f>(
     Ok(())
 }
 
-/// A body's straight code.
+/// A well-typed body's straight code: its outcome is that of the body, and what a run of it shows is decided by what
+/// is public.
 pub fn remove<'f>(alloc: Global, flat: &'f Flat) -> Result<Straight<'f>, AllocError>
-    requires numbered { controls_in_all flat.now.body < 2 ^ 32 }
-    ensures { IfOk result (λ straight. straight ≡ straightened flat.now) }
+    requires typed { IsTypedProgram flat.now }
+    requires sized { IsSized flat.now }
+    ensures { IfOk result (IsRemoved flat.now) }
 {
     let controls = controls_in_all(flat.body());
     let mut code = Vec::new(alloc);

@@ -14,7 +14,8 @@ use Rattle.language.specs.declared.signature.Param.{Param}
 use Rattle.language.specs.declared.typing.WordType.{WordType}
 use Rattle.codegen.specs.Generated.{program_code, program_height, result_slot, image_of}
 use Rattle.codegen.specs.Layout.{slots_from, temporaries_offset}
-use Rattle.codegen.specs.Room.{IsWord, HasFrame, HasRoom}
+use Rattle.codegen.specs.Room.{HasFrame, HasRoom}
+use Rattle.inline.specs.FlatSize.{IsWord}
 
 pub length-slots_from : (low : ℕ) (ps : List Param) → length (slots_from low ps) ≡ length ps
 length-slots_from low [] = refl

@@ -1,80 +1,188 @@
--- The straight code of a procedure within the limits has room.
-use Rattle.std.proofs.Common.{◌≡◌, ℕ, ◌+◌, ◌*◌, ◌≤◌, List, [], ◌∷◌, ◌++◌, length, map, Option, None, Some, refl, ap, subst, arith, length-append}
-use Rattle.std.proofs.lemmas.List.{length-map}
-use Rattle.std.specs.List.{AllByRecursion}
-use Rattle.std.specs.Option.{option_map}
-use Rattle.branch_removal.specs.Removal.{removed_all, controls_in_all, straightened}
-use Rattle.codegen.specs.Emitted.{statements_code, height_in_all}
+-- Straight code within the bounds has room in the frame and in an image.
+use Rattle.std.proofs.Common.{ℕ, ◌+◌, ◌*◌, ◌%◌, ◌≤◌, ◌==◌, Bool, true, false, cond, nat_lt, List, [], ◌∷◌, ◌++◌, length, Option, None, Some, max, subst, arith, length-append}
+use Rattle.std.proofs.Math.Nat.{max-le, add-max-add_right}
+use Rattle.branch_removal.specs.Bounds.{statement_nodes, code_nodes, taken_in, taken_in_all, IsBounded}
+use Rattle.branch_removal.specs.Straight.{StraightTree, set, take, set_under, StraightProgram}
+use Rattle.codegen.specs.Emitted.{load_code, store_code, constant_code, within_code, expr_code, statement_code, statements_code, height_of, height_in, height_in_all, cut_code, operator_code, prefix_code, around_code, rotate_code}
 use Rattle.codegen.specs.Generated.{program_code, program_height, result_code, result_height}
-use Rattle.codegen.specs.Room.{IsResultUpTo, IsWord, HasRoom}
-use Rattle.inline.specs.Numbering.{Numbers, term, param_of, parameter_names, return_names, flattened}
+use Rattle.codegen.specs.Layout.{variable_offset, result_offset, control_offset, temporaries_offset}
+use Rattle.codegen.specs.Room.{HasRoom}
+use Rattle.inline.specs.Flat.{TermTree, number, truth, variable, prefix, binary, rotate, convert, select}
+use Rattle.inline.specs.FlatSize.{term_nodes, value_nodes}
+use Rattle.rv_code.specs.declared.instructions.Instr.{Instr}
 use Rattle.rv_code.specs.declared.instructions.Instr.TheVariants.{Ecall}
-use Rattle.language.specs.declared.signature.Form.{Form}
-use Rattle.language.specs.declared.signature.Form.TheVariants.{SingleWord}
-use Rattle.language.specs.Grammatical.{HasLength, HasForm, IsGrammatical}
-use Rattle.language.specs.Size.{block_nodes, return_nodes, nodes_of, held_words, parameter_words, declared_bytes}
-use Rattle.language.specs.Tree.{ParameterTree, ReturnTree, ProcedureTree}
-use Rattle.codegen.proofs.PlaceLemmas.{AreUpTo, term_fits, after_all_fits, parameters_fit, block_places}
-use Rattle.codegen.proofs.SizeLemmas.{greatest, result_height_fits, block_room, result_length, block_length}
+use Rattle.language.specs.declared.tree.BinaryOperator.{BinaryOperator}
+use Rattle.language.specs.declared.tree.BinaryOperator.TheVariants as operators
+use Rattle.language.specs.declared.tree.PrefixOperator.{PrefixOperator}
+use Rattle.language.specs.declared.tree.PrefixOperator.TheVariants as prefixes
+use Rattle.language.specs.Operators.{width_of}
+use Rattle.word.specs.declared.width.Width.{Width}
+use Rattle.word.specs.declared.width.Width.TheVariants.{W8, W16, W32}
+use Rattle.word.specs.Operators.{word_of}
+use Rattle.word.specs.Widths.{bits}
 
--- each is a word
-abbrev pub AreWords : List ParameterTree → Type 0
-AreWords ps = AllByRecursion (λ (p : ParameterTree). p.form ≡ SingleWord) ps
+-- Slots.
 
-words : (ps : List ParameterTree) → AllByRecursion HasForm ps → AreWords ps → AllByRecursion IsWord (map param_of ps)
-words [] has are = tt
-words (p ∷ ps) has are = (record { form = are.0; length = subst (λ (form : Form). HasLength form p.length) are.0 has.0 }, words ps has.1 are.1)
+height : (e : TermTree) → height_of e + 1 ≤ term_nodes e
+height (number value kind) = omega arith
+height (truth value) = omega arith
+height (variable x) = omega arith
+height (prefix operator width operand) = omega (arith, height operand)
+height (binary operator width one other) =
+    let a = height one in
+    let b = height other in
+    let both : max (height_of one) (1 + height_of other) ≤ term_nodes one + term_nodes other = max-le (omega (arith, a, b)) (omega (arith, a, b)) in
+    omega (arith, both)
+height (rotate width operand amount) = omega (arith, height operand)
+height (convert kind operand) = omega (arith, height operand)
+height (select condition accepted otherwise) =
+    let h = height condition in
+    let i = height accepted in
+    let j = height otherwise in
+    let inner : max (height_of accepted) (1 + height_of otherwise) ≤ term_nodes accepted + term_nodes otherwise = max-le (omega (arith, h, i, j)) (omega (arith, h, i, j)) in
+    let outer : max (height_of condition) (1 + max (height_of accepted) (1 + height_of otherwise)) ≤ term_nodes condition + term_nodes accepted + term_nodes otherwise = max-le (omega (arith, h, i, j)) (omega (arith, inner, h)) in
+    omega (arith, outer)
 
-held : (ps : List ParameterTree) → AreWords ps → parameter_words ps ≡ length ps
-held [] are = refl
-held (p ∷ ps) are =
-    let one : held_words p.form p.kind p.length ≡ 1 = ap (λ (form : Form). held_words form p.kind p.length) are.0 in
-    omega (arith, one, held ps are.1)
+-- a statement takes a condition at most, and then has two nodes at least
+statement_height : (s : StraightTree) → height_in s + 2 * taken_in s ≤ statement_nodes s
+statement_height (set x value) = omega (arith, height value)
+statement_height (take control within condition) = omega (arith, height condition)
+statement_height (set_under control x value) = omega (arith, height value)
 
-result_fits : (most : ℕ) (names : Numbers) (r : Option ReturnTree) → AreUpTo most names → IsResultUpTo most (option_map (λ (r : ReturnTree). term names r.value) r)
-result_fits most names None h = tt
-result_fits most names (Some r) h = term_fits most names r.value h
+greatest : (i j a n : ℕ) → i + a ≤ n → j + a ≤ n → max i j + a ≤ n
+greatest i j a n p q = subst (λ x. x ≤ n) (add-max-add_right i j a) (max-le p q)
 
-module _ (p : ProcedureTree) where
-  known : AreUpTo (flattened p).variables (parameter_names p)
-  known = parameters_fit (flattened p).variables [] 0 p.parameters (omega arith) tt
+code_height : (ss : List StraightTree) → height_in_all ss + 2 * taken_in_all ss ≤ code_nodes ss
+code_height [] = omega arith
+code_height (s ∷ ss) =
+    let one = statement_height s in
+    let others = code_height ss in
+    let all = greatest (height_in s) (height_in_all ss) (2 * taken_in_all (s ∷ ss)) (code_nodes (s ∷ ss)) (omega (arith, one, others)) (omega (arith, one, others)) in
+    omega (arith, all)
 
-  returns : AreUpTo (flattened p).variables (return_names p)
-  returns = after_all_fits (flattened p).variables (parameter_names p) (length p.parameters) p.body (omega arith) known
+result_height_fits : (value : Option TermTree) → result_height value ≤ value_nodes value
+result_height_fits None = omega arith
+result_height_fits (Some value) = omega (arith, height value)
 
-  frame : (straightened (flattened p)).controls + program_height (straightened (flattened p)) ≤ nodes_of p + 1
+-- Instructions.
+
+one_of : (b : Bool) (xs ys : List Instr) (n : ℕ) → length xs ≤ n → length ys ≤ n → length (cond b xs ys) ≤ n
+one_of true xs ys n h k = h
+one_of false xs ys n h k = k
+
+load_length : (r o : ℕ) → length (load_code r o) ≤ 3
+load_length r o = one_of (nat_lt o 2048) _ _ 3 (omega arith) (omega arith)
+
+store_length : (r o : ℕ) → length (store_code r o) ≤ 3
+store_length r o = one_of (nat_lt o 2048) _ _ 3 (omega arith) (omega arith)
+
+constant_length : (r n : ℕ) → length (constant_code r n) ≤ 2
+constant_length r n = one_of (nat_lt n 2048) _ _ 2 (omega arith) (omega arith)
+
+cut_length : (w : Width) → length (cut_code w) ≤ 2
+cut_length W8 = omega arith
+cut_length W16 = omega arith
+cut_length W32 = omega arith
+
+operator_length : (o : BinaryOperator) (w : Width) → length (operator_code o w) ≤ 3
+operator_length operators.Either w = omega arith
+operator_length operators.Both w = omega arith
+operator_length operators.Equal w = omega arith
+operator_length operators.Unequal w = omega arith
+operator_length operators.Less w = omega arith
+operator_length operators.LessOrEqual w = omega arith
+operator_length operators.Greater w = omega arith
+operator_length operators.GreaterOrEqual w = omega arith
+operator_length operators.BitOr w = omega arith
+operator_length operators.BitXor w = omega arith
+operator_length operators.BitAnd w = omega arith
+operator_length operators.ShiftLeft w = omega (arith, cut_length w)
+operator_length operators.ShiftRight w = omega (arith, cut_length w)
+operator_length operators.Add w = omega (arith, cut_length w)
+operator_length operators.Subtract w = omega (arith, cut_length w)
+operator_length operators.Multiply w = omega (arith, cut_length w)
+operator_length operators.Divide w = omega arith
+operator_length operators.Remainder w = omega arith
+
+prefix_length : (o : PrefixOperator) (w : Width) → length (prefix_code o w) ≤ 4
+prefix_length prefixes.Not w = omega arith
+prefix_length prefixes.Complement w = omega (arith, cut_length w)
+prefix_length prefixes.Negate w = omega (arith, cut_length w)
+
+around_length : (w : Width) (amount : ℕ) → length (around_code w amount) ≤ 5
+around_length w amount = one_of (amount == 0) _ _ 5 (omega arith) (omega (arith, cut_length w))
+
+rotate_length : (w : Width) (amount : ℕ) → length (rotate_code w amount) ≤ 7
+rotate_length w amount = simp length-append (omega (arith, cut_length w, around_length w (amount % bits w)))
+
+-- at most 16 instructions a node
+expr_length : (free : ℕ) (e : TermTree) → length (expr_code free e) ≤ 16 * term_nodes e
+expr_length free (number value kind) = omega (arith, constant_length 5 value)
+expr_length free (truth value) = omega (arith, constant_length 5 (word_of value))
+expr_length free (variable x) = omega (arith, load_length 5 (variable_offset x))
+expr_length free (prefix operator width operand) = simp length-append (omega (arith, expr_length free operand, prefix_length operator width))
+expr_length free (binary operator width one other) =
+    simp length-append
+    (omega (arith, operator_length operator width, expr_length free one, expr_length (free + 4) other, store_length 5 free, load_length 6 free))
+expr_length free (rotate width operand amount) =
+    let e = length-append (expr_code free operand) (rotate_code width amount) in
+    omega (arith, e, expr_length free operand, rotate_length width amount)
+expr_length free (convert kind operand) = simp length-append (omega (arith, expr_length free operand, cut_length (width_of kind)))
+expr_length free (select condition accepted otherwise) =
+    simp length-append
+    (omega (arith, expr_length free condition, expr_length (free + 4) accepted, expr_length (free + 8) otherwise, store_length 5 free, store_length 5 (free + 4), load_length 6 (free + 4), load_length 7 free))
+
+within_length : (variables : ℕ) (within : Option ℕ) → length (within_code variables within) ≤ 5
+within_length variables None = omega arith
+within_length variables (Some control) = simp length-append (omega (arith, load_length 6 (control_offset variables control)))
+
+module _ (variables controls : ℕ) where
+  result_length : (value : Option TermTree) → length (result_code variables controls value) ≤ 16 * value_nodes value
+  result_length None = omega arith
+  result_length (Some value) = simp length-append (omega (arith, expr_length (temporaries_offset variables controls) value, store_length 5 (result_offset variables)))
+
+  statement_length : (s : StraightTree) → length (statement_code variables controls s) ≤ 16 * statement_nodes s
+  statement_length (set x value) = simp length-append (omega (arith, expr_length (temporaries_offset variables controls) value, store_length 5 (variable_offset x)))
+  statement_length (take control within condition) =
+      simp length-append
+      (omega (arith, expr_length (temporaries_offset variables controls) condition, within_length variables within, store_length 7 (control_offset variables control), store_length 5 (control_offset variables (control + 1))))
+  statement_length (set_under control x value) =
+      simp length-append
+      (omega (arith, expr_length (temporaries_offset variables controls) value, load_length 6 (variable_offset x), load_length 7 (control_offset variables control), store_length 5 (variable_offset x)))
+
+  code_length : (ss : List StraightTree) → length (statements_code variables controls ss) ≤ 16 * code_nodes ss
+  code_length [] = omega arith
+  code_length (s ∷ ss) =
+      let e = length-append (statement_code variables controls s) (statements_code variables controls ss) in
+      omega (arith, e, statement_length s, code_length ss)
+
+module _ (p : StraightProgram) (is : IsBounded p) where
+  frame : p.controls + program_height p ≤ p.nodes + 1
   frame =
-      let c = controls_in_all (flattened p).body in
-      let h = height_in_all (removed_all None 0 (flattened p).body) in
-      let v = result_height (flattened p).value in
-      let body : c + h ≤ block_nodes p.body = block_room (parameter_names p) (length p.parameters) None 0 p.body in
-      let value : v ≤ return_nodes p.returned = result_height_fits (return_names p) p.returned in
-      let all = greatest h v c (nodes_of p + 1) (omega (arith, body)) (omega (arith, body, value)) in
+      let body = code_height p.statements in
+      let value = result_height_fits p.value in
+      let taken = is.controls in
+      let counted = is.counted in
+      let all = greatest (height_in_all p.statements) (result_height p.value) p.controls (p.nodes + 1) (omega (arith, body, taken, counted)) (omega (arith, body, value, taken, counted)) in
       omega (arith, all)
 
-  code : length (program_code (straightened (flattened p))) ≤ 32 * nodes_of p + 64
+  code : length (program_code p) ≤ 32 * p.nodes + 64
   code =
-      let v = (flattened p).variables in
-      let c = controls_in_all (flattened p).body in
-      let xs = statements_code v c (removed_all None 0 (flattened p).body) in
-      let ys = result_code v c (flattened p).value in
-      let a = block_length v c (parameter_names p) (length p.parameters) None 0 p.body in
-      let b : length ys ≤ 16 * return_nodes p.returned = result_length (return_names p) v c p.returned in
+      let xs = statements_code p.variables p.controls p.statements in
+      let ys = result_code p.variables p.controls p.value in
       let i = length-append xs ys in
       let j = length-append (xs ++ ys) (Ecall ∷ []) in
-      omega (arith, a, b, i, j)
+      let counted = is.counted in
+      omega (arith, code_length p.variables p.controls p.statements, result_length p.variables p.controls p.value, i, j, counted)
 
-  pub room : IsGrammatical p → AreWords p.parameters → nodes_of p ≤ 6000 → declared_bytes p ≤ 32768 → HasRoom (straightened (flattened p))
-  room grammatical are nodes bytes =
-      let count = length-map p.parameters param_of in
-      let each = held p.parameters are in
-      record {
-        words = words p.parameters grammatical.parameters are;
-        parameters = omega (arith, count);
-        variables = omega (arith, each, bytes);
-        nodes = nodes;
-        statements = block_places (flattened p).variables (controls_in_all (flattened p).body) (parameter_names p) (length p.parameters) None 0 p.body known (omega arith) tt (omega arith);
-        value = result_fits (flattened p).variables (return_names p) p.returned returns;
-        frame = frame;
-        code = code;
-      }
+  pub has_room : HasRoom p
+  has_room = record {
+    words = is.words;
+    parameters = is.parameters;
+    variables = is.variables;
+    nodes = is.nodes;
+    statements = is.statements;
+    value = is.value;
+    frame = frame;
+    code = code;
+  }

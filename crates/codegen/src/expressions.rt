@@ -2,7 +2,7 @@
 
 ghost use Rattle.std.specs.Prelude.{◌≡◌, ◌++◌, ◌+◌, ◌*◌, ◌≤◌, OnOk};
 ghost use Rattle.codegen.specs.Emitted.{expr_code, height_of};
-ghost use Rattle.codegen.specs.Room.{IsUpTo};
+ghost use Rattle.inline.specs.FlatSize.{IsUpTo};
 ghost use Rattle.inline.specs.Flat.{term_tree};
 
 use crate::layout::Layout;

@@ -1,5 +1,7 @@
 ghost use Rattle.std.specs.Prelude.{◌≡◌, ◌<◌, ◌^◌, map, All, IfOk};
 ghost use Rattle.std.specs.Option.{option_map};
+ghost use Rattle.branch_removal.specs.Bounds.{IsBounded};
+ghost use Rattle.codegen.specs.Followed.{IsGenerated};
 ghost use Rattle.codegen.specs.Generated.{program_code, program_height, result_slot, image_of};
 ghost use Rattle.codegen.specs.Room.{HasRoom};
 ghost use Rattle.rv_code.specs.Words.{word_of};
@@ -68,8 +70,8 @@ fn result_slot(straight: &Straight<'_>, layout: Layout) -> Option<ResultSlot>
     })
 }
 
-/// The image of straight code.
-pub fn generate(alloc: Global, straight: &Straight<'_>) -> Result<Image, AllocError>
+/// The image of straight code, as the definition lists it.
+fn listed(alloc: Global, straight: &Straight<'_>) -> Result<Image, AllocError>
     requires { HasRoom straight.now }
     ensures { IfOk result (λ image. image ≡ image_of straight.now) }
 {
@@ -84,4 +86,13 @@ pub fn generate(alloc: Global, straight: &Straight<'_>) -> Result<Image, AllocEr
     let frame_bytes = layout.temporaries() + WORD_BYTES * temporaries(straight);
     let max_steps = 32 * u64::from(straight.nodes()) + 64;
     Ok(Image::new(slots, returned, frame_bytes, max_steps, words))
+}
+
+/// The image of straight code. The machine, running it, follows the code: the outcome is that of the code, and what it
+/// shows is decided by the path of public values.
+pub fn generate(alloc: Global, straight: &Straight<'_>) -> Result<Image, AllocError>
+    requires { IsBounded straight.now }
+    ensures { IfOk result (IsGenerated straight.now) }
+{
+    listed(alloc, straight)
 }

@@ -5,7 +5,8 @@ ghost use Rattle.std.specs.List.{AllByRecursion};
 ghost use Rattle.branch_removal.specs.Straight.{straight_tree, straight_trees};
 ghost use Rattle.branch_removal.specs.Straight as straight;
 ghost use Rattle.codegen.specs.Emitted.{statement_code, statements_code, height_of, height_in, height_in_all};
-ghost use Rattle.codegen.specs.Room.{HasFrame, HasPlaces};
+ghost use Rattle.branch_removal.specs.Bounds.{HasPlaces};
+ghost use Rattle.codegen.specs.Room.{HasFrame};
 ghost use Rattle.inline.specs.Flat.{term_tree};
 
 use crate::emit;

@@ -18,9 +18,10 @@ use Rattle.rv_machine.specs.declared.observation.Observation.{Observation}
 use Rattle.rv_machine.specs.declared.stops.Stop.{Stop}
 use Rattle.rv_machine.specs.declared.stops.Stop.TheVariants.{Ecall, Break, Illegal, AccessFault, Misaligned, Budget, RecorderRefused}
 use Rattle.arguments.specs.Agreement.{Agree}
-use Rattle.simulation.specs.Bases.{code_base, frame_base}
-use Rattle.simulation.specs.Compiled.{AreBases, IsCompiled, RunsTo}
-use Rattle.simulation.specs.Loaded.{params_of, code_at, loaded_at, results_in}
+use Rattle.hepurita.specs.Bases.{code_base, frame_base}
+use Rattle.codegen.specs.Bases.{AreBases}
+use Rattle.hepurita.specs.Compiled.{IsCompiled, RunsTo}
+use Rattle.codegen.specs.Loaded.{params_of, code_at, loaded_at, results_in}
 use Rattle.language.specs.declared.signature.Label.TheVariants.{Public}
 use Rattle.language.specs.declared.signature.Param.{Param}
 use Rattle.language.specs.declared.typing.WordType.{WordType}

@@ -6,7 +6,7 @@ use Rattle.rv_machine.specs.Bytes.{ByteMap, joined, number_at, zeros}
 use Rattle.rv_machine.proofs.ByteLaws.{number_at-suc, number_at-zero, is_some-with_number}
 use Rattle.language.specs.declared.values.Arg.{Arg}
 use Rattle.language.specs.declared.values.Arg.TheVariants.{Word, Array}
-use Rattle.simulation.specs.Loaded.{with_argument, HoldsWord}
+use Rattle.codegen.specs.Loaded.{with_argument, HoldsWord}
 
 is_some-joined : (a b : Option ℕ) → is_some (joined a b) ≡ (is_some a && is_some b)
 is_some-joined (Some x) (Some y) = refl

@@ -11,8 +11,8 @@ use Rattle.language.specs.Results.{Results}
 use Rattle.language.specs.declared.values.Arg.{Arg}
 use Rattle.hepurita.specs.declared.fault.RunFault.{RunFault}
 use Rattle.hepurita.specs.declared.fault.RunFault.TheVariants.{Argument, Memory}
-use Rattle.simulation.specs.Bases.{code_base, frame_base}
-use Rattle.simulation.specs.Loaded.{params_of, code_at, loaded_at}
+use Rattle.hepurita.specs.Bases.{code_base, frame_base}
+use Rattle.codegen.specs.Loaded.{params_of, code_at, loaded_at}
 use Rattle.hepurita.specs.Executed.{Executed, refused, out_of_memory, ran, answer_at}
 
 -- want of memory

@@ -1,5 +1,5 @@
 -- A text is not both accepted and refused, nor accepted for two exports; and its export is small.
-use Rattle.std.proofs.Common.{◌≡◌, ℕ, ◌≤◌, Bool, true, false, nat_lt, List, [], ◌++◌, Option, Some, length, length-append, Contains, refl, ap, sym, subst, ◌∙◌, arith}
+use Rattle.std.proofs.Common.{◌≡◌, ℕ, ◌≤◌, Bool, true, false, nat_lt, List, [], ◌++◌, Some, length, length-append, Contains, refl, ap, sym, subst, ◌∙◌, arith}
 use Rattle.std.proofs.lemmas.Bool.Decides.{nat_tests}
 use Rattle.std.proofs.lemmas.List.{length-map}
 use Rattle.word.specs.declared.place.Place.{Place}
@@ -8,7 +8,8 @@ use Rattle.language.specs.declared.rule.Rule.TheVariants.{InlinedSize, DeclaredB
 use Rattle.language.specs.declared.typing.Violation.{Violation}
 use Rattle.language.specs.Meaning.{exported}
 use Rattle.syntax.specs.Reading.{accepted, refused, OneAnswer}
-use Rattle.language.specs.Size.{nodes_of, declared_bytes, MOST_NODES, MOST_DECLARED_BYTES, size_violations}
+use Rattle.language.specs.declared.limits.TheConstants.{MOST_NODES, MOST_DECLARED_BYTES}
+use Rattle.language.specs.Size.{nodes_of, declared_bytes, size_violations}
 use Rattle.language.specs.Tree.{ProcedureTree, ProgramTree}
 use Rattle.language.specs.Types.{when}
 use Rattle.hepurita.specs.Built.{Judges, JudgesProgram, accepts, refuses, not_compiled_yet, ill_typed, too_large, fine, unreadable, readable}

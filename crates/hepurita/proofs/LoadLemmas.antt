@@ -10,7 +10,7 @@ use Rattle.language.specs.declared.signature.Kind.TheVariants.{Boolean}
 use Rattle.language.specs.declared.signature.Label.TheVariants.{Public}
 use Rattle.language.specs.declared.signature.Param.{Param}
 use Rattle.language.specs.declared.values.Arg.{Arg}
-use Rattle.simulation.specs.Loaded.{with_argument, with_arguments, HoldsWord}
+use Rattle.codegen.specs.Loaded.{with_argument, with_arguments, HoldsWord}
 use Rattle.hepurita.proofs.DataLemmas.{is_some-zeros}
 
 -- a word's slot takes four bytes

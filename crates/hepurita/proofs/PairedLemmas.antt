@@ -8,7 +8,7 @@ use Rattle.rv_machine.specs.declared.pairing.Pairing.TheVariants.{Same, Differ}
 use Rattle.language.specs.declared.values.Arg.{Arg}
 use Rattle.hepurita.specs.declared.fault.RunFault.{RunFault}
 use Rattle.hepurita.specs.declared.fault.RunFault.TheVariants.{Argument, Memory}
-use Rattle.simulation.specs.Loaded.{params_of}
+use Rattle.codegen.specs.Loaded.{params_of}
 use Rattle.hepurita.specs.Paired.{Paired, Compares, pair_fault, refused, out_of_memory}
 
 pub memory_paired : (image : Fields) (one other : List Arg) (r : Result Pairing RunFault) → r ≡ Err Memory → Paired image one other r

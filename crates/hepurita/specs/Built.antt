@@ -4,7 +4,7 @@ use Rattle.coverage.specs.Earliest.{IsEarliest}
 use Rattle.coverage.specs.NotCompiled.{uncompiled, IsCompiledYet}
 use Rattle.image.specs.Fields.{Fields, IsImage}
 use Rattle.image.specs.Spelling.{spelling}
-use Rattle.simulation.specs.Compiled.{IsCompiled}
+use Rattle.hepurita.specs.Compiled.{IsCompiled}
 use Rattle.word.specs.declared.place.Place.{Place}
 use Rattle.language.specs.declared.refusal.Refusal.{Refusal}
 use Rattle.language.specs.declared.rule.Rule.{Rule}

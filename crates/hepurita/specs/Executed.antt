@@ -13,8 +13,8 @@ use Rattle.language.specs.Results.{Results}
 use Rattle.language.specs.declared.values.Arg.{Arg}
 use Rattle.hepurita.specs.declared.fault.RunFault.{RunFault}
 use Rattle.hepurita.specs.declared.fault.RunFault.TheVariants.{Argument, Memory, Stopped}
-use Rattle.simulation.specs.Bases.{code_base, frame_base}
-use Rattle.simulation.specs.Loaded.{params_of, code_at, loaded_at, results_in}
+use Rattle.hepurita.specs.Bases.{code_base, frame_base}
+use Rattle.codegen.specs.Loaded.{params_of, code_at, loaded_at, results_in}
 
 -- what is answered where the machine stops so
 abbrev pub answer_at : ℕ → Fields → Stop → ByteMap → Result Results RunFault

@@ -16,8 +16,8 @@ use Rattle.language.specs.declared.signature.Param.{Param}
 use Rattle.language.specs.declared.values.Arg.{Arg}
 use Rattle.hepurita.specs.declared.fault.RunFault.{RunFault}
 use Rattle.hepurita.specs.declared.fault.RunFault.TheVariants.{Argument, Memory}
-use Rattle.simulation.specs.Bases.{code_base, frame_base}
-use Rattle.simulation.specs.Loaded.{params_of, code_at, loaded_at}
+use Rattle.hepurita.specs.Bases.{code_base, frame_base}
+use Rattle.codegen.specs.Loaded.{params_of, code_at, loaded_at}
 
 -- a fault of the second list: its arguments are numbered after those of the first
 abbrev pub shifted : ℕ → ArgumentFault → ArgumentFault

@@ -1,8 +1,9 @@
 // A text, compiled to the bytes of an image.
 
 ghost use Rattle.std.specs.Prelude.{◌≡◌, ℕ, List, [], Some, IfOk, IfErr};
-ghost use Rattle.branch_removal.specs.Removal.{straightened};
-ghost use Rattle.codegen.specs.Generated.{image_of};
+ghost use Rattle.branch_removal.specs.Removed.{IsRemoved};
+ghost use Rattle.branch_removal.specs.Straight.{StraightProgram};
+ghost use Rattle.codegen.specs.Followed.{IsGenerated};
 ghost use Rattle.image.specs.Fields.{IsImage};
 ghost use Rattle.inline.specs.Numbering.{flattened};
 ghost use Rattle.language.specs.Grammatical.{IsGrammatical};
@@ -14,10 +15,11 @@ ghost use Rattle.hepurita.specs.Built.{Judges, JudgesProgram, IsRefusal, IsBuilt
 
 use crate::judging::flat_of;
 use crate::laws::texts_are_compiled;
-use branch_removal::{controls_are_few, remove};
-use codegen::{generate, limits_leave_room};
+use branch_removal::remove;
+use codegen::generate;
 use coverage::compiled_procedures_have_compiled_parts;
 use image::{Image, write};
+use inline::{flat_is_sized, flat_is_typed};
 use language::{Program, Refusal};
 use std::alloc::Global;
 use syntax::{one_answer_for_a_text, parse, texts_are_grammatical};
@@ -25,14 +27,14 @@ use syntax::{one_answer_for_a_text, parse, texts_are_grammatical};
 /// The image of a program that violates no rule, or the first refusal.
 fn compile(alloc: Global, program: &Program<'_>) -> Result<Image, Refusal>
     requires grammatical { (before : List ProcedureTree) (p : ProcedureTree) → exported [] (program_tree program.now).procedures ≡ Some (before, p) → IsGrammatical p }
-    ensures accepted { IfOk result (λ image. (export : ProcedureTree) × JudgesProgram (program_tree program.now) (accepts (program_tree program.now) export) × (image ≡ image_of (straightened (flattened export)))) }
+    ensures accepted { IfOk result (λ image. (export : ProcedureTree) × JudgesProgram (program_tree program.now) (accepts (program_tree program.now) export) × ((straight : StraightProgram) × IsRemoved (flattened export) straight × IsGenerated straight image)) }
     ensures allowed { IfOk result IsImage }
     ensures refused { IfErr result (IsRefusal (JudgesProgram (program_tree program.now))) }
 {
     // The laws that the passes' conditions rest on.
     compiled_procedures_have_compiled_parts();
-    controls_are_few();
-    limits_leave_room();
+    flat_is_typed();
+    flat_is_sized();
     let flat = flat_of(alloc, program)?;
     let straight = remove(alloc, &flat)?;
     let image = generate(alloc, &straight)?;

@@ -3,7 +3,7 @@
 ghost use Rattle.std.specs.Prelude.{◌≡◌, ◌≤◌, None, length, IfOk, IfErr};
 ghost use Rattle.arguments.specs.Within.{AreWithin};
 ghost use Rattle.rv_machine.specs.ListRecording.{recorded};
-ghost use Rattle.simulation.specs.Loaded.{params_of};
+ghost use Rattle.codegen.specs.Loaded.{params_of};
 ghost use Rattle.hepurita.specs.Paired.{pair_fault, Observed, Paired};
 
 use crate::fault::RunFault;

@@ -4,7 +4,7 @@ ghost use Rattle.std.specs.Prelude.{◌≡◌, ◌≢◌, Err};
 ghost use Rattle.hepurita.specs.Executed.{Executed, answer_at};
 ghost use Rattle.rv_machine.specs.Recording.{HasRefused};
 ghost use Rattle.rv_machine.specs.Flat.{flat_bytes};
-ghost use Rattle.simulation.specs.Bases.{frame_base};
+ghost use Rattle.hepurita.specs.Bases.{frame_base};
 
 use crate::fault::RunFault;
 use crate::loading::{load, outcome, params};

@@ -1,9 +1,11 @@
 // What the answers of the calls are to each other.
 
-ghost use Rattle.std.specs.Prelude.{◌≡◌, ℕ, Bool, [], List, length, Result, Ok, Some, IfSome};
+ghost use Rattle.std.specs.Prelude.{◌≡◌, ℕ, ◌+◌, ◌*◌, ◌<◌, ◌≤◌, Bool, [], List, length, Result, Ok, Some, IfSome};
 ghost use Rattle.arguments.specs.Within.{AreWithin};
-ghost use Rattle.branch_removal.specs.Removal.{straightened};
-ghost use Rattle.codegen.specs.Generated.{image_of};
+ghost use Rattle.branch_removal.specs.Removed.{IsRemoved};
+ghost use Rattle.branch_removal.specs.Straight.{StraightProgram};
+ghost use Rattle.codegen.specs.Bases.{AreBases};
+ghost use Rattle.codegen.specs.Followed.{IsGenerated};
 ghost use Rattle.coverage.specs.NotCompiled.{IsCompiledYet};
 ghost use Rattle.image.specs.Fields.{Fields};
 ghost use Rattle.inline.specs.Numbering.{flattened};
@@ -11,10 +13,11 @@ ghost use Rattle.rv_machine.specs.declared.pairing.Pairing.{Pairing};
 ghost use Rattle.rv_machine.specs.declared.observation.Observation.{Observation};
 ghost use Rattle.arguments.specs.Agreement.{Agree};
 ghost use Rattle.language.specs.Meaning.{exported};
-ghost use Rattle.language.specs.Size.{size_violations};
+ghost use Rattle.language.specs.Size.{nodes_of, size_violations};
 ghost use Rattle.language.specs.Typing.{violations};
-ghost use Rattle.simulation.specs.Compiled.{IsCompiled};
-ghost use Rattle.simulation.specs.Loaded.{params_of};
+ghost use Rattle.hepurita.specs.Bases.{code_base, frame_base};
+ghost use Rattle.hepurita.specs.Compiled.{IsCompiled};
+ghost use Rattle.codegen.specs.Loaded.{params_of};
 ghost use Rattle.syntax.specs.Reading.{Reads, accepted};
 ghost use Rattle.language.specs.declared.signature.Label.{Label};
 ghost use Rattle.language.specs.declared.values.Arg.{Arg};
@@ -29,22 +32,29 @@ ghost use Rattle.hepurita.specs.Paired.{Paired};
 use arguments::faultless_arguments;
 use coverage::compiled_procedures_have_compiled_parts;
 use image::one_spelling;
-use inline::one_outcome;
+use inline::{flat_keeps_meaning, one_outcome};
 use language::Label;
-use simulation::{bases_fit, images_are_compiled};
 use syntax::{one_answer_for_a_text, texts_are_grammatical};
 
-/// The image that is generated for the export of a text, where the text is a program of which each node
-/// is compiled and that violates no rule and no limit, is that export, compiled.
+/// What the passes promise, put together. Where a text is a program of which each node is compiled and that violates no
+/// rule and no limit, the image for straight code for its export is that export, compiled.
 pub fn texts_are_compiled()
-    ensures { (text : List ℕ) (program : ProgramTree) (before : List ProcedureTree) (p : ProcedureTree) → Reads text (accepted program)
+    ensures { (text : List ℕ) (program : ProgramTree) (before : List ProcedureTree) (p : ProcedureTree) (straight : StraightProgram) (image : Fields) → Reads text (accepted program)
         → exported [] program.procedures ≡ Some (before, p) → IsCompiledYet program
-        → length (violations program) ≡ 0 → length (size_violations p) ≡ 0 → IsCompiled program p (image_of (straightened (flattened p))) }
+        → length (violations program) ≡ 0 → length (size_violations p) ≡ 0
+        → IsRemoved (flattened p) straight → IsGenerated straight image → IsCompiled program p image }
 {
     texts_are_grammatical();
     compiled_procedures_have_compiled_parts();
-    images_are_compiled();
+    flat_keeps_meaning();
 }
+
+/// Code and frame of a compiled image may lie at the standard bases, and eight images beside one
+/// another, the code 2^20 and the frames 2^16 bytes apart.
+pub fn bases_fit()
+    ensures { (program : ProgramTree) (p : ProcedureTree) (image : Fields) (k : ℕ) → IsCompiled program p image → nodes_of p ≤ 6000 → k < 8
+        → AreBases image (code_base + 0x0010_0000 * k) (frame_base + 0x0001_0000 * k) }
+{}
 
 /// The calls, one after another. The image of an accepted text, read from the bytes that `build`
 /// answers and executed on arguments within the parameter types, gives the one outcome that the text

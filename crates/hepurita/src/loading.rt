@@ -8,8 +8,8 @@ ghost use Rattle.rv_machine.specs.Flat.{flat_bytes};
 ghost use Rattle.rv_machine.specs.Harts.{state_of};
 ghost use Rattle.rv_machine.specs.Regions.{code_of};
 ghost use Rattle.language.specs.Results.{Results};
-ghost use Rattle.simulation.specs.Bases.{code_base, frame_base};
-ghost use Rattle.simulation.specs.Loaded.{params_of, with_argument, with_arguments, code_at, loaded_at, results_in, HoldsWord};
+ghost use Rattle.hepurita.specs.Bases.{code_base, frame_base};
+ghost use Rattle.codegen.specs.Loaded.{params_of, with_argument, with_arguments, code_at, loaded_at, results_in, HoldsWord};
 
 use image::{Image, Slot};
 use language::{Arg, Args, Outcome, Param};

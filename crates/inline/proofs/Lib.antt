@@ -19,3 +19,4 @@ pub mod PublicValues
 pub mod PublicResults
 pub mod Fitting
 pub mod FittingBodies
+pub mod FlatSizes

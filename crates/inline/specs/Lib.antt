@@ -4,3 +4,4 @@ pub mod Numbering
 pub mod FlatMeaning
 pub mod FlatTyping
 pub mod Fitting
+pub mod FlatSize

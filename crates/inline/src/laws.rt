@@ -7,6 +7,7 @@ ghost use Rattle.coverage.specs.Compiled.{IsCompiledProcedure};
 ghost use Rattle.inline.specs.Fitting.{Fits, IsWithinKind};
 ghost use Rattle.inline.specs.Flat.{FlatBlock, FlatProgram, FlatTree, TermTree};
 ghost use Rattle.inline.specs.FlatMeaning.{Values, after, after_all, given, outcome_of, value_in};
+ghost use Rattle.inline.specs.FlatSize.{IsSized};
 ghost use Rattle.inline.specs.FlatTyping.{AreTyped, HasType, IsTyped, IsTypedProgram, Suits, Types, parameter_types, types_after, types_after_all};
 ghost use Rattle.inline.specs.Numbering.{flattened, param_of};
 ghost use Rattle.language.specs.declared.signature.Label.{Label};
@@ -17,6 +18,7 @@ ghost use Rattle.language.specs.declared.values.Arg.{Arg};
 ghost use Rattle.language.specs.Grammatical.{IsGrammatical};
 ghost use Rattle.language.specs.Meaning.{Ending, Gives, exported, gives};
 ghost use Rattle.language.specs.Results.{Results};
+ghost use Rattle.language.specs.Size.{size_violations};
 ghost use Rattle.language.specs.Tree.{ProcedureTree, ProgramTree};
 ghost use Rattle.language.specs.Typing.{violations};
 
@@ -29,6 +31,11 @@ pub fn one_outcome()
 pub fn flat_is_typed()
     ensures { (program : ProgramTree) (before : List ProcedureTree) (p : ProcedureTree) → length (violations program) ≡ 0
         → exported [] program.procedures ≡ Some (before, p) → IsCompiledProcedure p → IsGrammatical p → IsTypedProgram (flattened p) }
+{}
+
+/// And it keeps the limits on size, where the procedure passes none.
+pub fn flat_is_sized()
+    ensures { (p : ProcedureTree) → IsCompiledProcedure p → IsGrammatical p → length (size_violations p) ≡ 0 → IsSized (flattened p) }
 {}
 
 /// The program gives what it gave: on arguments within the parameter types it meets no fault, and its outcome is

@@ -21,5 +21,3 @@ mod lexing;
 mod parsing;
 #[cfg(test)]
 mod programs;
-#[cfg(test)]
-mod straightening;

@@ -2,7 +2,8 @@ use Rattle.std.proofs.Common.{◌≡◌, ◌++◌, drop}
 use Rattle.std.specs.List.{AllByRecursion}
 use Rattle.branch_removal.specs.Straight.{straight_trees}
 use Rattle.codegen.specs.Emitted.{height_in_all, statements_code}
-use Rattle.codegen.specs.Room.{HasFrame, HasPlaces}
+use Rattle.branch_removal.specs.Bounds.{HasPlaces}
+use Rattle.codegen.specs.Room.{HasFrame}
 use Rattle.codegen.proofs.statements.statements.Given as goal
 
 abbrev pub invariant-loop-each : goal.invariant-loop-each

@@ -1,7 +1,5 @@
-use Rattle.std.proofs.Common.{[], sym, subst}
+use Rattle.std.proofs.Common.{[]}
 use Rattle.std.proofs.lemmas.Result.{err_from_is_err_and, IfOk-weaker}
-use Rattle.image.specs.Fields.{Fields}
-use Rattle.simulation.specs.Compiled.{IsCompiled}
 use Rattle.language.specs.Tree.{program_tree}
 use Rattle.hepurita.specs.Built.{readable}
 use Rattle.hepurita.proofs.BuiltLemmas.{refusal_of_text, refusal_of_program}
@@ -29,5 +27,5 @@ returns-clause-accepted c =
     let program = program_tree c.in_ok-program.program in
     let made = c.in_ok-image.ensures.accepted in
     let judged = readable c.in_ok-program.ensures.accepted made.1 in
-    let compiled = subst (λ (fields : Fields). IsCompiled program made.0 fields) (sym made.2) (judged_compiled c.texts_are_compiled.ensures c.args.text.now program made.0 judged) in
+    let compiled = judged_compiled c.texts_are_compiled.ensures c.args.text.now program made.0 made.2.0 c.in_ok-image.image judged made.2.1 made.2.2 in
     IfOk-weaker c.write.result _ _ (λ bytes h. record { program = program; export = made.0; image = c.in_ok-image.image; judged = judged; allowed = c.in_ok-image.ensures.allowed; spelled = h; compiled = compiled }) c.write.ensures.spelled

@@ -1,13 +1,25 @@
-use Rattle.std.proofs.Common.{ap, sym, subst, ◌∙◌}
-use Rattle.branch_removal.specs.Removal.{straightened}
-use Rattle.codegen.specs.Room.{HasRoom}
+use Rattle.std.proofs.Common.{sym, subst}
+use Rattle.branch_removal.specs.Removed.{IsRemoved}
+use Rattle.inline.specs.Flat.{FlatProgram}
+use Rattle.inline.specs.FlatSize.{IsSized}
+use Rattle.inline.specs.FlatTyping.{IsTypedProgram}
 use Rattle.language.specs.Tree.{program_tree}
-use Rattle.hepurita.proofs.RoomLemmas.{has_room}
+use Rattle.hepurita.proofs.TheoremLemmas.{flat_sized, flat_typed}
 use Rattle.hepurita.proofs.building.compile.Goals as goal
 
-pub generate-requires : goal.generate-requires
-generate-requires c =
+pub remove-requires : goal.remove-requires
+remove-requires c =
     let program = program_tree c.args.program.now in
     let made = c.in_ok-flat.ensures.accepted in
-    subst HasRoom (sym (c.in_ok-straight.ensures ∙ ap straightened made.2))
-    (has_room c.limits_leave_room.ensures c.compiled_procedures_have_compiled_parts.ensures program program made.0 c.requires.grammatical made.1)
+    record {
+      typed = subst IsTypedProgram (sym made.2) (flat_typed c.flat_is_typed.ensures c.compiled_procedures_have_compiled_parts.ensures program program made.0 c.requires.grammatical made.1);
+      sized = subst IsSized (sym made.2) (flat_sized c.flat_is_sized.ensures c.compiled_procedures_have_compiled_parts.ensures program program made.0 c.requires.grammatical made.1);
+    }
+
+pub generate-requires : goal.generate-requires
+generate-requires c = c.in_ok-straight.ensures.bounded
+
+pub returns-clause-accepted : goal.returns-clause-accepted
+returns-clause-accepted c =
+    let made = c.in_ok-flat.ensures.accepted in
+    (made.0, made.1, (c.in_ok-straight.straight, subst (λ (flat : FlatProgram). IsRemoved flat c.in_ok-straight.straight) made.2 c.in_ok-straight.ensures, c.in_ok-image.ensures))

@@ -4,8 +4,8 @@ use Rattle.std.proofs.lemmas.List.Elements.{All-from_recursion}
 use Rattle.image.specs.declared.slot.Slot.{Slot}
 use Rattle.rv_machine.specs.Bytes.{ByteMap, zeros}
 use Rattle.rv_machine.specs.Flat.{flat_bytes}
-use Rattle.simulation.specs.Bases.{frame_base}
-use Rattle.simulation.specs.Loaded.{params_of, HoldsWord}
+use Rattle.hepurita.specs.Bases.{frame_base}
+use Rattle.codegen.specs.Loaded.{params_of, HoldsWord}
 use Rattle.hepurita.proofs.LoadLemmas.{slots_hold, length-within}
 use Rattle.hepurita.proofs.loading.load.Goals as goal
 

@@ -1,7 +1,7 @@
 use Rattle.std.proofs.Common.{◌+◌, ◌<◌, length, drop, slice_index_or, is_some, ap, sym, ◌∙◌, arith}
 use Rattle.language.specs.declared.values.Arg.{Arg}
-use Rattle.simulation.specs.Bases.{frame_base}
-use Rattle.simulation.specs.Loaded.{with_argument, with_arguments}
+use Rattle.hepurita.specs.Bases.{frame_base}
+use Rattle.codegen.specs.Loaded.{with_argument, with_arguments}
 use Rattle.hepurita.proofs.DataLemmas.{HoldsWord-same, is_some-with_argument}
 use Rattle.hepurita.proofs.LoadLemmas.{no_slot, with_arguments-next}
 use Rattle.hepurita.proofs.loading.put_arguments.Goals as goal

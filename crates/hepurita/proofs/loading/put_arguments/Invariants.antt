@@ -1,6 +1,6 @@
 use Rattle.std.proofs.Common.{◌≡◌, ℕ, drop, is_some}
-use Rattle.simulation.specs.Bases.{frame_base}
-use Rattle.simulation.specs.Loaded.{with_arguments}
+use Rattle.hepurita.specs.Bases.{frame_base}
+use Rattle.codegen.specs.Loaded.{with_arguments}
 use Rattle.hepurita.proofs.loading.put_arguments.Given as goal
 
 -- what is left of the arguments leads to the same bytes as all of them, and the data is where it was

@@ -1,0 +1,46 @@
+-- What is promised of the image for straight code: the machine, running it, follows the code. The outcome is that of
+-- the code, and what is shown is decided by the path of public values.
+use Rattle.std.specs.Prelude.{◌≡◌, ℕ, ◌+◌, ◌*◌, ◌≤◌, List, length, All}
+use Rattle.std.specs.Option.{option_map}
+use Rattle.arguments.specs.Within.{AreWithin}
+use Rattle.branch_removal.specs.Fitness.{IsFitOn}
+use Rattle.branch_removal.specs.Path.{Path, path_of}
+use Rattle.branch_removal.specs.Straight.{StraightProgram}
+use Rattle.branch_removal.specs.StraightMeaning.{outcome_of}
+use Rattle.codegen.specs.Bases.{AreBases, IsInside}
+use Rattle.codegen.specs.Loaded.{params_of, code_at, loaded_at, results_in}
+use Rattle.image.specs.Fields.{Fields}
+use Rattle.image.specs.declared.slot.ResultSlot.{ResultSlot}
+use Rattle.rv_machine.specs.Leakage.{Halts}
+use Rattle.rv_machine.specs.Machine.{State}
+use Rattle.rv_machine.specs.declared.observation.Observation.{Observation}
+use Rattle.rv_machine.specs.declared.stops.Stop.TheVariants.{Ecall}
+use Rattle.language.specs.declared.typing.WordType.{WordType}
+use Rattle.language.specs.declared.values.Arg.{Arg}
+
+-- a run on some arguments, which shows this list
+pub record RunsAs (p : StraightProgram) (image : Fields) (code frame : ℕ) (args : List Arg) (seen : List Observation) : Type 0 where
+  pub turns : ℕ
+  pub end : State
+  pub halts : Halts (code_at code image) turns (loaded_at code frame image args) seen Ecall end
+  pub within_steps : turns ≤ image.max_steps
+  pub within_frame : All (λ (o : Observation). IsInside frame image.frame_bytes o.event) seen
+  pub outcome : results_in frame image end.bytes ≡ outcome_of p args
+
+-- one list for each path, whatever the arguments
+pub record IsFollowed (p : StraightProgram) (image : Fields) (code frame : ℕ) : Type 0 where
+  pub shown : Path → List Observation
+  pub runs : (args : List Arg) → AreWithin p.parameters args → IsFitOn p args → RunsAs p image code frame args (shown (path_of p args))
+
+-- the type of what a slot holds
+abbrev pub type_in : ResultSlot → WordType
+type_in slot = record { kind = slot.kind; label = slot.label }
+
+-- the image is the code's
+pub record IsGenerated (p : StraightProgram) (image : Fields) : Type 0 where
+  pub parameters : params_of image ≡ p.parameters
+  pub returned : option_map type_in image.returned ≡ p.returned
+  pub max_steps : image.max_steps ≡ 32 * p.nodes + 64
+  pub frame_size : image.frame_bytes ≤ 65536
+  pub word_count : length image.words ≤ 32 * p.nodes + 64
+  pub follows : (code frame : ℕ) → AreBases image code frame → IsFollowed p image code frame

@@ -1,4 +1,0 @@
-pub mod Bases
-pub mod Loaded
-pub mod Compiled
-pub mod Followed
