@@ -1,4 +1,3 @@
-pub mod Faults
 pub mod Executed
 pub mod Paired
 pub mod Built
