@@ -1,7 +1,6 @@
 ghost use Rattle.std.specs.Prelude.{◌≡◌, false, []};
 
-use crate::command::command;
-use crate::files::Files;
+use commands::{Files, command};
 use std::alloc::{AllocError, Global};
 use std::io::{ErrorKind, Read, Write};
 use std::rt::{Env, Files as FileSystem};

@@ -8,8 +8,7 @@ use Rattle.arguments.specs.declared.texts.ReadError.TheVariants as errors
 use Rattle.language.specs.declared.signature.Param.{Param}
 use Rattle.language.specs.declared.values.Arg.{Arg}
 use Rattle.hepurita.specs.declared.fault.RunFault.{RunFault}
-use Rattle.hepurita.specs.declared.fault.RunFault.TheVariants.{Argument}
-use Rattle.hepurita.specs.Faults.{run_fault_of}
+use Rattle.hepurita.specs.declared.fault.RunFault.TheVariants.{Argument, Memory}
 
 one_fault : (f fault : ArgumentFault) → Argument f.rule f.index ≡ Argument fault.rule fault.index → f ≡ fault
 one_fault f fault h =
@@ -18,12 +17,15 @@ one_fault f fault h =
     ap (λ (r : ArgumentRule). record { rule = r; index = f.index }) rule ∙ ap (λ (i : Option ℕ). record { rule = fault.rule; index = i }) index
 
 -- the fault of a run is an argument's where that of reading is
-pub same_fault : {A B : Type 0} (e : ReadError) (fault : ArgumentFault) (X : Type 0) (was : Result A ReadError) (is : Result B RunFault) → was ≡ Err e → is ≡ Err (run_fault_of e) → ((was ≡ Err (errors.Argument fault)) → X) × (X → was ≡ Err (errors.Argument fault)) → ((is ≡ Err (Argument fault.rule fault.index)) → X) × (X → is ≡ Err (Argument fault.rule fault.index))
-same_fault (errors.Argument f) fault X was is from to both = (
+pub same_fault : {A B : Type 0} (f fault : ArgumentFault) (X : Type 0) (was : Result A ReadError) (is : Result B RunFault) → was ≡ Err (errors.Argument f) → is ≡ Err (Argument f.rule f.index) → ((was ≡ Err (errors.Argument fault)) → X) × (X → was ≡ Err (errors.Argument fault)) → ((is ≡ Err (Argument fault.rule fault.index)) → X) × (X → is ≡ Err (Argument fault.rule fault.index))
+same_fault f fault X was is from to both = (
   (λ h. let same : Argument f.rule f.index ≡ Argument fault.rule fault.index = cc in both.0 (from ∙ ap (λ (x : ArgumentFault). Err (errors.Argument x)) (one_fault f fault same))),
   (λ x. let told = both.1 x in let same : f ≡ fault = cc in to ∙ ap (λ (y : ArgumentFault). Err (Argument y.rule y.index)) same),
 )
-same_fault errors.Memory fault X was is from to both = ((λ h. cc), (λ x. let told = both.1 x in cc))
+
+-- there is none where memory was refused
+pub no_fault : {A B : Type 0} (fault : ArgumentFault) (X : Type 0) (was : Result A ReadError) (is : Result B RunFault) → was ≡ Err errors.Memory → is ≡ Err Memory → ((was ≡ Err (errors.Argument fault)) → X) × (X → was ≡ Err (errors.Argument fault)) → ((is ≡ Err (Argument fault.rule fault.index)) → X) × (X → is ≡ Err (Argument fault.rule fault.index))
+no_fault fault X was is from to both = ((λ h. cc), (λ x. let told = both.1 x in cc))
 
 -- the number of a faulty argument is below the count of parameters
 numbered : (params : List Param) (args : List Arg) (low : ℕ) (fault : ArgumentFault) (i : ℕ) → fault_from rule_of low params args ≡ Some fault → fault.index ≡ Some i → i < low + length params

@@ -16,15 +16,15 @@ use Rattle.hepurita.specs.Built.{Judges, JudgesProgram, accepts, refuses, not_co
 use Rattle.hepurita.proofs.Exports.{Export, export_or}
 
 -- none of no violations is the first
-none : (all : List Violation) (v : Violation) → length all ≡ 0 → Contains all v → ⊥
+pub none : (all : List Violation) (v : Violation) → length all ≡ 0 → Contains all v → ⊥
 none all v empty there = absurd (omega (arith, there.1))
 
 -- nor is there a place among no places
-nowhere : (all : List Place) (p : Place) → length all ≡ 0 → Contains all p → ⊥
+pub nowhere : (all : List Place) (p : Place) → length all ≡ 0 → Contains all p → ⊥
 nowhere all p empty there = absurd (omega (arith, there.1))
 
 -- a program has one export
-exports_agree : (found : Export) (before before' : List ProcedureTree) (p q : ProcedureTree) → found ≡ Some (before, p) → found ≡ Some (before', q) → p ≡ q
+pub exports_agree : (found : Export) (before before' : List ProcedureTree) (p q : ProcedureTree) → found ≡ Some (before, p) → found ≡ Some (before', q) → p ≡ q
 exports_agree found before before' p q is is' = ap (export_or p) (sym is ∙ is')
 
 -- a program is not both

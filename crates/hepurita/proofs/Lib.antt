@@ -6,6 +6,7 @@ pub mod FaultLemmas
 pub mod PairedLemmas
 pub mod Exports
 pub mod JudgementLemmas
+pub mod RefusalLemmas
 pub mod TheoremLemmas
 pub mod AnswerLemmas
 pub mod BaseLemmas

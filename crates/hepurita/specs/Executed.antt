@@ -1,11 +1,12 @@
 -- What a run of an image gives.
-use Rattle.std.specs.Prelude.{◌≡◌, ℕ, Bool, List, Some, None, Result, Ok, Err}
+use Rattle.std.specs.Prelude.{◌≡◌, ℕ, Bool, List, Option, Some, None, Result, Ok, Err}
 use Rattle.arguments.specs.Faults.{fault_of}
 use Rattle.arguments.specs.declared.fault.ArgumentFault.{ArgumentFault}
 use Rattle.image.specs.Fields.{Fields}
 use Rattle.rv_machine.specs.Bytes.{ByteMap}
 use Rattle.rv_machine.specs.Leakage.{Ran}
 use Rattle.rv_machine.specs.Machine.{State}
+use Rattle.rv_machine.specs.Recording.{count_after}
 use Rattle.rv_machine.specs.declared.observation.Observation.{Observation}
 use Rattle.rv_machine.specs.declared.stops.Stop.{Stop}
 use Rattle.rv_machine.specs.declared.stops.Stop.TheVariants.{Ecall, Break, Illegal, AccessFault, Misaligned, Budget, RecorderRefused}
@@ -25,6 +26,17 @@ answer_at frame image AccessFault bytes = Err (Stopped AccessFault)
 answer_at frame image Misaligned bytes = Err (Stopped Misaligned)
 answer_at frame image Budget bytes = Err (Stopped Budget)
 answer_at frame image RecorderRefused bytes = Err (Stopped RecorderRefused)
+
+-- the stop that an answer names
+abbrev pub stop_named : Result Results RunFault → Option Stop
+stop_named (Ok results) = None
+stop_named (Err (Argument rule index)) = None
+stop_named (Err Memory) = None
+stop_named (Err (Stopped stop)) = Some stop
+
+-- the count of a recorder's refusals after this answer: one more where that is what stopped the run
+abbrev pub refusals_after : Result Results RunFault → ℕ → ℕ
+refusals_after answer count = count_after (stop_named answer) count
 
 -- what is answered, and the recorder's list after it: arguments are refused by their first fault; else the image runs as loaded
 pub data Executed (image : Fields) (args : List Arg) (keeps : Bool) (list : List Observation) : Result Results RunFault → List Observation → Type 0 where

@@ -1,6 +1,5 @@
 pub mod Bases
 pub mod Compiled
-pub mod Faults
 pub mod Executed
 pub mod Paired
 pub mod Built

@@ -66,3 +66,10 @@ pub fn accepted_or_refused()
 {
     one_answer_for_a_text();
 }
+
+/// A text is refused for one rule at one offset.
+pub fn one_refusal()
+    ensures { (text : List ℕ) (rule rule' : Rule) (place place' : Place) → Judges text (refuses rule place) → Judges text (refuses rule' place') → (rule ≡ rule') × (place.offset ≡ place'.offset) }
+{
+    one_answer_for_a_text();
+}

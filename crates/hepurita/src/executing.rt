@@ -1,7 +1,7 @@
 // A run of an image on arguments.
 
 ghost use Rattle.std.specs.Prelude.{◌≡◌, ◌≢◌, Err};
-ghost use Rattle.hepurita.specs.Executed.{Executed, answer_at};
+ghost use Rattle.hepurita.specs.Executed.{Executed, answer_at, refusals_after};
 ghost use Rattle.rv_machine.specs.Recording.{HasRefused};
 ghost use Rattle.rv_machine.specs.Flat.{flat_bytes};
 ghost use Rattle.hepurita.specs.Bases.{frame_base};
@@ -40,6 +40,9 @@ pub fn execute<R: Recorder>(
 ) -> Result<Outcome, RunFault>
     ensures executed { Executed image.now args.now R.KEEPS (R.list recorder.old) result (R.list recorder.new) }
     ensures refused { result ≡ Err (RunFault.Stopped Stop.RecorderRefused) → HasRefused (R.refusals recorder.old) (R.refusals recorder.new) }
+    ensures count { R.refusals recorder.new ≡ refusals_after result (R.refusals recorder.old) }
+    ensures ready { R.is_ready recorder.old image.now.max_steps → result ≢ Err (RunFault.Stopped Stop.RecorderRefused) }
+    ensures memory { result ≡ Err RunFault.Memory → R.list recorder.new ≡ R.list recorder.old }
 {
     let params = params(alloc, image)?;
     if let Some(fault) = first_fault(params.as_slice(), args) {

@@ -3,7 +3,7 @@
 ghost use Rattle.std.specs.Prelude.{◌≡◌};
 ghost use Rattle.hepurita.specs.declared.fault.RunFault.TheVariants.{Argument, Memory};
 
-use arguments::{ArgumentFault, ArgumentRule, ReadError};
+use arguments::{ArgumentFault, ArgumentRule};
 use rv_machine::Stop;
 use std::alloc::{AllocError, AllocFailed};
 use std::fmt;
@@ -29,19 +29,6 @@ impl From<ArgumentFault> for RunFault {
         RunFault::Argument {
             rule: fault.rule,
             index: fault.index,
-        }
-    }
-}
-
-impl From<ReadError> for RunFault {
-    ghost use Rattle.hepurita.specs.Faults.{run_fault_of};
-
-    ghost from_gives = { λ error result. result ≡ run_fault_of error };
-
-    fn from(error: ReadError) -> Self {
-        match error {
-            ReadError::Argument(fault) => RunFault::from(fault),
-            ReadError::Memory => RunFault::Memory,
         }
     }
 }

@@ -12,7 +12,7 @@ mod laws;
 mod loading;
 mod reading;
 
-pub use building::{accepted_or_refused, build};
+pub use building::{accepted_or_refused, build, one_refusal};
 pub use comparing::pair;
 pub use executing::execute;
 pub use fault::RunFault;

@@ -1,12 +1,13 @@
 // Arguments from the texts that spell them.
 
-ghost use Rattle.std.specs.Prelude.{◌≡◌, ◌↔◌, Some, None, Err, map, IfOk, OnOk};
+ghost use Rattle.std.specs.Prelude.{◌≡◌, ◌≢◌, ◌↔◌, Some, None, Err, map, IfOk, OnOk};
 ghost use Rattle.arguments.specs.declared.fault.ArgumentFault.{ArgumentFault};
 ghost use Rattle.arguments.specs.Texts.{numbers_of, fault_of_texts};
 ghost use Rattle.arguments.specs.Within.{words_of, AreWithin};
+ghost use Rattle.rv_machine.specs.declared.stops.Stop.{Stop};
 
 use crate::fault::RunFault;
-use arguments::read;
+use arguments::{ReadError, read};
 use language::{Args, Param};
 use std::alloc::Global;
 
@@ -17,6 +18,11 @@ pub fn read_args(alloc: Global, params: &[Param], texts: &[&str]) -> Result<Args
     ensures within { IfOk result (AreWithin params.now) }
     ensures fault { (fault : ArgumentFault) → (result ≡ Err (RunFault.Argument fault.rule fault.index)) ↔ (fault_of_texts params.now (map (λ text. text.now) texts.now) ≡ Some fault) }
     ensures only { OnOk result (fault_of_texts params.now (map (λ text. text.now) texts.now) ≡ None) }
+    ensures unstopped { (stop : Stop) → result ≢ Err (RunFault.Stopped stop) }
 {
-    Ok(read(alloc, params, texts)?)
+    match read(alloc, params, texts) {
+        Ok(args) => Ok(args),
+        Err(ReadError::Argument(fault)) => Err(RunFault::from(fault)),
+        Err(ReadError::Memory) => Err(RunFault::Memory),
+    }
 }

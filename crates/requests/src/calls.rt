@@ -1,7 +1,7 @@
-ghost use Rattle.std.specs.Prelude.{◌≡◌, ◌<◌, ℕ, List, [], ◌∷◌, true, length, Ok, Err, IfOk, IfErr};
+ghost use Rattle.std.specs.Prelude.{◌≡◌, ◌<◌, ℕ, List, [], ◌∷◌, true, length, Ok, Err, IfOk, IfErr, IfSome};
 ghost use Rattle.hepurita.specs.Built.{IsBuilt, IsRefusal, Judges};
 ghost use Rattle.hepurita.specs.Executed.{Executed};
-ghost use Rattle.hepurita.specs.declared.fault.RunFault.{RunFault};
+ghost use Rattle.hepurita.specs.Paired.{Paired};
 ghost use Rattle.image.specs.Reading.{IsUnlessMemory, reading};
 ghost use Rattle.image.specs.Spelling.{spelling};
 ghost use Rattle.image.specs.declared.fault.ImageFault.{ImageFault};
@@ -10,7 +10,7 @@ ghost use Rattle.rv_machine.specs.declared.observation.Observation.{Observation}
 ghost use Rattle.language.specs.declared.refusal.Refusal.{Refusal};
 
 use crate::fault::Fault;
-use hepurita::{build, execute};
+use hepurita::{RunFault, build, execute, pair};
 use image::Image;
 use language::{Arg, Args, Outcome};
 use rv_machine::ListRecorder;
@@ -41,14 +41,31 @@ pub fn image_of(alloc: Global, bytes: &[u8]) -> Result<Image, Fault>
     }
 }
 
-/// A condition that holds, and two words to choose from.
-pub fn arguments(alloc: Global) -> Result<Args, Fault>
-    ensures words { IfOk result (λ args. args ≡ Arg.Word 1 ∷ Arg.Word 5 ∷ Arg.Word 9 ∷ []) }
+/// A condition, and two words to choose from.
+pub fn arguments(alloc: Global, condition: u32) -> Result<Args, Fault>
+    ensures words { IfOk result (λ args. args ≡ Arg.Word condition ∷ Arg.Word 5 ∷ Arg.Word 9 ∷ []) }
     ensures memory { IfErr result (λ given. given ≡ Fault.Arguments) }
 {
-    match vec![in alloc; Arg::Word(1), Arg::Word(5), Arg::Word(9)] {
+    match vec![in alloc; Arg::Word(condition), Arg::Word(5), Arg::Word(9)] {
         Ok(words) => Ok(Args::new(words)),
         Err(_) => Err(Fault::Arguments),
+    }
+}
+
+/// Compares the runs of an image on two lists of arguments, and answers why they are not compared.
+pub fn fault_of_pair(
+    alloc: Global,
+    image: &Image,
+    one: &Args,
+    other: &Args,
+) -> Result<Option<RunFault>, Fault>
+    ensures found { IfOk result (λ found. IfSome found (λ fault. Paired image.now one.now other.now (Err fault))) }
+    ensures memory { IfErr result (λ given. given ≡ Fault.Pair) }
+{
+    match pair(alloc, image, one, other) {
+        Ok(_) => Ok(None),
+        Err(RunFault::Memory) => Err(Fault::Pair),
+        Err(fault) => Ok(Some(fault)),
     }
 }
 

@@ -1,14 +1,24 @@
-// What texts mean on arguments, within budgets.
+// What texts mean on arguments, within budgets: programs that no image is made for yet, and budgets that no
+// command sets.
 
-use crate::parsing::repeated;
-use language::{Form, Kind, Label, Param};
+use arguments::read;
+use language::{Form, Kind, Label, Outcome, Param};
 use source_eval::{EvalFault, eval};
-use std::alloc::Global;
+use std::alloc::{AllocError, Global};
 use std::test::Fail;
 use syntax::parse;
 
-/// What is told of a text on arguments: the outcome or the fault.
-fn told(
+/// An outcome's word and arrays, or the fault.
+fn told(alloc: Global, answer: &Result<Outcome, EvalFault>) -> Result<String, AllocError> {
+    match answer {
+        Ok(outcome) => format!(in alloc; "{:?} {:?}", outcome.returned(), outcome.arrays()),
+        Err(EvalFault::NoMeaning(place)) => format!(in alloc; "E1: no meaning at {place}"),
+        Err(fault) => format!(in alloc; "{fault}"),
+    }
+}
+
+/// What is told of a text on arguments.
+fn evaluated(
     alloc: Global,
     text: &str,
     params: &[Param],
@@ -16,40 +26,9 @@ fn told(
     budget: u64,
 ) -> Result<String, Fail> {
     let program = parse(alloc, text)?;
-    let args = arguments::read(alloc, params, texts)?;
-    match eval(alloc, &program, &args, budget) {
-        Ok(outcome) => {
-            let mut told = String::new(alloc);
-            if let Some(word) = outcome.returned() {
-                write!(told, "return {word}")?;
-            }
-            for array in outcome.arrays() {
-                let words = array.as_slice();
-                write!(told, "array {words:?}")?;
-            }
-            Ok(told)
-        }
-        Err(EvalFault::NoMeaning(place)) => Ok(format!(in alloc; "no meaning at {place}")?),
-        Err(fault) => Ok(format!(in alloc; "{fault}")?),
-    }
-}
-
-fn word(kind: Kind) -> Param {
-    Param {
-        kind,
-        label: Label::Secret,
-        form: Form::SingleWord,
-        length: 1,
-    }
-}
-
-fn array(length: u16) -> Param {
-    Param {
-        kind: Kind::Uint32,
-        label: Label::Secret,
-        form: Form::MutableArray,
-        length,
-    }
+    let args = read(alloc, params, texts)?;
+    let answer = eval(alloc, &program, &args, budget);
+    Ok(told(alloc, &answer)?)
 }
 
 const TAKEN_ONCE: &str = "export secret uint32 f(secret bool t) {\n\
@@ -59,34 +38,9 @@ const TAKEN_ONCE: &str = "export secret uint32 f(secret bool t) {\n\
     return y;\n\
 }";
 
-#[test]
-fn counts_nodes_of_the_arm_that_runs(rt: HostRuntime) -> Result<(), Fail> {
-    let params = [word(Kind::Boolean)];
-    for (arg, budget, wanted) in [
-        ("1", 12, "return 1"),
-        ("1", 11, "E2: budget"),
-        ("0", 10, "return 2"),
-        ("0", 9, "E2: budget"),
-    ] {
-        let told = told(rt.alloc(), TAKEN_ONCE, &params, &[arg], budget)?;
-        assert!(rt; told.as_str() == wanted, "{arg} {budget}: {told}");
-    }
-    Ok(())
-}
-
 const SWAP: &str = "export void f(secret bool s, secret mut uint32[2] a) {\n\
     if (s) { secret uint32 t = a[0]; a[0] = a[1]; a[1] = t; }\n\
 }";
-
-#[test]
-fn swaps_under_a_condition(rt: HostRuntime) -> Result<(), Fail> {
-    let params = [word(Kind::Boolean), array(2)];
-    for (flag, wanted) in [("1", "array [4, 3]"), ("0", "array [3, 4]")] {
-        let told = told(rt.alloc(), SWAP, &params, &[flag, "3,4"], 1000)?;
-        assert!(rt; told.as_str() == wanted, "{flag}: {told}");
-    }
-    Ok(())
-}
 
 const GUARDED: &str =
     "export void f(secret bool s, public uint32 i, secret mut uint32[8] a, secret uint32 x) {\n\
@@ -97,27 +51,6 @@ const UNGUARDED: &str =
     "export void f(secret bool s, public uint32 i, secret mut uint32[8] a, secret uint32 x) {\n\
 if (s) { a[i] = x; }\n\
 }";
-
-#[test]
-fn tests_indexes_where_they_are_reached(rt: HostRuntime) -> Result<(), Fail> {
-    let params = [
-        word(Kind::Boolean),
-        word(Kind::Uint32),
-        array(8),
-        word(Kind::Uint32),
-    ];
-    for (text, flag, index, wanted) in [
-        (GUARDED, "1", "8", "array [1, 2, 3, 4, 5, 6, 7, 8]"),
-        (GUARDED, "1", "7", "array [1, 2, 3, 4, 5, 6, 7, 9]"),
-        (UNGUARDED, "0", "8", "array [1, 2, 3, 4, 5, 6, 7, 8]"),
-        (UNGUARDED, "1", "8", "no meaning at 2:11"),
-    ] {
-        let args = [flag, index, "1,2,3,4,5,6,7,8", "9"];
-        let told = told(rt.alloc(), text, &params, &args, 1000)?;
-        assert!(rt; told.as_str() == wanted, "{flag} {index}: {told}");
-    }
-    Ok(())
-}
 
 const FILL: &str = "export void f(secret mut uint32[8] a, secret uint32 x) {\n\
     for (uint32 i from 0 to 8) { a[i] = x; }\n\
@@ -130,21 +63,6 @@ const NO_TURNS: &str = "export public uint32 f() {\n\
     return c;\n\
 }";
 
-#[test]
-fn makes_the_turns_of_loops(rt: HostRuntime) -> Result<(), Fail> {
-    let params = [array(8), word(Kind::Uint32)];
-    let filled = told(rt.alloc(), FILL, &params, &["0,0,0,0,0,0,0,0", "5"], 43)?;
-    assert!(rt;
-        filled.as_str() == "array [5, 5, 5, 5, 5, 5, 5, 5]",
-        "{filled}"
-    );
-    let short = told(rt.alloc(), FILL, &params, &["0,0,0,0,0,0,0,0", "5"], 42)?;
-    assert!(rt; short.as_str() == "E2: budget", "{short}");
-    let none = told(rt.alloc(), NO_TURNS, &[], &[], 10)?;
-    assert!(rt; none.as_str() == "return 7", "{none}");
-    Ok(())
-}
-
 const QUOTIENT: &str = "export public uint32 f(public uint32 q, public uint32 d) {\n\
 return q / d;\n\
 }";
@@ -154,22 +72,6 @@ const GUARDED_QUOTIENT: &str = "export public uint32 f(public uint32 q, public u
     if (d == 3) { r = q / d; }\n\
     return r;\n\
 }";
-
-#[test]
-fn divides_by_what_is_not_zero(rt: HostRuntime) -> Result<(), Fail> {
-    let params = [word(Kind::Uint32), word(Kind::Uint32)];
-    for (text, divisor, budget, wanted) in [
-        (QUOTIENT, "3", 4, "return 3"),
-        (QUOTIENT, "0", 4, "no meaning at 2:10"),
-        (QUOTIENT, "0", 3, "E2: budget"),
-        (GUARDED_QUOTIENT, "3", 100, "return 3"),
-        (GUARDED_QUOTIENT, "0", 100, "return 0"),
-    ] {
-        let told = told(rt.alloc(), text, &params, &["10", divisor], budget)?;
-        assert!(rt; told.as_str() == wanted, "{divisor}: {told}");
-    }
-    Ok(())
-}
 
 const COPIED: &str = "void g(secret uint32[2] b, secret mut uint32[2] c, secret uint32 v) {\n\
     c[0] = v; c[1] = b[1] + c[0];\n\
@@ -185,63 +87,275 @@ export void f(public uint32 d) {\n\
     g(d);\n\
 }";
 
-#[test]
-fn copies_arrays_in_and_out(rt: HostRuntime) -> Result<(), Fail> {
-    let copied = told(
-        rt.alloc(),
-        COPIED,
-        &[array(2), array(2)],
-        &["7,5", "1,2"],
-        1000,
-    )?;
-    assert!(rt; copied.as_str() == "array [7, 5]array [5, 10]", "{copied}");
-    for (divisor, wanted) in [("2", ""), ("0", "no meaning at 2:10")] {
-        let dropped = told(rt.alloc(), DROPPED, &[word(Kind::Uint32)], &[divisor], 1000)?;
-        assert!(rt; dropped.as_str() == wanted, "{divisor}: {dropped}");
-    }
-    Ok(())
-}
-
 const NESTED: &str = "export secret uint32 f(secret bool s, secret bool t) {\n\
     secret mut uint32 y = 0;\n\
     if (s) { if (t) { y = 1; } else { y = 2; } }\n\
     return y;\n\
 }";
 
+const NARROW: &str = "export secret uint8 f(secret uint8 x) { return x <<< 3; }";
+
+const LONG: &str = "export public uint32 f() {\n\
+    public mut uint32 y = 0;\n\
+    for (uint32 i from 0 to 1000) { for (uint32 j from 0 to 2000) { y = y + j; } }\n\
+    return y;\n\
+}";
+
+const LARGE_ARRAY: &str = "export secret uint32 f(secret uint32 x) {\n\
+    secret mut uint32[3000] a;\n\
+    secret mut uint32 y = x;\n\
+    a[2999] = y + 1;\n\
+    y = a[2999] + 1;\n\
+    return y;\n\
+}";
+
+/// A text on arguments, with how many nodes may be evaluated.
+struct Row {
+    text: &'static str,
+    params: &'static [Param],
+    texts: &'static [&'static str],
+    budget: u64,
+    wanted: &'static str,
+}
+
+const BOOL: Param = Param {
+    kind: Kind::Boolean,
+    label: Label::Secret,
+    form: Form::SingleWord,
+    length: 1,
+};
+
+const UINT32: Param = Param {
+    kind: Kind::Uint32,
+    label: Label::Secret,
+    form: Form::SingleWord,
+    length: 1,
+};
+
+const PAIR: Param = Param {
+    kind: Kind::Uint32,
+    label: Label::Secret,
+    form: Form::MutableArray,
+    length: 2,
+};
+
+const EIGHT: Param = Param {
+    kind: Kind::Uint32,
+    label: Label::Secret,
+    form: Form::MutableArray,
+    length: 8,
+};
+
+const ROWS: &[Row] = &[
+    Row {
+        text: TAKEN_ONCE,
+        params: &[BOOL],
+        texts: &["1"],
+        budget: 12,
+        wanted: "Some(1) []",
+    },
+    Row {
+        text: TAKEN_ONCE,
+        params: &[BOOL],
+        texts: &["1"],
+        budget: 11,
+        wanted: "E2: budget",
+    },
+    Row {
+        text: TAKEN_ONCE,
+        params: &[BOOL],
+        texts: &["0"],
+        budget: 10,
+        wanted: "Some(2) []",
+    },
+    Row {
+        text: TAKEN_ONCE,
+        params: &[BOOL],
+        texts: &["0"],
+        budget: 9,
+        wanted: "E2: budget",
+    },
+    Row {
+        text: SWAP,
+        params: &[BOOL, PAIR],
+        texts: &["1", "3,4"],
+        budget: 1000,
+        wanted: "None [Numbers { items: [4, 3] }]",
+    },
+    Row {
+        text: SWAP,
+        params: &[BOOL, PAIR],
+        texts: &["0", "3,4"],
+        budget: 1000,
+        wanted: "None [Numbers { items: [3, 4] }]",
+    },
+    Row {
+        text: GUARDED,
+        params: &[BOOL, UINT32, EIGHT, UINT32],
+        texts: &["1", "8", "1,2,3,4,5,6,7,8", "9"],
+        budget: 1000,
+        wanted: "None [Numbers { items: [1, 2, 3, 4, 5, 6, 7, 8] }]",
+    },
+    Row {
+        text: GUARDED,
+        params: &[BOOL, UINT32, EIGHT, UINT32],
+        texts: &["1", "7", "1,2,3,4,5,6,7,8", "9"],
+        budget: 1000,
+        wanted: "None [Numbers { items: [1, 2, 3, 4, 5, 6, 7, 9] }]",
+    },
+    Row {
+        text: UNGUARDED,
+        params: &[BOOL, UINT32, EIGHT, UINT32],
+        texts: &["0", "8", "1,2,3,4,5,6,7,8", "9"],
+        budget: 1000,
+        wanted: "None [Numbers { items: [1, 2, 3, 4, 5, 6, 7, 8] }]",
+    },
+    Row {
+        text: UNGUARDED,
+        params: &[BOOL, UINT32, EIGHT, UINT32],
+        texts: &["1", "8", "1,2,3,4,5,6,7,8", "9"],
+        budget: 1000,
+        wanted: "E1: no meaning at 2:11",
+    },
+    Row {
+        text: FILL,
+        params: &[EIGHT, UINT32],
+        texts: &["0,0,0,0,0,0,0,0", "5"],
+        budget: 43,
+        wanted: "None [Numbers { items: [5, 5, 5, 5, 5, 5, 5, 5] }]",
+    },
+    Row {
+        text: FILL,
+        params: &[EIGHT, UINT32],
+        texts: &["0,0,0,0,0,0,0,0", "5"],
+        budget: 42,
+        wanted: "E2: budget",
+    },
+    Row {
+        text: NO_TURNS,
+        params: &[],
+        texts: &[],
+        budget: 10,
+        wanted: "Some(7) []",
+    },
+    Row {
+        text: QUOTIENT,
+        params: &[UINT32, UINT32],
+        texts: &["10", "3"],
+        budget: 4,
+        wanted: "Some(3) []",
+    },
+    Row {
+        text: QUOTIENT,
+        params: &[UINT32, UINT32],
+        texts: &["10", "0"],
+        budget: 4,
+        wanted: "E1: no meaning at 2:10",
+    },
+    Row {
+        text: QUOTIENT,
+        params: &[UINT32, UINT32],
+        texts: &["10", "0"],
+        budget: 3,
+        wanted: "E2: budget",
+    },
+    Row {
+        text: GUARDED_QUOTIENT,
+        params: &[UINT32, UINT32],
+        texts: &["10", "3"],
+        budget: 100,
+        wanted: "Some(3) []",
+    },
+    Row {
+        text: GUARDED_QUOTIENT,
+        params: &[UINT32, UINT32],
+        texts: &["10", "0"],
+        budget: 100,
+        wanted: "Some(0) []",
+    },
+    Row {
+        text: COPIED,
+        params: &[PAIR, PAIR],
+        texts: &["7,5", "1,2"],
+        budget: 1000,
+        wanted: "None [Numbers { items: [7, 5] }, Numbers { items: [5, 10] }]",
+    },
+    Row {
+        text: DROPPED,
+        params: &[UINT32],
+        texts: &["2"],
+        budget: 1000,
+        wanted: "None []",
+    },
+    Row {
+        text: DROPPED,
+        params: &[UINT32],
+        texts: &["0"],
+        budget: 1000,
+        wanted: "E1: no meaning at 2:10",
+    },
+    Row {
+        text: NESTED,
+        params: &[BOOL, BOOL],
+        texts: &["1", "1"],
+        budget: 1000,
+        wanted: "Some(1) []",
+    },
+    Row {
+        text: NESTED,
+        params: &[BOOL, BOOL],
+        texts: &["1", "0"],
+        budget: 1000,
+        wanted: "Some(2) []",
+    },
+    Row {
+        text: NESTED,
+        params: &[BOOL, BOOL],
+        texts: &["0", "1"],
+        budget: 1000,
+        wanted: "Some(0) []",
+    },
+    Row {
+        text: LARGE_ARRAY,
+        params: &[UINT32],
+        texts: &["5"],
+        budget: 1000,
+        wanted: "Some(7) []",
+    },
+    Row {
+        text: NARROW,
+        params: &[UINT32],
+        texts: &["256"],
+        budget: 0,
+        wanted: "A3 at argument 0: value outside type",
+    },
+    Row {
+        text: NARROW,
+        params: &[],
+        texts: &[],
+        budget: 0,
+        wanted: "A1: argument count",
+    },
+];
+
 #[test]
-fn runs_nested_conditionals(rt: HostRuntime) -> Result<(), Fail> {
-    let params = [word(Kind::Boolean), word(Kind::Boolean)];
-    for (s, t, wanted) in [
-        ("1", "1", "return 1"),
-        ("1", "0", "return 2"),
-        ("0", "1", "return 0"),
-        ("0", "0", "return 0"),
-    ] {
-        let told = told(rt.alloc(), NESTED, &params, &[s, t], 1000)?;
-        assert!(rt; told.as_str() == wanted, "{s} {t}: {told}");
+fn texts_mean_this(rt: HostRuntime) -> Result<(), Fail> {
+    for row in ROWS {
+        let told = evaluated(rt.alloc(), row.text, row.params, row.texts, row.budget)?;
+        assert!(rt;
+            told.as_str() == row.wanted,
+            "{} {:?} {}: {told}",
+            row.text,
+            row.texts,
+            row.budget
+        );
     }
     Ok(())
 }
 
-const NARROW: &str = "export secret uint8 f(secret uint8 x) { return x <<< 3; }";
-
-#[test]
-fn judges_arguments_first(rt: HostRuntime) -> Result<(), Fail> {
-    let rotated = told(rt.alloc(), NARROW, &[word(Kind::Uint8)], &["129"], 3)?;
-    assert!(rt; rotated.as_str() == "return 12", "{rotated}");
-    let large = told(rt.alloc(), NARROW, &[word(Kind::Uint32)], &["256"], 0)?;
-    assert!(rt;
-        large.as_str() == "A3 at argument 0: value outside type",
-        "{large}"
-    );
-    let many = told(rt.alloc(), NARROW, &[], &[], 0)?;
-    assert!(rt; many.as_str() == "A1: argument count", "{many}");
-    Ok(())
-}
-
 /// A chain of so many procedures, each of which calls the one before, and the export divides first.
-fn chain(alloc: Global, bodies: u32) -> Result<String, Fail> {
-    let mut text = format!(in alloc; "void p1(public uint32 d) {{ }}\n")?;
+fn chain(alloc: Global, bodies: u32) -> Result<String, AllocError> {
+    let mut text = String::from_str(alloc, "void p1(public uint32 d) { }\n")?;
     for number in 2..bodies {
         let callee = number - 1;
         write!(
@@ -259,78 +373,26 @@ fn chain(alloc: Global, bodies: u32) -> Result<String, Fail> {
 
 #[test]
 fn opens_at_most_64_bodies(rt: HostRuntime) -> Result<(), Fail> {
-    let params = [word(Kind::Uint32)];
-    let most = chain(rt.alloc(), 64)?;
-    let told_most = told(rt.alloc(), &most, &params, &["1"], 100000)?;
-    assert!(rt; told_most.as_str() == "", "{told_most}");
-    let more = chain(rt.alloc(), 65)?;
-    let told_more = told(rt.alloc(), &more, &params, &["1"], 100000)?;
-    assert!(rt; told_more.as_str() == "E2: budget", "{told_more}");
-    let fault = told(rt.alloc(), &more, &params, &["0"], 100000)?;
-    assert!(rt; fault.as_str() == "no meaning at 65:40", "{fault}");
-    Ok(())
-}
-
-const LONG: &str = "export public uint32 f() {\n\
-    public mut uint32 y = 0;\n\
-    for (uint32 i from 0 to 1000) { for (uint32 j from 0 to 2000) { y = y + j; } }\n\
-    return y;\n\
-}";
-
-#[test]
-fn runs_ten_million_nodes(rt: HostRuntime) -> Result<(), Fail> {
-    let enough = told(rt.alloc(), LONG, &[], &[], 10004007)?;
-    assert!(rt; enough.as_str() == "return 1999000000", "{enough}");
-    let short = told(rt.alloc(), LONG, &[], &[], 10004006)?;
-    assert!(rt; short.as_str() == "E2: budget", "{short}");
-    Ok(())
-}
-
-const LARGE_ARRAY: &str = "export secret uint32 f(secret uint32 x) {\n\
-    secret mut uint32[3000] a;\n\
-    secret mut uint32 y = x;\n\
-    a[2999] = y + 1;\n\
-    y = a[2999] + 1;\n\
-    return y;\n\
-}";
-
-const THREE_TURNS: &str = "export secret uint32 f(secret uint32 x) {\n\
-    secret mut uint32 y = x;\n\
-    for (uint32 i from 0 to 3) {";
-
-#[test]
-fn evaluates_large_programs(rt: HostRuntime) -> Result<(), Fail> {
-    let params = [word(Kind::Uint32)];
-    let array = told(rt.alloc(), LARGE_ARRAY, &params, &["5"], 1000)?;
-    assert!(rt; array.as_str() == "return 7", "{array}");
-    let text = repeated(
-        rt.alloc(),
-        THREE_TURNS,
-        " y = y + 1;",
-        700,
-        " }\nreturn y;\n}",
-    )?;
-    let turns = told(rt.alloc(), &text, &params, &["0"], 10_000)?;
-    assert!(rt; turns.as_str() == "return 2100", "{turns}");
-    let front = "export public uint32 f() { return ";
-    let text = repeated(rt.alloc(), front, "1 + ", 63, "1; }")?;
-    let sum = told(rt.alloc(), &text, &[], &[], 1000)?;
-    assert!(rt; sum.as_str() == "return 64", "{sum}");
-    Ok(())
-}
-
-#[test]
-fn prints_faults(rt: HostRuntime) -> Result<(), Fail> {
-    for (fault, wanted) in [
-        (
-            EvalFault::NoMeaning(syntax::Place::ORIGIN),
-            "E1: no meaning",
-        ),
-        (EvalFault::Budget, "E2: budget"),
-        (EvalFault::Memory, "M1: memory"),
+    for (bodies, divisor, wanted) in [
+        (64, "1", "None []"),
+        (65, "1", "E2: budget"),
+        (65, "0", "E1: no meaning at 65:40"),
     ] {
-        let text = format!(in rt.alloc(); "{fault}")?;
-        assert!(rt; text.as_str() == wanted);
+        let text = chain(rt.alloc(), bodies)?;
+        let told = evaluated(rt.alloc(), text.as_str(), &[UINT32], &[divisor], 100_000)?;
+        assert!(rt; told.as_str() == wanted, "{bodies} {divisor}: {told}");
+    }
+    Ok(())
+}
+
+#[test]
+fn evaluates_ten_million_nodes(rt: HostRuntime) -> Result<(), Fail> {
+    for (budget, wanted) in [
+        (10_004_007, "Some(1999000000) []"),
+        (10_004_006, "E2: budget"),
+    ] {
+        let told = evaluated(rt.alloc(), LONG, &[], &[], budget)?;
+        assert!(rt; told.as_str() == wanted, "{budget}: {told}");
     }
     Ok(())
 }

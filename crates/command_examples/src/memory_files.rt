@@ -1,0 +1,68 @@
+use crate::slow_streams::{SlowSink, SlowSource};
+use commands::Files;
+use std::alloc::{AllocError, Global};
+use std::process::Abort;
+use streams::{ByteSink, ByteSource, SinkFault, SourceFault};
+
+/// How streams move their bytes.
+#[derive(Clone, Copy)]
+pub struct Motion {
+    /// Whether each call moves one byte.
+    pub slow: bool,
+    /// How many calls come before the one that fails.
+    pub good_reads: Option<u64>,
+    pub good_writes: Option<u64>,
+}
+
+/// Files in memory. Each can be read, with the same bytes, and each can be written.
+#[derive(Drop)]
+pub struct MemoryFiles {
+    alloc: Global,
+    bytes: Vec<u8>,
+    motion: Motion,
+    pub created: u64,
+    pub written: ByteSink,
+}
+
+impl MemoryFiles {
+    pub fn new(rt: &(impl Abort + AllocGlobal), bytes: &[u8], motion: Motion) -> Self {
+        let alloc = rt.alloc();
+        MemoryFiles {
+            alloc,
+            bytes: Vec::from_slice(alloc, bytes).expect(rt, "memory for a file"),
+            motion,
+            created: 0,
+            written: ByteSink::new(alloc),
+        }
+    }
+}
+
+impl Files for MemoryFiles {
+    type Source = SlowSource;
+
+    type Sink = SlowSink;
+
+    fn open(&mut self, _path: &str) -> Result<Self::Source, SourceFault> {
+        match Vec::from_slice(self.alloc, self.bytes.as_slice()) {
+            Ok(bytes) => Ok(SlowSource::new(
+                ByteSource::new(bytes),
+                self.motion.slow,
+                self.motion.good_reads,
+            )),
+            Err(AllocError) => Err(SourceFault),
+        }
+    }
+
+    fn create(&mut self, _path: &str) -> Result<Self::Sink, SinkFault> {
+        self.created = self.created.saturating_add(1);
+        Ok(SlowSink::new(
+            ByteSink::new(self.alloc),
+            self.motion.slow,
+            self.motion.good_writes,
+        ))
+    }
+
+    fn close(&mut self, sink: Self::Sink) {
+        self.written = sink.into_inner();
+    }
+}

@@ -1,0 +1,85 @@
+use clap::{Arg, ArgAction, Command};
+use std::alloc::{AllocError, Global};
+
+/// The commands of `factc` and their words, as `clap` reads them.
+pub fn factc<'a>(alloc: Global) -> Result<Command<'a>, AllocError> {
+    Command::new(alloc, "factc")
+        .version("0.1.0")
+        .about(
+            "Compiles a core of FaCT, the language for code whose timing keeps secrets, to RISC-V (RV32IM), \
+             runs what it compiled, and shows what an observer sees of the run",
+        )
+        .subcommand_required(true)
+        .subcommand(check_command(alloc)?)?
+        .subcommand(build_command(alloc)?)?
+        .subcommand(eval_command(alloc)?)?
+        .subcommand(run_command(alloc)?)?
+        .subcommand(pair_command(alloc)?)
+}
+
+fn check_command<'a>(alloc: Global) -> Result<Command<'a>, AllocError> {
+    Command::new(alloc, "check")
+        .about("Says whether a text is accepted, or names the first rule that it violates")
+        .arg(path(alloc, "FILE", "The text to judge"))
+}
+
+fn build_command<'a>(alloc: Global) -> Result<Command<'a>, AllocError> {
+    Command::new(alloc, "build")
+        .about("Compiles a text to an image, or names the first rule that the text violates")
+        .arg(path(alloc, "FILE", "The text to compile"))?
+        .arg(path(
+            alloc,
+            "IMAGE",
+            "Where to write the image; the text of a refused FILE leaves it as it was",
+        ))
+}
+
+fn eval_command<'a>(alloc: Global) -> Result<Command<'a>, AllocError> {
+    Command::new(alloc, "eval")
+        .about("Works out what an accepted text means on arguments, without an image")
+        .arg(path(alloc, "FILE", "The text"))?
+        .arg(arguments(
+            alloc,
+            "One for each parameter: a number (decimal, or hexadecimal after 0x), for a bool 0 or \
+             1, for an array its numbers joined by `,`",
+        ))
+}
+
+fn run_command<'a>(alloc: Global) -> Result<Command<'a>, AllocError> {
+    Command::new(alloc, "run")
+        .about("Runs an image on arguments and prints its outcome")
+        .arg(path(alloc, "IMAGE", "An image that `build` wrote"))?
+        .arg(arguments(
+            alloc,
+            "One for each parameter: a number (decimal, or hexadecimal after 0x), for a bool 0 or \
+             1, for an array its numbers joined by `,`",
+        ))
+}
+
+fn pair_command<'a>(alloc: Global) -> Result<Command<'a>, AllocError> {
+    Command::new(alloc, "pair")
+        .about("Runs an image twice and says whether an observer sees the same, or where not")
+        .arg(path(alloc, "IMAGE", "An image that `build` wrote"))?
+        .arg(arguments(
+            alloc,
+            "Those of the first run, one for each parameter and as for `run`, then those of the \
+             second",
+        ))
+}
+
+fn path<'a>(alloc: Global, name: &'a str, help: &'a str) -> Arg<'a> {
+    Arg::new(alloc, name)
+        .action(ArgAction::Set)
+        .required(true)
+        .help(help)
+}
+
+/// Every word after a path, also one that begins with a hyphen.
+fn arguments<'a>(alloc: Global, help: &'a str) -> Arg<'a> {
+    Arg::new(alloc, "ARG")
+        .action(ArgAction::Append)
+        .num_args(0..)
+        .allow_hyphen_values(true)
+        .trailing_var_arg(true)
+        .help(help)
+}

@@ -1,0 +1,100 @@
+use crate::syntax::factc;
+use clap::error::ErrorKind;
+use clap::{ArgMatches, Error};
+use std::alloc::Global;
+
+/// What the words ask for.
+pub enum Request<'a> {
+    Check {
+        file: &'a str,
+    },
+    Build {
+        file: &'a str,
+        image: &'a str,
+    },
+    Eval {
+        file: &'a str,
+        arguments: &'a [&'a str],
+    },
+    Run {
+        image: &'a str,
+        arguments: &'a [&'a str],
+    },
+    Pair {
+        image: &'a str,
+        arguments: &'a [&'a str],
+    },
+}
+
+/// Why the words ask for no command, with the text that is to be printed.
+#[derive(Debug, Drop)]
+pub enum NoRequest {
+    /// They ask for help or for the version.
+    Help(String),
+    /// They are no command line.
+    Wrong(String),
+    /// A growth was refused.
+    Memory,
+}
+
+/// Reads the words, of which the first is the program's own name.
+pub fn parse<'a>(alloc: Global, words: &'a [&'a str]) -> Result<Request<'a>, NoRequest> {
+    match asked(alloc, words) {
+        Ok(request) => Ok(request),
+        Err(error) => Err(said(alloc, &error)),
+    }
+}
+
+/// What is to be said of an error, as which `clap` gives help and the version too.
+fn said(alloc: Global, error: &Error) -> NoRequest {
+    if error.kind() == ErrorKind::OutOfMemory {
+        return NoRequest::Memory;
+    }
+    match format!(in alloc; "{error}") {
+        Ok(text) if error.use_stderr() => NoRequest::Wrong(text),
+        Ok(text) => NoRequest::Help(text),
+        Err(_) => NoRequest::Memory,
+    }
+}
+
+fn asked<'a>(alloc: Global, words: &'a [&'a str]) -> Result<Request<'a>, Error> {
+    let mut command = factc(alloc)?;
+    let matches = command.try_get_matches_from_mut(words)?;
+    match matches.subcommand() {
+        Some(("check", check)) => Ok(Request::Check {
+            file: text_of(check, "FILE"),
+        }),
+        Some(("build", build)) => Ok(Request::Build {
+            file: text_of(build, "FILE"),
+            image: text_of(build, "IMAGE"),
+        }),
+        Some(("eval", eval)) => Ok(Request::Eval {
+            file: text_of(eval, "FILE"),
+            arguments: after_path(words),
+        }),
+        Some(("run", run)) => Ok(Request::Run {
+            image: text_of(run, "IMAGE"),
+            arguments: after_path(words),
+        }),
+        Some(("pair", pair)) => Ok(Request::Pair {
+            image: text_of(pair, "IMAGE"),
+            arguments: after_path(words),
+        }),
+        _ => Err(command.error(ErrorKind::MissingSubcommand, "a command is required")?),
+    }
+}
+
+/// The value of a required argument.
+fn text_of<'a>(matches: &ArgMatches<'a>, id: &str) -> &'a str {
+    matches.get_str(id).unwrap_or("")
+}
+
+/// The words after a command and its FILE or IMAGE. Each of them is an argument, also `--`, which
+/// before the path says that the path may begin with a hyphen.
+fn after_path<'a>(words: &'a [&'a str]) -> &'a [&'a str] {
+    match words {
+        [_, _, dashes, _, arguments @ ..] if *dashes == "--" => arguments,
+        [_, _, _, arguments @ ..] => arguments,
+        _ => &[],
+    }
+}

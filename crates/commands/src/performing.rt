@@ -1,0 +1,276 @@
+ghost use Rattle.std.specs.Prelude.{◌≡◌, ◌≤◌, OnOk};
+
+use crate::fault::{Fault, FileFault};
+use crate::files::Files;
+use crate::outcome;
+use arguments::ArgumentRule;
+use command_line::{NoRequest, Request, parse};
+use hepurita::{RunFault, build, execute, judge, pair, read_args};
+use image::{Image, LONGEST_IMAGE};
+use language::{Args, Param, Place, Refusal, Rule};
+use rv_machine::{NullRecorder, Pairing};
+use source_eval::eval;
+use std::alloc::Global;
+use streams::{ReadFault, Sink, get_up_to, put_all};
+use syntax::TEXT_LIMIT;
+
+/// The path that stands for standard output.
+const STANDARD_OUTPUT: &str = "-";
+
+/// How many nodes `eval` evaluates at most.
+const EVALUATION_BUDGET: u64 = 1 << 32;
+
+const OUT_OF_MEMORY: &str = "refused: M1: memory\n";
+
+/// Does what the words ask for, of which the first is the program's own name, and answers the exit
+/// status: 0 done, 1 refused by a rule, 2 the command line is wrong, 3 a file failed, 4 memory, 5
+/// stopped otherwise than by ECALL.
+pub fn command<'a, F: Files, O: Sink, E: Sink>(
+    alloc: Global,
+    words: &'a [&'a str],
+    files: &mut F,
+    out: &mut O,
+    err: &mut E,
+) -> u8
+    ensures known { result ≤ 5 }
+    ensures calm { result ≡ 0 → O.failures out.new ≡ O.failures out.old }
+{
+    match parse(alloc, words) {
+        Ok(request) => match perform(alloc, request, files, out) {
+            Ok(()) => 0,
+            Err(fault) => report(alloc, &fault, err),
+        },
+        Err(said) => explain(alloc, said, out, err),
+    }
+}
+
+/// Prints the fault's line, and answers its exit status. Where there is no memory for the line, the
+/// fault is want of memory. That the line could not be printed is nowhere to be said.
+fn report<E: Sink>(alloc: Global, fault: &Fault<'_>, err: &mut E) -> u8
+    ensures low { 1 ≤ result }
+    ensures high { result ≤ 5 }
+{
+    match format!(in alloc; "{fault}\n") {
+        Ok(line) => {
+            let _ = put_all(err, line.as_bytes());
+            fault.status()
+        }
+        Err(_) => {
+            let _ = put_all(err, OUT_OF_MEMORY.as_bytes());
+            4
+        }
+    }
+}
+
+/// Prints what is wrong with the command line, or the help or the version that was asked for.
+fn explain<O: Sink, E: Sink>(alloc: Global, said: NoRequest, out: &mut O, err: &mut E) -> u8
+    ensures known { result ≤ 5 }
+    ensures calm { result ≡ 0 → O.failures out.new ≡ O.failures out.old }
+{
+    match said {
+        NoRequest::Memory => report(alloc, &Fault::Text(Refusal::memory()), err),
+        NoRequest::Wrong(text) => {
+            let _ = put_all(err, text.as_bytes());
+            2
+        }
+        NoRequest::Help(text) => match print(out, text.as_str()) {
+            Ok(()) => 0,
+            Err(fault) => report(alloc, &fault, err),
+        },
+    }
+}
+
+fn perform<'a, F: Files, O: Sink>(
+    alloc: Global,
+    request: Request<'a>,
+    files: &mut F,
+    out: &mut O,
+) -> Result<(), Fault<'a>>
+    ensures { OnOk result (O.failures out.new ≡ O.failures out.old) }
+{
+    match request {
+        Request::Check { file } => {
+            check_text(alloc, file, files)?;
+            print(out, "accepted\n")
+        }
+        Request::Build { file, image } => build_image(alloc, file, image, files),
+        Request::Eval { file, arguments } => {
+            let text = evaluate_text(alloc, file, arguments, files)?;
+            print(out, text.as_str())
+        }
+        Request::Run { image, arguments } => {
+            let text = run_image(alloc, image, arguments, files)?;
+            print(out, text.as_str())
+        }
+        Request::Pair { image, arguments } => {
+            let text = pair_image(alloc, image, arguments, files)?;
+            print(out, text.as_str())
+        }
+    }
+}
+
+fn print<O: Sink>(out: &mut O, text: &str) -> Result<(), Fault<'static>>
+    ensures { OnOk result (O.failures out.new ≡ O.failures out.old) }
+{
+    match put_all(out, text.as_bytes()) {
+        Ok(()) => Ok(()),
+        Err(_) => Err(Fault::File(FileFault::CannotWrite(STANDARD_OUTPUT))),
+    }
+}
+
+/// A text's bytes. One that is too long is not read to its end.
+fn text_bytes<'a, F: Files>(
+    alloc: Global,
+    file: &'a str,
+    files: &mut F,
+) -> Result<Vec<u8>, Fault<'a>> {
+    let bytes = read_file(alloc, file, TEXT_LIMIT + 1, files)?;
+    if bytes.len() > TEXT_LIMIT {
+        return Err(Fault::Text(Refusal::at(Rule::TextTooLong, Place::ORIGIN)));
+    }
+    Ok(bytes)
+}
+
+/// The text that a file's bytes are.
+fn text_of<'a, 'b>(file: &'a str, bytes: &'b [u8]) -> Result<&'b str, Fault<'a>> {
+    match str::from_utf8(bytes) {
+        Ok(text) => Ok(text),
+        Err(_) => Err(Fault::File(FileFault::NotUtf8(file))),
+    }
+}
+
+/// Compiles the text of one file to the image of another, which is opened only once the text was
+/// accepted.
+fn build_image<'a, F: Files>(
+    alloc: Global,
+    file: &'a str,
+    image: &'a str,
+    files: &mut F,
+) -> Result<(), Fault<'a>> {
+    let bytes = text_bytes(alloc, file, files)?;
+    let built = build(alloc, text_of(file, bytes.as_slice())?)?;
+    write_file(image, built.as_slice(), files)
+}
+
+/// Judges the text of a file.
+fn check_text<'a, F: Files>(alloc: Global, file: &'a str, files: &mut F) -> Result<(), Fault<'a>> {
+    let bytes = text_bytes(alloc, file, files)?;
+    let _accepted = judge(alloc, text_of(file, bytes.as_slice())?)?;
+    Ok(())
+}
+
+/// What an accepted text means on arguments, as lines.
+fn evaluate_text<'a, F: Files>(
+    alloc: Global,
+    file: &'a str,
+    arguments: &[&str],
+    files: &mut F,
+) -> Result<String, Fault<'a>> {
+    let bytes = text_bytes(alloc, file, files)?;
+    let accepted = judge(alloc, text_of(file, bytes.as_slice())?)?;
+    let params = accepted.params.as_slice();
+    let args = read_args(alloc, params, arguments)?;
+    let outcome = eval(alloc, &accepted.program, &args, EVALUATION_BUDGET)?;
+    Ok(outcome::text_of(alloc, params, &outcome)?)
+}
+
+/// What an image gives on arguments, as lines.
+fn run_image<'a, F: Files>(
+    alloc: Global,
+    path: &'a str,
+    arguments: &[&str],
+    files: &mut F,
+) -> Result<String, Fault<'a>> {
+    let image = image_of(alloc, path, files)?;
+    let params = hepurita::params(alloc, &image)?;
+    let args = read_args(alloc, params.as_slice(), arguments)?;
+    let outcome = execute(alloc, &image, &args, &mut NullRecorder)?;
+    Ok(outcome::text_of(alloc, params.as_slice(), &outcome)?)
+}
+
+/// Whether an observer sees the same of an image on two lists of arguments, as a line.
+fn pair_image<'a, F: Files>(
+    alloc: Global,
+    path: &'a str,
+    arguments: &[&str],
+    files: &mut F,
+) -> Result<String, Fault<'a>> {
+    let image = image_of(alloc, path, files)?;
+    let params = hepurita::params(alloc, &image)?;
+    let (first, second) = both_args(alloc, params.as_slice(), arguments)?;
+    let line = match pair(alloc, &image, &first, &second)? {
+        Pairing::Same => String::from_str(alloc, "same\n")?,
+        Pairing::Differ(place) => format!(in alloc; "differ at {place}\n")?,
+    };
+    Ok(line)
+}
+
+/// The two lists of arguments that words spell, of which the first half is the first. The words are
+/// counted on from one list to the other.
+fn both_args(
+    alloc: Global,
+    params: &[Param],
+    arguments: &[&str],
+) -> Result<(Args, Args), RunFault> {
+    match arguments.split_at_checked(params.len()) {
+        Some((first, second)) if second.len() == params.len() => {
+            let first = read_args(alloc, params, first)?;
+            match read_args(alloc, params, second) {
+                Ok(second) => Ok((first, second)),
+                Err(fault) => Err(counted_on(fault, params.len())),
+            }
+        }
+        _ => Err(RunFault::Argument {
+            rule: ArgumentRule::Count,
+            index: None,
+        }),
+    }
+}
+
+/// A fault of a later list, with its number counted on from those of the lists before.
+fn counted_on(fault: RunFault, before: usize) -> RunFault {
+    match fault {
+        RunFault::Argument {
+            rule,
+            index: Some(index),
+        } => RunFault::Argument {
+            rule,
+            index: Some(index.saturating_add(before)),
+        },
+        _ => fault,
+    }
+}
+
+fn image_of<'a, F: Files>(alloc: Global, path: &'a str, files: &mut F) -> Result<Image, Fault<'a>> {
+    let bytes = read_file(alloc, path, LONGEST_IMAGE + 1, files)?;
+    Ok(image::read(alloc, bytes.as_slice())?)
+}
+
+/// The bytes of a file, to their end or to the limit.
+fn read_file<'a, F: Files>(
+    alloc: Global,
+    path: &'a str,
+    limit: usize,
+    files: &mut F,
+) -> Result<Vec<u8>, Fault<'a>> {
+    let Ok(mut source) = files.open(path) else {
+        return Err(Fault::File(FileFault::CannotRead(path)));
+    };
+    match get_up_to(alloc, &mut source, limit) {
+        Ok(bytes) => Ok(bytes),
+        Err(ReadFault::Source) => Err(Fault::File(FileFault::CannotRead(path))),
+        Err(ReadFault::Memory) => Err(Fault::Text(Refusal::memory())),
+    }
+}
+
+fn write_file<'a, F: Files>(path: &'a str, bytes: &[u8], files: &mut F) -> Result<(), Fault<'a>> {
+    let Ok(mut sink) = files.create(path) else {
+        return Err(Fault::File(FileFault::CannotWrite(path)));
+    };
+    let written = put_all(&mut sink, bytes);
+    files.close(sink);
+    match written {
+        Ok(()) => Ok(()),
+        Err(_) => Err(Fault::File(FileFault::CannotWrite(path))),
+    }
+}

@@ -1,0 +1,116 @@
+-- A text is refused for one rule at one offset.
+use Rattle.std.proofs.Common.{◌≡◌, ◌⊎◌, inl, inr, ℕ, zero, suc, ◌<◌, ◌≤◌, List, [], ◌∷◌, Some, length, Contains, All, refl, ap, sym, subst, ◌∙◌, arith}
+use Rattle.std.proofs.lemmas.List.Elements.{All-contains}
+use Rattle.coverage.specs.Earliest.{IsEarliest}
+use Rattle.word.specs.declared.place.Place.{Place}
+use Rattle.language.specs.declared.rule.Rule.{Rule}
+use Rattle.language.specs.declared.rule.Rule.TheVariants.{UnknownCharacter, BadNumber, UnexpectedToken, Nesting, TextTooLong, UndeclaredName, NameDeclaredTwice, ProcedureNotDeclaredEarlier, NotExactlyOneExport, WidthsDiffer, WrongKind, LiteralOutOfRange, ArgumentCount, ArrayShapeOrLabel, NotMutable, ReturnMismatch, ArrayPassedTwice, InitialiserCount, SecretToPublic, PublicAssignedUnderSecretControl, SecretIndex, SecretBound, SecretDivisionOperand, CallAssignsPublicUnderSecretControl, InlinedSize, DeclaredBytes, IndexOutOfRange, DivisorMayBeZero, TooMuchWork, OutOfMemory, NotCompiledYet}
+use Rattle.language.specs.declared.typing.Violation.{Violation}
+use Rattle.language.specs.FirstViolation.{IsFirst, IsNoLaterThan}
+use Rattle.language.specs.Meaning.{exported}
+use Rattle.language.specs.Rules.{rank_of}
+use Rattle.language.specs.Size.{size_violations}
+use Rattle.language.specs.Tree.{ProcedureTree, ProgramTree}
+use Rattle.syntax.specs.Reading.{accepted, refused, OneAnswer}
+use Rattle.hepurita.specs.Built.{Judges, JudgesProgram, refuses, not_compiled_yet, ill_typed, too_large, unreadable, readable}
+use Rattle.hepurita.proofs.JudgementLemmas.{none, nowhere, exports_agree}
+
+-- one rule, at one offset
+abbrev pub AreAlike : Rule → Place → Rule → Place → Type 0
+AreAlike rule place rule' place' = (rule ≡ rule') × (place.offset ≡ place'.offset)
+
+-- ---- a rule is known by its rank
+
+abbrev rules_in_order : List Rule
+rules_in_order = UnknownCharacter ∷ BadNumber ∷ UnexpectedToken ∷ Nesting ∷ TextTooLong ∷ UndeclaredName ∷ NameDeclaredTwice ∷ ProcedureNotDeclaredEarlier ∷ NotExactlyOneExport ∷ WidthsDiffer ∷ WrongKind ∷ LiteralOutOfRange ∷ ArgumentCount ∷ ArrayShapeOrLabel ∷ NotMutable ∷ ReturnMismatch ∷ ArrayPassedTwice ∷ InitialiserCount ∷ SecretToPublic ∷ PublicAssignedUnderSecretControl ∷ SecretIndex ∷ SecretBound ∷ SecretDivisionOperand ∷ CallAssignsPublicUnderSecretControl ∷ InlinedSize ∷ DeclaredBytes ∷ IndexOutOfRange ∷ DivisorMayBeZero ∷ TooMuchWork ∷ OutOfMemory ∷ NotCompiledYet ∷ []
+
+abbrev rule_at : List Rule → ℕ → Rule
+rule_at [] rank = NotCompiledYet
+rule_at (rule ∷ rules) zero = rule
+rule_at (rule ∷ rules) (suc rank) = rule_at rules rank
+
+ranked : (rule : Rule) → rule_at rules_in_order (rank_of rule) ≡ rule
+ranked UnknownCharacter = refl
+ranked BadNumber = refl
+ranked UnexpectedToken = refl
+ranked Nesting = refl
+ranked TextTooLong = refl
+ranked UndeclaredName = refl
+ranked NameDeclaredTwice = refl
+ranked ProcedureNotDeclaredEarlier = refl
+ranked NotExactlyOneExport = refl
+ranked WidthsDiffer = refl
+ranked WrongKind = refl
+ranked LiteralOutOfRange = refl
+ranked ArgumentCount = refl
+ranked ArrayShapeOrLabel = refl
+ranked NotMutable = refl
+ranked ReturnMismatch = refl
+ranked ArrayPassedTwice = refl
+ranked InitialiserCount = refl
+ranked SecretToPublic = refl
+ranked PublicAssignedUnderSecretControl = refl
+ranked SecretIndex = refl
+ranked SecretBound = refl
+ranked SecretDivisionOperand = refl
+ranked CallAssignsPublicUnderSecretControl = refl
+ranked InlinedSize = refl
+ranked DeclaredBytes = refl
+ranked IndexOutOfRange = refl
+ranked DivisorMayBeZero = refl
+ranked TooMuchWork = refl
+ranked OutOfMemory = refl
+ranked NotCompiledYet = refl
+
+by_rank : (r s : Rule) → rank_of r ≡ rank_of s → r ≡ s
+by_rank r s same = sym (ranked r) ∙ (ap (rule_at rules_in_order) same ∙ ranked s)
+
+-- ---- the first of several violations
+
+no_later : (u v : Violation) → IsNoLaterThan u v → IsNoLaterThan v u → AreAlike u.rule u.place v.rule v.place
+no_later u v (inl before) (inl after) = absurd (omega (arith, before, after))
+no_later u v (inl before) (inr (at, after)) = absurd (omega (arith, before, at))
+no_later u v (inr (at, before)) (inl after) = absurd (omega (arith, after, at))
+no_later u v (inr (at, before)) (inr (at', after)) = (by_rank u.rule v.rule (omega (arith, before, after)), at)
+
+one_first : (all : List Violation) (u v : Violation) → IsFirst all u → IsFirst all v → AreAlike u.rule u.place v.rule v.place
+one_first all u v first first' =
+    no_later u v (All-contains (IsNoLaterThan u) all v first.least first'.there) (All-contains (IsNoLaterThan v) all u first'.least first.there)
+
+one_earliest : (all : List Place) (p q : Place) → IsEarliest all p → IsEarliest all q → p.offset ≡ q.offset
+one_earliest all p q first first' =
+    let before = All-contains (λ (other : Place). p.offset ≤ other.offset) all q first.least first'.there in
+    let after = All-contains (λ (other : Place). q.offset ≤ other.offset) all p first'.least first.there in
+    omega (arith, before, after)
+
+-- ---- a program and a text
+
+of_program : (program : ProgramTree) (rule rule' : Rule) (place place' : Place) → JudgesProgram program (refuses rule place) → JudgesProgram program (refuses rule' place') → AreAlike rule place rule' place'
+of_program program rule rule' place place' (not_compiled_yet first) (not_compiled_yet first') = (refl, one_earliest _ place place' first first')
+of_program program rule rule' place place' (not_compiled_yet first) (ill_typed compiled first') = absurd (nowhere _ _ compiled first.there)
+of_program program rule rule' place place' (not_compiled_yet first) (too_large compiled typed is first') = absurd (nowhere _ _ compiled first.there)
+of_program program rule rule' place place' (ill_typed compiled first) (not_compiled_yet first') = absurd (nowhere _ _ compiled first'.there)
+of_program program rule rule' place place' (ill_typed compiled first) (ill_typed compiled' first') = one_first _ _ _ first first'
+of_program program rule rule' place place' (ill_typed compiled first) (too_large compiled' typed is first') = absurd (none _ _ typed first.there)
+of_program program rule rule' place place' (too_large compiled typed is first) (not_compiled_yet first') = absurd (nowhere _ _ compiled first'.there)
+of_program program rule rule' place place' (too_large compiled typed is first) (ill_typed compiled' first') = absurd (none _ _ typed first'.there)
+of_program program rule rule' place place' (too_large {before} {export} {first = v} compiled typed is first) (too_large {before = before'} {export = other} {first = v'} compiled' typed' is' first') =
+    let same = exports_agree (exported [] program.procedures) before' before other export is' is in
+    one_first (size_violations export) v v' first (subst (λ (e : ProcedureTree). IsFirst (size_violations e) v') same first')
+
+pub one_refusal_for : OneAnswer → (text : List ℕ) (rule rule' : Rule) (place place' : Place) → Judges text (refuses rule place) → Judges text (refuses rule' place') → AreAlike rule place rule' place'
+one_refusal_for one text rule rule' place place' (unreadable reads) (unreadable reads') =
+    let answer : refused rule place ≡ refused rule' place' = one text (refused rule place) (refused rule' place') reads reads' in
+    let same : rule ≡ rule' = cc in
+    let at : place ≡ place' = cc in
+    (same, ap (λ (p : Place). p.offset) at)
+one_refusal_for one text rule rule' place place' (unreadable reads) (readable {program} reads' judges') =
+    let answer : refused rule place ≡ accepted program = one text (refused rule place) (accepted program) reads reads' in
+    cc
+one_refusal_for one text rule rule' place place' (readable {program} reads judges) (unreadable reads') =
+    let answer : accepted program ≡ refused rule' place' = one text (accepted program) (refused rule' place') reads reads' in
+    cc
+one_refusal_for one text rule rule' place place' (readable {program} reads judges) (readable {program = other} reads' judges') =
+    let answer : accepted program ≡ accepted other = one text (accepted program) (accepted other) reads reads' in
+    let same : program ≡ other = cc in
+    of_program other rule rule' place place' (subst (λ (p : ProgramTree). JudgesProgram p (refuses rule place)) same judges) judges'

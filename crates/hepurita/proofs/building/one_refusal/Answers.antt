@@ -1,0 +1,5 @@
+use Rattle.hepurita.proofs.RefusalLemmas.{one_refusal_for}
+use Rattle.hepurita.proofs.building.one_refusal.Goals as goal
+
+pub returns : goal.returns
+returns c = one_refusal_for c.one_answer_for_a_text.ensures
