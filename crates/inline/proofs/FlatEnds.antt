@@ -1,5 +1,5 @@
--- A statement means the same once its names are numbers.
-use Rattle.std.proofs.Common.{◌≡◌, ℕ, ◌+◌, ◌==◌, Bool, true, false, not, if◌then◌else◌, List, length, Some, None, refl, sym, ap, ap₂, ◌∙◌, subst, arith, true≢false}
+-- A well-typed statement means the same once its names are numbers.
+use Rattle.std.proofs.Common.{◌≡◌, ℕ, ◌+◌, ◌==◌, Bool, true, false, not, if◌then◌else◌, List, Some, None, refl, sym, ap, ap₂, ◌∙◌, arith, true≢false}
 use Rattle.std.proofs.lemmas.Option.{same_Some}
 use Rattle.std.specs.Str.{bytes_eq}
 use lib.Pointwise.{bytes_decides}
@@ -13,21 +13,20 @@ use Rattle.inline.specs.Numbering as numbering
 use Rattle.inline.specs.Numbering.{Numbers, number_of, term, block, names_after, names_after_all}
 use Rattle.names.specs.Scope.{found, declared}
 use Rattle.language.specs.declared.signature.Kind.{Kind}
+use Rattle.language.specs.declared.signature.Kind.TheVariants.{Boolean}
 use Rattle.language.specs.declared.signature.Label.{Label}
 use Rattle.language.specs.declared.typing.WordType.{WordType}
 use Rattle.language.specs.Grammatical.{IsPlain, ArePlain}
 use Rattle.language.specs.Meaning.{Evaluates, gives, of_expr, Runs, declares, assigns, accepts, declines, RunsAll, ends, goes_on}
 use Rattle.language.specs.Size.{statement_words, block_words}
 use Rattle.language.specs.State.{State, Word, single, with_value}
-use Rattle.language.specs.Tree.{ExprTree, called, computed, StatementTree, declaration, array, assignment, element_assignment, call, conditional, loop, BlockTree, nothing, first, ProcedureTree}
+use Rattle.language.specs.Tree.{ExprTree, computed, StatementTree, declaration, array, assignment, element_assignment, call, conditional, loop, BlockTree, nothing, first, ProcedureTree}
 use Rattle.language.specs.Types.{Scope, joined}
-use Rattle.language.specs.Typing.{statement_violations, block_violations, scope_after}
-use Rattle.inline.proofs.FlatTypes as flat_types
+use Rattle.language.specs.WellTyped as rules
 use Rattle.inline.proofs.FlatTypes.{linked_after, typed_block}
-use Rattle.inline.proofs.Linked.{Linked, entry, later, number_known, with_type-same, with_type-other}
+use Rattle.inline.proofs.Linked.{Linked, entry, later, with_type-same, with_type-other}
 use Rattle.inline.proofs.Lookup.{found-new, found-other, found-kept}
-use Rattle.inline.proofs.Rules.{none_left, none_right}
-use Rattle.inline.proofs.Terms.{Shows}
+use Rattle.inline.proofs.Terms.{Shows, known_word, means}
 use Rattle.inline.proofs.TypesKept.{types_kept, with_value-other, with_value-same}
 
 abbrev word_at : Kind → ℕ → Word
@@ -122,63 +121,52 @@ arm : (ps : List ProcedureTree) (s : State) (b : BlockTree) (names : Numbers) (t
 arm ps s b names types n under m typed leads = record { end = leads.end; runs = leads.runs; shows = shows_before b names types n under typed leads.end m leads.shows }
 
 mutual
-  pub same_end : (statement : StatementTree) (ps : List ProcedureTree) (scope : Scope) (names : Numbers) (types : Types) (n : ℕ) (control : Label) → Linked scope names types n → length (statement_violations ps scope control statement) ≡ 0
+  pub same_end : {ps : List ProcedureTree} {scope : Scope} {control : Label} {statement : StatementTree} → rules.IsWellTyped ps scope control statement → (names : Numbers) (types : Types) (n : ℕ) → Linked scope names types n
       → IsCompiledStatement statement → IsPlain statement → (s : State) (m : Values) → Shows names types s m
       → Leads ps s statement (names_after names n statement) (types_after types (numbering.statement names n statement)) (after m (numbering.statement names n statement))
-  same_end (declaration place label mutable kind text (computed value)) ps scope names types n control linked h compiled plain s m shows =
-      let d = flat_types.declares ps scope names types n control linked place label mutable kind text value h compiled plain in
+  same_end {ps = ps} (rules.declares {scope = scope} {place = place} {label = label} {mutable = mutable} {kind = kind} {text = text} new (rules.of_value {e = value} has) (rules.suits below) flow) names types n linked compiled plain s m shows =
       let v = value_in m (term names value) in
-      let own : WordType = record { kind = kind; label = label } in
       record {
-        end = with_value s text (single (word_at d.value_known.type.kind v));
-        runs = declares ps s place label mutable kind text (computed value) (record { word = Some (word_at d.value_known.type.kind v); state = s })
-            (of_expr ps s value (word_at d.value_known.type.kind v) (d.value_known.value s m shows));
-        shows = subst (λ k. Shows (declared names text (entry n own)) (with_type types n own) (with_value s text (single (word_at k v))) (flat.with_value m n v)) (sym d.same_kind)
-            (shows_declared scope names types n linked s m shows text own v d.new);
+        end = with_value s text (single (word_at kind v));
+        runs = declares ps s place label mutable kind text (computed value) (record { word = Some (word_at kind v); state = s })
+            (of_expr ps s value (word_at kind v) ((means scope names types n linked has compiled plain).value s m shows));
+        shows = shows_declared scope names types n linked s m shows text (rules.labelled kind label) v new;
       }
-  same_end (declaration place label mutable kind text (called c)) ps scope names types n control linked h compiled plain s m shows = absurd compiled
-  same_end (assignment place target text (computed value)) ps scope names types n control linked h compiled plain s m shows =
-      let a = flat_types.assigns ps scope names types n control linked place target text value h compiled plain in
+  same_end (rules.declares new (rules.of_call is) suit flow) names types n linked compiled plain s m shows = absurd compiled
+  same_end {ps = ps} (rules.assigns {scope = scope} {place = place} {target = target} {text = text} is (rules.of_value {e = value} has) (rules.suits {kind = kind} {wanted = label} below) flow) names types n linked compiled plain s m shows =
       let v = value_in m (term names value) in
-      let x = a.target in
-      let here = number_known names types text a.variable x in
+      let own = rules.labelled kind label in
+      let x = known_word scope names types n linked text own true is in
       record {
-        end = with_value s text (single (word_at a.value_known.type.kind v));
-        runs = assigns ps s place target text (computed value) (record { word = Some (word_at a.value_known.type.kind v); state = s })
-            (of_expr ps s value (word_at a.value_known.type.kind v) (a.value_known.value s m shows));
-        shows = subst (λ k. Shows names types (with_value s text (single (word_at k v))) (flat.with_value m (number_of names text) v)) (sym a.same_kind)
-            (shows_assigned scope names types n linked s m shows text (number_of names text) v x.word (x.numbered ∙ ap (λ y. Some (entry y x.word)) (sym here)) (ap types here ∙ x.typed));
+        end = with_value s text (single (word_at kind v));
+        runs = assigns ps s place target text (computed value) (record { word = Some (word_at kind v); state = s })
+            (of_expr ps s value (word_at kind v) ((means scope names types n linked has compiled plain).value s m shows));
+        shows = shows_assigned scope names types n linked s m shows text (number_of names text) v own (x.numbered ∙ ap (λ y. Some (entry y own)) (sym x.here)) (ap types x.here ∙ x.typed);
       }
-  same_end (assignment place target text (called c)) ps scope names types n control linked h compiled plain s m shows = absurd compiled
-  same_end (conditional place condition accepted otherwise) ps scope names types n control linked h compiled plain s m shows =
-      let c = flat_types.chooses ps scope names types n control linked place condition accepted otherwise h compiled.0 plain.0 in
+  same_end (rules.assigns is (rules.of_call earlier) suit flow) names types n linked compiled plain s m shows = absurd compiled
+  same_end {ps = ps} (rules.chooses {scope = scope} {control = control} {place = place} {condition = condition} {accepted = accepted} {otherwise = otherwise} {label = label} has one other) names types n linked compiled plain s m shows =
       let k = n + block_words accepted in
-      let under = joined c.chooser.type.label control in
+      let under = joined label control in
       let v = value_in m (term names condition) in
       let next = later scope names types n k (omega arith) linked in
       let if_true = after_all m (block names n accepted) in
       let if_false = after_all m (block names k otherwise) in
-      chosen ps s place condition accepted otherwise names types if_true if_false c.chooser.type.kind v (c.chooser.value s m shows)
-      (arm ps s accepted names types n under if_true (typed_block accepted ps scope names types n under linked c.if_true compiled.1 plain.1)
-      (same_ends accepted ps scope names types n under linked c.if_true compiled.1 plain.1 s m shows))
-      (arm ps s otherwise names types k under if_false (typed_block otherwise ps scope names types k under next c.if_false compiled.2 plain.2)
-      (same_ends otherwise ps scope names types k under next c.if_false compiled.2 plain.2 s m shows))
+      chosen ps s place condition accepted otherwise names types if_true if_false Boolean v ((means scope names types n linked has compiled.0 plain.0).value s m shows)
+      (arm ps s accepted names types n under if_true (typed_block one names types n linked compiled.1 plain.1) (same_ends one names types n linked compiled.1 plain.1 s m shows))
+      (arm ps s otherwise names types k under if_false (typed_block other names types k next compiled.2 plain.2) (same_ends other names types k next compiled.2 plain.2 s m shows))
       (v == 0) refl
-  same_end (array place label mutable kind size text values) ps scope names types n control linked h compiled plain s m shows = absurd compiled
-  same_end (element_assignment place bracket target text index right) ps scope names types n control linked h compiled plain s m shows = absurd compiled
-  same_end (call c) ps scope names types n control linked h compiled plain s m shows = absurd compiled
-  same_end (loop place counter text low high body) ps scope names types n control linked h compiled plain s m shows = absurd compiled
+  same_end (rules.declares_array new all count flow) names types n linked compiled plain s m shows = absurd compiled
+  same_end (rules.assigns_element is has value suit flow) names types n linked compiled plain s m shows = absurd compiled
+  same_end (rules.calls is) names types n linked compiled plain s m shows = absurd compiled
+  same_end (rules.repeats low high new inner) names types n linked compiled plain s m shows = absurd compiled
 
-  pub same_ends : (b : BlockTree) (ps : List ProcedureTree) (scope : Scope) (names : Numbers) (types : Types) (n : ℕ) (control : Label) → Linked scope names types n → length (block_violations ps scope control b) ≡ 0
+  pub same_ends : {ps : List ProcedureTree} {scope : Scope} {control : Label} {b : BlockTree} → rules.AreWellTyped ps scope control b → (names : Numbers) (types : Types) (n : ℕ) → Linked scope names types n
       → IsCompiledBlock b → ArePlain b → (s : State) (m : Values) → Shows names types s m
       → LeadsAll ps s b (names_after_all names n b) (types_after_all types (block names n b)) (after_all m (block names n b))
-  same_ends nothing ps scope names types n control linked h compiled plain s m shows = record { end = s; runs = ends ps s; shows = shows }
-  same_ends (first statement rest) ps scope names types n control linked h compiled plain s m shows =
-      let here = statement_violations ps scope control statement in
-      let there = block_violations ps (scope_after scope statement) control rest in
-      let none = none_left here there h in
-      let one = same_end statement ps scope names types n control linked none compiled.0 plain.0 s m shows in
+  same_ends {ps = ps} rules.no_statement names types n linked compiled plain s m shows = record { end = s; runs = ends ps s; shows = shows }
+  same_ends {ps = ps} (rules.one_more {statement = statement} {rest = rest} here there) names types n linked compiled plain s m shows =
+      let one = same_end here names types n linked compiled.0 plain.0 s m shows in
       let tree = numbering.statement names n statement in
-      let next = linked_after ps scope names types n control statement linked none compiled.0 plain.0 in
-      let all = same_ends rest ps (scope_after scope statement) (names_after names n statement) (types_after types tree) (n + statement_words statement) control next (none_right here there h) compiled.1 plain.1 one.end (after m tree) one.shows in
+      let next = linked_after here names types n linked compiled.0 in
+      let all = same_ends there (names_after names n statement) (types_after types tree) (n + statement_words statement) next compiled.1 plain.1 one.end (after m tree) one.shows in
       record { end = all.end; runs = goes_on ps s one.end statement rest (gives all.end) one.runs all.runs; shows = all.shows }

@@ -1,16 +1,14 @@
 -- What the rules ask of the kinds of a node's operands.
 use Rattle.std.proofs.Common.{◌≡◌, ℕ, Bool, true, false, not, ◌&&◌, ◌||◌, ◌++◌, length, refl, sym, ap, true≢false}
-use Rattle.language.specs.declared.rule.Rule.TheVariants.{WidthsDiffer, WrongKind, SecretToPublic, LiteralOutOfRange}
+use Rattle.language.specs.declared.rule.Rule.TheVariants.{WidthsDiffer, WrongKind, LiteralOutOfRange}
 use Rattle.language.specs.declared.signature.Kind.{Kind}
 use Rattle.language.specs.declared.signature.Kind.TheVariants.{Boolean, Uint8, Uint16, Uint32}
 use Rattle.language.specs.declared.signature.Label.{Label}
-use Rattle.language.specs.declared.signature.Label.TheVariants.{Public, Secret}
 use Rattle.language.specs.declared.typing.Operation.{Operation}
 use Rattle.language.specs.declared.typing.Operation.TheVariants.{Arithmetic, Multiplication, Shift}
 use Rattle.language.specs.ExprTyping.{operation_rules, rotate_rules, rotates_within, select_rules, is_uneven, takes}
 use Rattle.language.specs.Grammatical.{IsNumberKind}
-use Rattle.language.specs.Types.{when, word, is_number, is_secret, widths_differ, are_alike}
-use Rattle.language.specs.Typing.{value_rules}
+use Rattle.language.specs.Types.{when, word, is_number, widths_differ, are_alike}
 use Rattle.inline.proofs.Rules.{none_left, none_right, not_when, is_met}
 
 pub a_number : (kind : Kind) → is_number kind ≡ true → IsNumberKind kind
@@ -90,20 +88,3 @@ choice_kinds j k l o m n none =
     let wrong = when (not (not (is_number j) && are_alike (word k m) (word l n))) WrongKind in
     let kinds = is_met (not (is_number j) && are_alike (word k m) (word l n)) WrongKind (none_right (when uneven WidthsDiffer) wrong none) in
     one_kind k l m n (not_when uneven WidthsDiffer (none_left (when uneven WidthsDiffer) wrong none)) (both (not (is_number j)) (are_alike (word k m) (word l n)) kinds).1
-
-labels_agree : (m n : Label) → (not (is_secret m) && is_secret n) ≡ false → m ≡ Public → n ≡ Public
-labels_agree m Public h e = refl
-labels_agree Secret Secret h e = e
-labels_agree Public Secret h e = absurd (true≢false h)
-
--- a value suits where its own kind is wanted, and no secret where something public is
-pub value_kinds : (k l : Kind) (m n : Label) → length (value_rules (record { kind = k; label = m }) (word l n)) ≡ 0 → (l ≡ k) × (m ≡ Public → n ≡ Public)
-value_kinds k l m n none =
-    let uneven = widths_differ (word k m) (word l n) in
-    let alike = are_alike (word k m) (word l n) in
-    let wrong = when (not alike) WrongKind in
-    let told = when (not (is_secret m) && is_secret n) SecretToPublic in
-    let two = none_left (when uneven WidthsDiffer ++ wrong) told none in (
-      one_kind k l m n (not_when uneven WidthsDiffer (none_left (when uneven WidthsDiffer) wrong two)) (is_met alike WrongKind (none_right (when uneven WidthsDiffer) wrong two)),
-      labels_agree m n (not_when (not (is_secret m) && is_secret n) SecretToPublic (none_right (when uneven WidthsDiffer ++ wrong) told none)),
-    )

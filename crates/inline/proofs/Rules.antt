@@ -1,25 +1,16 @@
 -- Where no rule is violated.
-use Rattle.std.proofs.Common.{◌≡◌, ◌≢◌, Bool, true, false, not, List, [], ◌∷◌, ◌++◌, length, Option, Some, None, is_some, refl, ap, arith, length-append, true≢false}
+use Rattle.std.proofs.Common.{◌≡◌, ◌≢◌, Bool, true, false, not, List, [], ◌∷◌, ◌++◌, length, Some, refl, ap, arith, length-append, true≢false}
 use Rattle.std.proofs.lemmas.Option.{none-some, same_Some}
-use Rattle.word.specs.declared.place.Place.{Place}
 use Rattle.language.specs.declared.rule.Rule.{Rule}
-use Rattle.language.specs.declared.rule.Rule.TheVariants.{UndeclaredName}
 use Rattle.language.specs.declared.signature.Label.TheVariants.{Public, Secret}
-use Rattle.language.specs.declared.typing.Declared.{Declared}
-use Rattle.language.specs.declared.typing.Declared.TheVariants.{Procedure, Variable}
 use Rattle.language.specs.declared.typing.ValueType.{ValueType}
-use Rattle.language.specs.declared.typing.VariableType.{VariableType}
-use Rattle.language.specs.Types.{at, when, unless, is_secret, variable}
+use Rattle.language.specs.Types.{when, unless, is_secret}
 
 pub none_left : {A : Type 0} (xs ys : List A) → length (xs ++ ys) ≡ 0 → length xs ≡ 0
 none_left xs ys h = let e = length-append xs ys in omega (arith, e, h)
 
 pub none_right : {A : Type 0} (xs ys : List A) → length (xs ++ ys) ≡ 0 → length ys ≡ 0
 none_right xs ys h = let e = length-append xs ys in omega (arith, e, h)
-
-pub no_rules : (place : Place) (rules : List Rule) → length (at place rules) ≡ 0 → length rules ≡ 0
-no_rules place [] h = refl
-no_rules place (rule ∷ rules) h = absurd (omega (arith, h))
 
 pub not_when : (holds : Bool) (rule : Rule) → length (when holds rule) ≡ 0 → holds ≡ false
 not_when true rule h = absurd (omega (arith, h))
@@ -30,20 +21,10 @@ pub is_met : (holds : Bool) (rule : Rule) → length (when (not holds) rule) ≡
 is_met true rule h = refl
 is_met false rule h = absurd (omega (arith, h))
 
-pub well_typed : (rules : List Rule) (type : ValueType) → length rules ≡ 0 → unless rules type ≡ Some type
-well_typed [] type h = refl
-well_typed (rule ∷ rules) type h = absurd (omega (arith, h))
-
 -- a node with a type violates no rule, and has the type that its rules give
 pub met : (rules : List Rule) (type word : ValueType) → unless rules type ≡ Some word → (length rules ≡ 0) × (type ≡ word)
 met [] type word h = (refl, same_Some type word h)
 met (rule ∷ rules) type word h = absurd (none-some word h)
-
--- a name that violates no rule is a variable's
-pub a_variable : (place : Place) (what : Option Declared) → length (at place (when (not (is_some (variable what))) UndeclaredName)) ≡ 0 → (v : VariableType) × (what ≡ Some (Variable v))
-a_variable place (Some (Variable v)) h = (v, refl)
-a_variable place (Some (Procedure c)) h = absurd (omega (arith, h))
-a_variable place None h = absurd (omega (arith, h))
 
 pub secret≢public : Secret ≢ Public
 secret≢public h = true≢false (ap is_secret h)
