@@ -1,6 +1,5 @@
-// Bodies with numbered variables, and the same without branches.
+// Bodies with numbered variables.
 
-use branch_removal::{Straight, controls_are_few, remove};
 use coverage::{compiled_procedures_have_compiled_parts, first_uncompiled};
 use inline::{Flat, inline};
 use std::alloc::{AllocError, Global};
@@ -8,7 +7,7 @@ use std::test::Fail;
 use syntax::parse;
 
 /// How many variables and nodes a body has, its statements and its result.
-fn shown_flat(alloc: Global, flat: &Flat) -> Result<String, AllocError> {
+fn shown(alloc: Global, flat: &Flat) -> Result<String, AllocError> {
     format!(in alloc;
         "{} {} {:?} {:?}",
         flat.variables(),
@@ -18,18 +17,8 @@ fn shown_flat(alloc: Global, flat: &Flat) -> Result<String, AllocError> {
     )
 }
 
-/// How many control values straight code takes, its statements and its result.
-fn shown_straight(alloc: Global, straight: &Straight<'_>) -> Result<String, AllocError> {
-    format!(in alloc;
-        "{} {:?} {:?}",
-        straight.controls(),
-        straight.statements(),
-        straight.value()
-    )
-}
-
-/// The export of a text's program, which is its first procedure, as one body and without branches.
-fn passed(alloc: Global, text: &str) -> Result<(String, String), Fail> {
+/// The export of a text's program, which is its first procedure, as one body with numbered variables.
+fn inlined(alloc: Global, text: &str) -> Result<Flat, Fail> {
     let program = parse(alloc, text)?;
     if first_uncompiled(&program).is_some() {
         return Err(Fail::from("not compiled"));
@@ -41,10 +30,7 @@ fn passed(alloc: Global, text: &str) -> Result<(String, String), Fail> {
         return Err(Fail::from("no export"));
     }
     compiled_procedures_have_compiled_parts();
-    let flat = inline(alloc, export)?;
-    controls_are_few();
-    let straight = remove(alloc, &flat)?;
-    Ok((shown_flat(alloc, &flat)?, shown_straight(alloc, &straight)?))
+    Ok(inline(alloc, export)?)
 }
 
 /// Texts and their bodies: each declaration has a number of its own, and each node the width of its left
@@ -72,37 +58,9 @@ const BODIES: &[(&str, &str)] = &[
 #[test]
 fn variables_have_numbers(rt: HostRuntime) -> Result<(), Fail> {
     for (text, wanted) in BODIES {
-        let (flat, _) = passed(rt.alloc(), text)?;
-        assert!(rt; flat.as_str() == *wanted, "{flat}");
-    }
-    Ok(())
-}
-
-/// Texts and their straight code: each conditional takes the same control values.
-const STRAIGHT: &[(&str, &str)] = &[
-    (
-        "export secret uint32 choose(secret bool c, secret bool d) {
-            secret mut uint32 x = 5;
-            if (c) { x = 6; } else { secret uint32 y = 8; x = y; }
-            if (d) { x = 7; }
-            return x;
-        }",
-        "2 [Set(2, Number(5, Uint32)), Take(0, None, Variable(0)), SetUnder(0, 2, Number(6, Uint32)), Set(3, Number(8, Uint32)), SetUnder(1, 2, Variable(3)), Take(0, None, Variable(1)), SetUnder(0, 2, Number(7, Uint32))] Some(Variable(2))",
-    ),
-    (
-        "export void turn(secret uint8 a, secret bool c) {
-            secret mut uint8 x = a;
-            if (c && x < 9u8) { x = -(x <<< 3); }
-        }",
-        "2 [Set(2, Variable(0)), Take(0, None, Binary(Both, W8, Variable(1), Binary(Less, W8, Variable(2), Number(9, Uint8)))), SetUnder(0, 2, Prefix(Negate, W8, Rotate(W8, Variable(2), 3)))] None",
-    ),
-];
-
-#[test]
-fn no_branch_is_left(rt: HostRuntime) -> Result<(), Fail> {
-    for (text, wanted) in STRAIGHT {
-        let (_, straight) = passed(rt.alloc(), text)?;
-        assert!(rt; straight.as_str() == *wanted, "{straight}");
+        let flat = inlined(rt.alloc(), text)?;
+        let shown = shown(rt.alloc(), &flat)?;
+        assert!(rt; shown.as_str() == *wanted, "{shown}");
     }
     Ok(())
 }
