@@ -1,5 +1,5 @@
 // Worked examples: what no command reaches, as the calls of the layers below give it: rules of what is not
-// compiled yet, meanings within budgets, arguments that are arrays, and bodies between the passes; and
+// compiled yet, meanings within budgets, arguments that are arrays, and bodies with numbered variables; and
 // programs with their violations and meanings, as the definitions give them. They stand here, above the
 // layers, so that no large layer is proved a second time for its tests.
 #![tactic(auto)]
@@ -11,4 +11,4 @@ mod checking;
 #[cfg(test)]
 mod evaluating;
 #[cfg(test)]
-mod passing;
+mod inlining;

@@ -7,7 +7,7 @@ use std::test::Fail;
 use syntax::parse;
 
 /// How many variables and nodes a body has, its statements and its result.
-fn shown_flat(alloc: Global, flat: &Flat) -> Result<String, AllocError> {
+fn shown(alloc: Global, flat: &Flat) -> Result<String, AllocError> {
     format!(in alloc;
         "{} {} {:?} {:?}",
         flat.variables(),
@@ -17,8 +17,8 @@ fn shown_flat(alloc: Global, flat: &Flat) -> Result<String, AllocError> {
     )
 }
 
-/// The export of a text's program, which is its first procedure, as one body.
-fn passed(alloc: Global, text: &str) -> Result<String, Fail> {
+/// The export of a text's program, which is its first procedure, as one body with numbered variables.
+fn inlined(alloc: Global, text: &str) -> Result<Flat, Fail> {
     let program = parse(alloc, text)?;
     if first_uncompiled(&program).is_some() {
         return Err(Fail::from("not compiled"));
@@ -30,8 +30,7 @@ fn passed(alloc: Global, text: &str) -> Result<String, Fail> {
         return Err(Fail::from("no export"));
     }
     compiled_procedures_have_compiled_parts();
-    let flat = inline(alloc, export)?;
-    Ok(shown_flat(alloc, &flat)?)
+    Ok(inline(alloc, export)?)
 }
 
 /// Texts and their bodies: each declaration has a number of its own, and each node the width of its left
@@ -59,8 +58,9 @@ const BODIES: &[(&str, &str)] = &[
 #[test]
 fn variables_have_numbers(rt: HostRuntime) -> Result<(), Fail> {
     for (text, wanted) in BODIES {
-        let flat = passed(rt.alloc(), text)?;
-        assert!(rt; flat.as_str() == *wanted, "{flat}");
+        let flat = inlined(rt.alloc(), text)?;
+        let shown = shown(rt.alloc(), &flat)?;
+        assert!(rt; shown.as_str() == *wanted, "{shown}");
     }
     Ok(())
 }

@@ -2,7 +2,7 @@ use Rattle.std.proofs.Common.{[], not, sym, ap, ◌∙◌}
 use Rattle.std.specs.List.{slice_get}
 use Rattle.language.specs.Tree.{procedure_tree, program_tree}
 use Rattle.worked_examples.proofs.Exports.{nothing_found, first_exported}
-use Rattle.worked_examples.proofs.passing.passed.Goals as goal
+use Rattle.worked_examples.proofs.inlining.inlined.Goals as goal
 
 pub inline-requires : goal.inline-requires
 inline-requires c =
