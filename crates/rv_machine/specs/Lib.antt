@@ -15,4 +15,3 @@ pub mod Registers
 pub mod SignedWords
 pub mod Sizes
 pub mod Stops
-pub mod TurnRecording

@@ -1,8 +1,9 @@
 // A hart: the program counter and the registers.
 
-ghost use Rattle.std.specs.Prelude.{◌≡◌, ◌+◌, ◌%◌, ◌^◌, slice_index};
+ghost use Rattle.std.specs.Prelude.{◌≡◌, ◌+◌, ◌%◌, ◌^◌};
 
 use rv_code::Reg;
+use std::marker::Model;
 use word::Width;
 
 /// A program counter and 32 registers, of which x0 holds 0.
@@ -10,7 +11,17 @@ use word::Width;
 pub struct Hart {
     pc: u32,
     registers: [u32; 32],
-    ghost zero: { slice_index registers 0 ≡ 0 },
+}
+
+impl Model for Hart {
+    ghost use Rattle.std.specs.Prelude.{◌≡◌, slice_index};
+    ghost use Rattle.rv_machine.specs.Registers.{HartState};
+
+    ghost Value = { HartState };
+
+    ghost view = { λ hart. record { pc = hart.pc; registers = hart.registers } };
+
+    ghost invariant = { λ hart. slice_index hart.registers 0 ≡ 0 };
 }
 
 impl Hart {

@@ -6,12 +6,26 @@ ghost use Rattle.word.specs.Counts.{one_more};
 use crate::observation::Observation;
 use crate::recording::Recorder;
 use std::alloc::{AllocError, Global};
+use std::marker::Model;
 
 /// Keeps every observation.
 #[derive(Drop)]
 pub struct ListRecorder {
     items: Vec<Observation>,
     refusals: u64,
+}
+
+impl Model for ListRecorder {
+    ghost use Rattle.std.specs.Prelude.{◌-◌, vec_len, vec_capacity};
+    ghost use Rattle.rv_machine.specs.ListRecording.{Recorded};
+
+    ghost Value = { Recorded };
+
+    ghost view = { λ r. record {
+      kept = r.items.items;
+      refusals = r.refusals;
+      room = vec_capacity r.items - vec_len r.items;
+    } };
 }
 
 impl ListRecorder {
@@ -37,8 +51,7 @@ impl ListRecorder {
 }
 
 impl Recorder for ListRecorder {
-    ghost use Rattle.std.specs.Prelude.{ℕ, ◌+◌, ◌≤◌, vec_len, vec_capacity};
-    ghost use Rattle.rv_machine.specs.ListRecording.{recorded, refused};
+    ghost use Rattle.rv_machine.specs.ListRecording.{recorded, refused, has_room};
 
     ghost KEEPS = { true };
 
@@ -46,7 +59,7 @@ impl Recorder for ListRecorder {
 
     ghost refusals = { refused };
 
-    ghost is_ready = { λ r n. vec_len r.items + n ≤ vec_capacity r.items };
+    ghost is_ready = { has_room };
 
     const KEEPS: bool = true;
 

@@ -1,13 +1,14 @@
 // The recorder of one turn.
 
 ghost use Rattle.std.specs.Prelude.{◌≡◌, []};
-ghost use Rattle.rv_machine.specs.TurnRecording.{turn_seen, turn_refused, has_room};
+ghost use Rattle.rv_machine.specs.ListRecording.{recorded, refused, has_room};
 ghost use Rattle.word.specs.Counts.{one_more};
 
 use crate::observation::Observation;
 use crate::recording::Recorder;
 use smallvec::SmallVec;
 use std::alloc::{AllocError, Global};
+use std::marker::Model;
 
 /// Keeps observations, the first of them in itself: for one turn it takes no memory.
 #[derive(Drop)]
@@ -16,12 +17,26 @@ pub struct TurnRecorder {
     refusals: u64,
 }
 
+impl Model for TurnRecorder {
+    ghost use Rattle.std.specs.Prelude.{◌-◌};
+    ghost use Rattle.smallvec.specs.SmallVec.{small_vec_len};
+    ghost use Rattle.rv_machine.specs.ListRecording.{Recorded};
+
+    ghost Value = { Recorded };
+
+    ghost view = { λ r. record {
+      kept = r.seen.items;
+      refusals = r.refusals;
+      room = r.seen.capacity - small_vec_len r.seen;
+    } };
+}
+
 impl TurnRecorder {
     /// One that has kept nothing yet. What goes beyond one observation takes its memory from this
     /// allocator.
     pub fn new(alloc: Global) -> TurnRecorder
-        ensures empty { turn_seen result ≡ [] }
-        ensures none_refused { turn_refused result ≡ 0 }
+        ensures empty { recorded result ≡ [] }
+        ensures none_refused { refused result ≡ 0 }
         ensures ready { has_room result 1 }
     {
         TurnRecorder {
@@ -32,7 +47,7 @@ impl TurnRecorder {
 
     /// What has been kept, from first to last.
     pub fn seen(&self) -> &[Observation]
-        ensures { result.now ≡ turn_seen self.now }
+        ensures { result.now ≡ recorded self.now }
     {
         self.seen.as_slice()
     }
@@ -40,13 +55,13 @@ impl TurnRecorder {
 
 impl Recorder for TurnRecorder {
     ghost use Rattle.std.specs.Prelude.{true};
-    ghost use Rattle.rv_machine.specs.TurnRecording.{turn_seen, turn_refused, has_room};
+    ghost use Rattle.rv_machine.specs.ListRecording.{recorded, refused, has_room};
 
     ghost KEEPS = { true };
 
-    ghost list = { turn_seen };
+    ghost list = { recorded };
 
-    ghost refusals = { turn_refused };
+    ghost refusals = { refused };
 
     ghost is_ready = { has_room };
 
