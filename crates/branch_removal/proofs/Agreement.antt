@@ -2,9 +2,9 @@
 use Rattle.std.proofs.Common.{◌≡◌, ℕ, ◌==◌, Bool, true, false, cond, Option, None, Some, refl, ap, ap₂, ◌∙◌}
 use Rattle.std.specs.Option.{option_map}
 use Rattle.word.specs.Operators.{rotated_left, converted}
-use Rattle.inline.specs.Flat.{TermTree, number, truth, variable, prefix, binary, rotate, convert, select}
+use Rattle.inline.specs.Flat.{TermTree}
 use Rattle.inline.specs.FlatMeaning.{Values, with_value, value_in}
-use Rattle.inline.specs.FlatTyping.{Types, with_type, HasType, IsResult}
+use Rattle.inline.specs.FlatTyping.{Types, with_type, HasType, of_number, of_truth, of_variable, of_prefix, of_binary, of_rotation, of_conversion, of_selection, IsResult}
 use Rattle.language.specs.declared.typing.WordType.{WordType}
 use Rattle.language.specs.Operators.{operated, prefix_value, width_of}
 
@@ -14,19 +14,16 @@ pub record Agree (types : Types) (m n : Values) : Type 0 where
 
 pub one_value : (types : Types) (m n : Values) → Agree types m n
     → (term : TermTree) (word : WordType) → HasType types term word → value_in m term ≡ value_in n term
-one_value types m n agree (number value kind) word typed = refl
-one_value types m n agree (truth value) word typed = refl
-one_value types m n agree (variable x) word typed = agree.same x word typed
-one_value types m n agree (prefix operator width operand) word typed =
-    ap (prefix_value operator width) (one_value types m n agree operand typed.0 typed.1)
-one_value types m n agree (binary operator width left right) word typed =
-    ap₂ (operated operator width) (one_value types m n agree left typed.0 typed.2) (one_value types m n agree right typed.1 typed.3)
-one_value types m n agree (rotate width operand amount) word typed =
-    ap (λ v. rotated_left width v amount) (one_value types m n agree operand typed.0 typed.1)
-one_value types m n agree (convert kind operand) word typed =
-    ap (converted (width_of kind)) (one_value types m n agree operand typed.0 typed.1)
-one_value types m n agree (select condition accepted otherwise) word typed =
-    rw (one_value types m n agree condition typed.0 typed.3, one_value types m n agree accepted typed.1 typed.4, one_value types m n agree otherwise typed.2 typed.5) refl
+one_value types m n agree term word (of_number below) = refl
+one_value types m n agree term word of_truth = refl
+one_value types m n agree term word (of_variable {x = x} is) = agree.same x word is
+one_value types m n agree term word (of_prefix {operator = operator} {width = width} has takes even) = ap (prefix_value operator width) (one_value types m n agree _ _ has)
+one_value types m n agree term word (of_binary {operator = operator} {width = width} has more makes undivided even) =
+    ap₂ (operated operator width) (one_value types m n agree _ _ has) (one_value types m n agree _ _ more)
+one_value types m n agree term word (of_rotation {width = width} {amount = amount} has numeric low high even) = ap (λ v. rotated_left width v amount) (one_value types m n agree _ _ has)
+one_value types m n agree term word (of_conversion {kind = kind} has numeric) = ap (converted (width_of kind)) (one_value types m n agree _ _ has)
+one_value types m n agree term word (of_selection chooser has more) =
+    rw (one_value types m n agree _ _ chooser, one_value types m n agree _ _ has, one_value types m n agree _ _ more) refl
 
 -- so has a result, where there is one
 pub one_result : (types : Types) (m n : Values) → Agree types m n

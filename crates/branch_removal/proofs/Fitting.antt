@@ -1,19 +1,14 @@
 -- Where each variable in scope has a value of its kind, machine words can stand for a well-typed expression.
-use Rattle.std.proofs.Common.{◌≡◌, ℕ, ◌^◌, ◌<◌, ◌==◌, Bool, true, false, not, ◌&&◌, cond, ◌++◌, Option, None, Some, refl, sym, ap, ◌∙◌, subst, arith}
-use Rattle.std.proofs.lemmas.Bool.{false≢true, cond_both, eqb-true}
-use Rattle.std.proofs.lemmas.Option.{none-some, same_Some}
+use Rattle.std.proofs.Common.{◌≡◌, ℕ, ◌^◌, ◌<◌, ◌==◌, Bool, true, false, cond, Option, None, Some, sym, ap, ◌∙◌, subst, arith}
+use Rattle.std.proofs.lemmas.Bool.{cond_both, eqb-true}
+use Rattle.std.proofs.lemmas.Option.{same_Some}
 use Rattle.inline.specs.Fitting.{Fits, IsWithinKind}
-use Rattle.inline.specs.Flat.{TermTree, number, truth, variable, prefix, binary, rotate, convert, select}
+use Rattle.inline.specs.Flat.{TermTree}
 use Rattle.inline.specs.FlatMeaning.{Values, with_value, value_in}
-use Rattle.inline.specs.FlatTyping.{Types, with_type, HasType, IsResult, Suits}
-use Rattle.language.specs.declared.rule.Rule.{Rule}
+use Rattle.inline.specs.FlatTyping.{Types, with_type, HasType, of_number, of_truth, of_variable, of_prefix, of_binary, of_rotation, of_conversion, of_selection, IsResult, Suits}
 use Rattle.language.specs.declared.signature.Kind.{Kind}
 use Rattle.language.specs.declared.signature.Kind.TheVariants.{Boolean, Uint8, Uint16, Uint32}
-use Rattle.language.specs.declared.typing.ValueType.{ValueType}
-use Rattle.language.specs.declared.typing.ValueType.TheVariants.{Word}
 use Rattle.language.specs.declared.typing.WordType.{WordType}
-use Rattle.language.specs.ExprTyping.{select_type}
-use Rattle.language.specs.Types.{is_number, are_alike, widths_differ, when, unless}
 use Rattle.branch_removal.specs.Fitness.{IsFit, IsFitResult}
 
 -- a value of any kind is a word
@@ -27,22 +22,6 @@ is_word Uint32 v h = h
 pub is_bit : (kind : Kind) (v : ℕ) → kind ≡ Boolean → IsWithinKind kind v → v < 2
 is_bit kind v is h = subst (λ k. IsWithinKind k v) is h
 
-second_is_met : (p q : Bool) (rule other : Rule) (a b : ValueType) → unless (when p rule ++ when (not q) other) a ≡ Some b → q ≡ true
-second_is_met true q rule other a b h = absurd (none-some _ h)
-second_is_met false true rule other a b h = refl
-second_is_met false false rule other a b h = absurd (none-some _ h)
-
-not_number : (kind : Kind) (more : Bool) → (not (is_number kind) && more) ≡ true → kind ≡ Boolean
-not_number Boolean more h = refl
-not_number Uint8 more h = absurd (false≢true h)
-not_number Uint16 more h = absurd (false≢true h)
-not_number Uint32 more h = absurd (false≢true h)
-
--- what chooses is a bool
-chooses : (chooser one other word : WordType) → select_type (Word chooser) (Word one) (Word other) ≡ Some (Word word) → chooser.kind ≡ Boolean
-chooses chooser one other word h =
-    not_number chooser.kind (are_alike (Word one) (Word other)) (second_is_met (widths_differ (Word one) (Word other)) _ _ _ _ _ h)
-
 -- each well-typed expression has a value of its kind
 abbrev pub ValuesFit : Type 0
 ValuesFit = (types : Types) (m : Values) (e : TermTree) (word : WordType) → Fits types m → HasType types e word → IsWithinKind word.kind (value_in m e)
@@ -53,19 +32,14 @@ SuitedFit = (types : Types) (m : Values) (e : TermTree) (wanted : WordType) → 
 
 module _ (values_fit : ValuesFit) (types : Types) (m : Values) (fits : Fits types m) where
   pub is_fit : (term : TermTree) (word : WordType) → HasType types term word → IsFit m term
-  is_fit (number value kind) word typed = is_word kind value typed.0
-  is_fit (truth value) word typed = tt
-  is_fit (variable x) word typed = is_word word.kind (m x) (fits x word typed)
-  is_fit (prefix operator width operand) word typed = is_fit operand typed.0 typed.1
-  is_fit (binary operator width left right) word typed = (typed.5, is_fit left typed.0 typed.2, is_fit right typed.1 typed.3)
-  is_fit (rotate width operand amount) word typed = is_fit operand typed.0 typed.1
-  is_fit (convert kind operand) word typed = is_fit operand typed.0 typed.1
-  is_fit (select condition accepted otherwise) word typed = (
-    is_bit typed.0.kind (value_in m condition) (chooses typed.0 typed.1 typed.2 word typed.6) (values_fit types m condition typed.0 fits typed.3),
-    is_fit condition typed.0 typed.3,
-    is_fit accepted typed.1 typed.4,
-    is_fit otherwise typed.2 typed.5,
-  )
+  is_fit term word (of_number {value = value} {kind = kind} below) = is_word kind value below
+  is_fit term word of_truth = tt
+  is_fit term word (of_variable {x = x} is) = is_word word.kind (m x) (fits x word is)
+  is_fit term word (of_prefix has takes even) = is_fit _ _ has
+  is_fit term word (of_binary has more makes undivided even) = (undivided, is_fit _ _ has, is_fit _ _ more)
+  is_fit term word (of_rotation has numeric low high even) = is_fit _ _ has
+  is_fit term word (of_conversion has numeric) = is_fit _ _ has
+  is_fit term word (of_selection {condition = condition} chooser has more) = (values_fit types m condition _ fits chooser, is_fit _ _ chooser, is_fit _ _ has, is_fit _ _ more)
 
   pub result_fit : (returned : Option WordType) (value : Option TermTree) → IsResult types returned value → IsFitResult m value
   result_fit None None result = tt

@@ -2,9 +2,6 @@ mod NumberingLemmas
 mod RowLemmas
 mod SizeLemmas
 pub mod Lookup
-pub mod Rules
-pub mod OperandKinds
-pub mod NodeTypes
 pub mod Linked
 pub mod Terms
 pub mod FlatTypes

@@ -1,16 +1,19 @@
 -- The value of a public expression depends on public variables alone.
-use Rattle.std.proofs.Common.{◌≡◌, ℕ, ◌==◌, if◌then◌else◌, Some, refl, ap, ap₂, ◌∙◌}
+use Rattle.std.proofs.Common.{◌≡◌, ◌≢◌, ℕ, ◌==◌, if◌then◌else◌, Some, refl, ap, ap₂, ◌∙◌, true≢false}
 use Rattle.word.specs.Operators.{converted, rotated_left}
-use Rattle.inline.specs.Flat.{TermTree, number, truth, variable, prefix, binary, rotate, convert, select}
+use Rattle.inline.specs.Flat.{TermTree}
 use Rattle.inline.specs.FlatMeaning.{Values, value_in}
-use Rattle.inline.specs.FlatTyping.{Types, HasType, Suits}
+use Rattle.inline.specs.FlatTyping.{Types, HasType, of_number, of_truth, of_variable, of_prefix, of_binary, of_rotation, of_conversion, of_selection, Suits}
 use Rattle.language.specs.declared.signature.Label.{Label}
 use Rattle.language.specs.declared.signature.Label.TheVariants.{Public, Secret}
+use Rattle.language.specs.declared.typing.Operation.{Operation}
 use Rattle.language.specs.declared.typing.WordType.{WordType}
 use Rattle.language.specs.Operators.{operated, prefix_value, width_of}
-use Rattle.language.specs.Types.{joined}
-use Rattle.inline.proofs.NodeTypes.{prefix_typed, binary_typed, rotate_typed, convert_typed, select_typed}
-use Rattle.inline.proofs.Rules.{secret≢public}
+use Rattle.language.specs.Types.{joined, is_secret}
+use Rattle.language.specs.WellTyped.{Makes, arithmetic, multiplication, division, shift, equality, order, logic}
+
+pub secret≢public : Secret ≢ Public
+secret≢public h = true≢false (ap is_secret h)
 
 both_public : (m n : Label) → joined m n ≡ Public → (m ≡ Public) × (n ≡ Public)
 both_public Public n h = (refl, h)
@@ -20,30 +23,33 @@ both_public Secret n h = absurd (secret≢public h)
 abbrev pub SamePublic : Types → Values → Values → Type 0
 SamePublic types one other = (x : ℕ) (word : WordType) → types x ≡ Some word → word.label ≡ Public → one x ≡ other x
 
+-- what is made of two words is public only where both are
+public_operands : {operation : Operation} {a b whole : WordType} → Makes operation a b whole → whole.label ≡ Public → (a.label ≡ Public) × (b.label ≡ Public)
+public_operands (arithmetic {l = l} {m = m} numeric) label = both_public l m label
+public_operands (multiplication {l = l} {m = m} numeric) label = both_public l m label
+public_operands (division numeric) label = (refl, refl)
+public_operands (shift {l = l} {m = m} numeric) label = both_public l m label
+public_operands (equality {l = l} {m = m}) label = both_public l m label
+public_operands (order {l = l} {m = m} numeric) label = both_public l m label
+public_operands (logic {l = l} {m = m}) label = both_public l m label
+
 module _ (types : Types) (one other : Values) (same : SamePublic types one other) where
-  pub public_value : (e : TermTree) (whole : WordType) → HasType types e whole → whole.label ≡ Public → value_in one e ≡ value_in other e
-  public_value (number value kind) whole typed label = refl
-  public_value (truth value) whole typed label = refl
-  public_value (variable x) whole typed label = same x whole typed label
-  public_value (prefix operator width operand) whole typed label =
-      let node = prefix_typed operator typed.0 whole typed.3 in
-      ap (prefix_value operator width) (public_value operand _ typed.1 (ap (λ (t : WordType). t.label) node.1 ∙ label))
-  public_value (binary operator width left right) whole typed label =
-      let node = binary_typed operator typed.0 typed.1 whole typed.6 in
-      let labels = both_public typed.0.label typed.1.label (ap (λ (t : WordType). t.label) node.1 ∙ label) in
-      ap₂ (operated operator width) (public_value left _ typed.2 labels.0) (public_value right _ typed.3 labels.1)
-  public_value (rotate width operand amount) whole typed label =
-      let node = rotate_typed amount typed.0 whole typed.3 in
-      ap (λ v. rotated_left width v amount) (public_value operand _ typed.1 (ap (λ (t : WordType). t.label) node.1 ∙ label))
-  public_value (convert kind operand) whole typed label =
-      ap (converted (width_of kind)) (public_value operand _ typed.1 (ap (λ (t : WordType). t.label) (convert_typed kind typed.0 whole typed.3) ∙ label))
-  public_value (select condition accepted otherwise) whole typed label =
-      let node = select_typed typed.0 typed.1 typed.2 whole typed.6 in
-      let outer = both_public typed.0.label (joined typed.1.label typed.2.label) (ap (λ (t : WordType). t.label) node.1 ∙ label) in
-      let labels = both_public typed.1.label typed.2.label outer.1 in
-      ap (λ z. if z == 0 then value_in one otherwise else value_in one accepted) (public_value condition _ typed.3 outer.0)
-      ∙ ap₂ (λ z u. if value_in other condition == 0 then z else u) (public_value otherwise _ typed.5 labels.1) (public_value accepted _ typed.4 labels.0)
+  pub public_value : {e : TermTree} {whole : WordType} → HasType types e whole → whole.label ≡ Public → value_in one e ≡ value_in other e
+  public_value (of_number below) label = refl
+  public_value of_truth label = refl
+  public_value (of_variable {x = x} {word = word} is) label = same x word is label
+  public_value (of_prefix {operator = operator} {width = width} has takes even) label = ap (prefix_value operator width) (public_value has label)
+  public_value (of_binary {operator = operator} {width = width} has more makes undivided even) label =
+      let labels = public_operands makes label in
+      ap₂ (operated operator width) (public_value has labels.0) (public_value more labels.1)
+  public_value (of_rotation {width = width} {amount = amount} has numeric low high even) label = ap (λ v. rotated_left width v amount) (public_value has label)
+  public_value (of_conversion {kind = kind} has numeric) label = ap (converted (width_of kind)) (public_value has label)
+  public_value (of_selection {condition = condition} {accepted = accepted} {otherwise = otherwise} {l = l} {m = m} {n = n} chooser has more) label =
+      let outer = both_public l (joined m n) label in
+      let labels = both_public m n outer.1 in
+      ap (λ z. if z == 0 then value_in one otherwise else value_in one accepted) (public_value chooser outer.0)
+      ∙ ap₂ (λ z u. if value_in other condition == 0 then z else u) (public_value more labels.1) (public_value has labels.0)
 
   -- so does what suits where a public value is wanted
   pub public_suited : (wanted : WordType) (e : TermTree) → Suits types wanted e → wanted.label ≡ Public → value_in one e ≡ value_in other e
-  public_suited wanted e suits label = public_value e suits.word suits.has_type (suits.label label)
+  public_suited wanted e suits label = public_value suits.has_type (suits.label label)

@@ -8,8 +8,7 @@ use Rattle.language.specs.declared.signature.Label.{Label}
 use Rattle.language.specs.declared.signature.Label.TheVariants.{Public, Secret}
 use Rattle.language.specs.declared.typing.WordType.{WordType}
 use Rattle.language.specs.Types.{joined}
-use Rattle.inline.proofs.PublicTerms.{SamePublic, public_value, public_suited}
-use Rattle.inline.proofs.Rules.{secret≢public}
+use Rattle.inline.proofs.PublicTerms.{SamePublic, public_value, public_suited, secret≢public}
 use Rattle.inline.proofs.TypesKept.{with_value-other, new_number, type_kept, types_kept}
 
 still_secret : (label control : Label) → control ≡ Secret → joined label control ≡ Secret
@@ -64,7 +63,7 @@ rewritten types one other y v w known there equal same x word is = written types
 module _ (types : Types) (one other : Values) (condition : TermTree) (word : WordType) (typed : HasType types condition word) (same : SamePublic types one other) where
   same_arm : (a b c d : Values) → word.label ≡ Public → SamePublic types a c → SamePublic types b d → SamePublic types (if value_in one condition == 0 then b else a) (if value_in other condition == 0 then d else c)
   same_arm a b c d plain here there x known is label =
-      ap (λ z. (if z == 0 then b else a) x) (public_value types one other same condition word typed plain) ∙ by_test (value_in other condition == 0)
+      ap (λ z. (if z == 0 then b else a) x) (public_value types one other same typed plain) ∙ by_test (value_in other condition == 0)
     where
       by_test : (t : Bool) → (if t then b else a) x ≡ (if t then d else c) x
       by_test true = there x known is label

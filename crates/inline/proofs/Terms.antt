@@ -1,9 +1,10 @@
 -- A well-typed expression keeps its type and its value once its names are numbers.
-use Rattle.std.proofs.Common.{◌≡◌, ℕ, ◌==◌, ◌&&◌, Bool, true, false, not, if◌then◌else◌, List, [], ◌∷◌, Some, None, refl, sym, ap, ap₂, ◌∙◌, subst}
+use Rattle.std.proofs.Common.{◌≡◌, ℕ, ◌==◌, ◌&&◌, Bool, true, false, not, if◌then◌else◌, List, [], ◌∷◌, Some, refl, sym, ap, ap₂, ◌∙◌, subst}
 use Rattle.word.specs.Operators.{rotated_left}
 use Rattle.coverage.specs.Compiled.{IsCompiledExpr}
 use Rattle.inline.specs.declared.numbering.Numbered.{Numbered}
 use Rattle.inline.specs.FlatMeaning.{Values, value_in}
+use Rattle.inline.specs.FlatTyping as flat
 use Rattle.inline.specs.FlatTyping.{Types, HasType, Suits}
 use Rattle.inline.specs.Numbering as numbering
 use Rattle.inline.specs.Numbering.{Numbers, number_of, kind_in, term}
@@ -12,22 +13,21 @@ use Rattle.language.specs.declared.signature.Kind.{Kind}
 use Rattle.language.specs.declared.signature.Kind.TheVariants.{Boolean}
 use Rattle.language.specs.declared.signature.Label.{Label}
 use Rattle.language.specs.declared.signature.Label.TheVariants.{Public}
+use Rattle.language.specs.declared.typing.Operation.{Operation}
 use Rattle.language.specs.declared.typing.ValueType.TheVariants.{Word}
 use Rattle.language.specs.declared.typing.VariableType.{VariableType}
 use Rattle.language.specs.declared.typing.WordType.{WordType}
-use Rattle.language.specs.ExprTyping.{type_of, operation_of, operation_kind, prefix_type, binary_type, rotate_type, convert_type, select_type}
+use Rattle.language.specs.ExprTyping.{operation_of, operation_kind}
 use Rattle.language.specs.Grammatical.{AreSmall}
 use Rattle.language.specs.Meaning.{Evaluates, by_operands, none_left as none_evaluated, one_more, gives, faults, word_held}
 use Rattle.language.specs.Operators.{operated, prefix_value, width_of, binary_word}
 use Rattle.language.specs.State.{State, single}
 use Rattle.language.specs.State as state
 use Rattle.language.specs.Tree.{ExprTree, number, truth, name, prefix, binary, rotate, convert, select}
-use Rattle.language.specs.Types.{Scope, of_one, of_two, of_three, word}
+use Rattle.language.specs.Types.{Scope}
 use Rattle.language.specs.WellTyped as rules
 use Rattle.language.specs.WellTyped.{labelled}
 use Rattle.inline.proofs.Linked.{Linked, entry, number_known, kind_known}
-use Rattle.inline.proofs.NodeTypes.{binary_typed}
-use Rattle.typing_laws.proofs.Expressions.{expressions}
 
 -- each variable in scope has the value of its number
 abbrev pub Shows : Numbers → Types → State → Values → Type 0
@@ -47,6 +47,16 @@ picked : (is_zero : Bool) (k : Kind) (a b : ℕ) → (if not is_zero then word_a
 picked true k a b = refl
 picked false k a b = refl
 
+-- the kind of what is made of two words
+made_kind : {operation : Operation} {one other whole : WordType} → rules.Makes operation one other whole → operation_kind operation one.kind ≡ whole.kind
+made_kind (rules.arithmetic numeric) = refl
+made_kind (rules.multiplication numeric) = refl
+made_kind (rules.division numeric) = refl
+made_kind (rules.shift numeric) = refl
+made_kind rules.equality = refl
+made_kind (rules.order numeric) = refl
+made_kind rules.logic = refl
+
 -- a variable that is a word: its number
 pub record KnownWord (names : Numbers) (types : Types) (text : List ℕ) (word : WordType) : Type 0 where
   pub number : ℕ
@@ -65,35 +75,31 @@ module _ (scope : Scope) (names : Numbers) (types : Types) (n : ℕ) (linked : L
       same_word : (a b : WordType) → Word a ≡ Word b → a ≡ b
       same_word a b h = cc
 
-  type_is : {e : ExprTree} {type : WordType} → rules.HasType scope e (Word type) → type_of scope e ≡ Some (Word type)
-  type_is {e} {type} has = (expressions.type scope e (Word type)).1 has
-
   pub means : {e : ExprTree} {type : WordType} → rules.HasType scope e (Word type) → IsCompiledExpr e → AreSmall e → Means names types e type
   means (rules.of_number {place = place} {value = value} {kind = kind} below) compiled small = record {
     kind = refl;
-    typed = (below, refl);
+    typed = flat.of_number below;
     value = λ s m shows. by_operands (number place value kind) [] none_evaluated;
   }
   means (rules.of_truth {place = place} {value = value}) compiled small = record {
     kind = refl;
-    typed = refl;
+    typed = flat.of_truth;
     value = λ s m shows. by_operands (truth place value) [] none_evaluated;
   }
   means {type = word} (rules.of_name {place = place} {text = text} {mutable = mutable} is) compiled small =
       let k = known_word text word mutable is in
       record {
         kind = k.kind;
-        typed = ap types k.here ∙ k.typed;
+        typed = flat.of_variable (ap types k.here ∙ k.typed);
         value = λ s m shows.
             let held = ap word_held (shows text (entry k.number word) word k.numbered k.typed) ∙ ap (λ x. word_at word.kind (m x)) (sym k.here) in
             subst (λ v. Evaluates s (name place text) (gives v)) held (by_operands (name place text) [] none_evaluated);
       }
   means (rules.of_prefix {place = place} {operator = operator} {operand = operand} {kind = kind} {label = label} has takes) compiled small =
       let a = means has compiled small in
-      let type = sym (ap (of_one None (prefix_type operator)) (type_is has)) ∙ type_is (rules.of_prefix {place = place} {operator = operator} has takes) in
       record {
         kind = a.kind;
-        typed = (labelled kind label, a.typed, ap width_of a.kind, type);
+        typed = flat.of_prefix a.typed takes (ap width_of a.kind);
         value = λ s m shows.
             let x = word_at kind (value_in m (term names operand)) in
             subst (λ w. Evaluates s (prefix place operator operand) (gives (word_at kind (prefix_value operator w x.value)))) (ap width_of (sym a.kind))
@@ -102,11 +108,10 @@ module _ (scope : Scope) (names : Numbers) (types : Types) (n : ℕ) (linked : L
   means (rules.of_binary {place = place} {operator = operator} {left = left} {right = right} {one = one} {other = other} {whole = whole} has more makes) compiled small =
       let a = means has compiled.1 small.0 in
       let b = means more compiled.2 small.1 in
-      let type = sym (ap₂ (of_two None (binary_type operator)) (type_is has) (type_is more)) ∙ type_is (rules.of_binary {place = place} {operator = operator} has more makes) in
-      let kind = ap (λ (w : WordType). w.kind) (binary_typed operator one other whole type).1 in
+      let kind = made_kind makes in
       record {
         kind = ap (operation_kind (operation_of operator)) a.kind ∙ kind;
-        typed = (one, other, a.typed, b.typed, ap width_of a.kind, compiled.0, type);
+        typed = flat.of_binary a.typed b.typed makes compiled.0 (ap width_of a.kind);
         value = λ s m shows.
             let x = word_at one.kind (value_in m (term names left)) in
             let y = word_at other.kind (value_in m (term names right)) in
@@ -117,10 +122,9 @@ module _ (scope : Scope) (names : Numbers) (types : Types) (n : ℕ) (linked : L
       }
   means (rules.of_rotation {place = place} {operand = operand} {amount = amount} {kind = kind} {label = label} has numeric low high) compiled small =
       let a = means has compiled small.0 in
-      let type = sym (ap (of_one None (rotate_type amount)) (type_is has)) ∙ type_is (rules.of_rotation {place = place} has numeric low high) in
       record {
         kind = a.kind;
-        typed = (labelled kind label, a.typed, ap width_of a.kind, type);
+        typed = flat.of_rotation a.typed numeric low high (ap width_of a.kind);
         value = λ s m shows.
             let x = word_at kind (value_in m (term names operand)) in
             subst (λ w. Evaluates s (rotate place operand amount) (gives (word_at kind (rotated_left w x.value amount)))) (ap width_of (sym a.kind))
@@ -128,10 +132,9 @@ module _ (scope : Scope) (names : Numbers) (types : Types) (n : ℕ) (linked : L
       }
   means (rules.of_conversion {place = place} {kind = kind} {other = other} {operand = operand} {label = label} has) compiled small =
       let a = means has compiled small.1 in
-      let type = sym (ap (of_one None (convert_type kind)) (type_is has)) ∙ type_is (rules.of_conversion {place = place} {kind = kind} has) in
       record {
         kind = refl;
-        typed = (labelled other label, a.typed, small.0, type);
+        typed = flat.of_conversion a.typed small.0;
         value = λ s m shows.
             let x = word_at other (value_in m (term names operand)) in
             by_operands (convert place kind operand) (x ∷ []) (one_more operand [] x [] (a.value s m shows) none_evaluated);
@@ -140,11 +143,9 @@ module _ (scope : Scope) (names : Numbers) (types : Types) (n : ℕ) (linked : L
       let c = means chooser compiled.0 small.0 in
       let a = means has compiled.1 small.1 in
       let b = means more compiled.2 small.2 in
-      let type = sym (ap₂ (λ o p. of_three None select_type o p (type_of scope otherwise)) (type_is chooser) (type_is has) ∙ ap (of_three None select_type (Some (word Boolean l)) (Some (word kind j))) (type_is more))
-      ∙ type_is (rules.of_selection {place = place} chooser has more) in
       record {
         kind = a.kind;
-        typed = (labelled Boolean l, labelled kind j, labelled kind k, c.typed, a.typed, b.typed, type);
+        typed = flat.of_selection c.typed a.typed b.typed;
         value = λ s m shows.
             let z = word_at Boolean (value_in m (term names condition)) in
             let x = word_at kind (value_in m (term names accepted)) in

@@ -1,16 +1,20 @@
 -- Types of numbered variables: what is known of a well-typed body once its names are gone.
-use Rattle.std.specs.Prelude.{◌≡◌, ℕ, zero, suc, false, ◌^◌, ◌<◌, ◌==◌, List, [], ◌∷◌, Option, None, Some, if◌then◌else◌}
+use Rattle.std.specs.Prelude.{◌≡◌, ℕ, zero, suc, Bool, false, ◌^◌, ◌<◌, ◌==◌, List, [], ◌∷◌, Option, None, Some, if◌then◌else◌}
 use Rattle.inline.specs.Flat.{TermTree, number, truth, variable, prefix, binary, rotate, convert, select, FlatTree, declare, assign, branch, FlatBlock, nothing, first, FlatProgram}
+use Rattle.language.specs.declared.signature.Kind.{Kind}
 use Rattle.language.specs.declared.signature.Kind.TheVariants.{Boolean}
 use Rattle.language.specs.declared.signature.Label.{Label}
 use Rattle.language.specs.declared.signature.Label.TheVariants.{Public, Secret}
 use Rattle.language.specs.declared.signature.Param.{Param}
+use Rattle.language.specs.declared.tree.BinaryOperator.{BinaryOperator}
+use Rattle.language.specs.declared.tree.PrefixOperator.{PrefixOperator}
 use Rattle.language.specs.declared.typing.WordType.{WordType}
-use Rattle.language.specs.declared.typing.ValueType.TheVariants.{Word}
-use Rattle.language.specs.ExprTyping.{prefix_type, binary_type, rotate_type, convert_type, select_type}
+use Rattle.language.specs.ExprTyping.{operation_of}
 use Rattle.language.specs.Grammatical.{IsNumberKind}
 use Rattle.language.specs.Operators.{divides, width_of}
 use Rattle.language.specs.Types.{bits_of, joined}
+use Rattle.language.specs.WellTyped.{labelled, Makes, Takes}
+use Rattle.word.specs.declared.width.Width.{Width}
 
 -- the types of the variables in scope
 abbrev pub Types : Type 0
@@ -19,27 +23,44 @@ Types = ℕ → Option WordType
 abbrev pub with_type : Types → ℕ → WordType → Types
 with_type types x word = λ y. if y == x then Some word else types y
 
--- an expression of this type, by the rules that the language has for its node. Of the operators those are here that
--- are compiled: none divides.
-abbrev pub HasType : Types → TermTree → WordType → Type 0
-HasType types (number value kind) word = (value < 2 ^ bits_of kind) × (word ≡ record { kind = kind; label = Public })
-HasType types (truth value) word = word ≡ record { kind = Boolean; label = Public }
-HasType types (variable x) word = types x ≡ Some word
-HasType types (prefix operator width operand) word =
-    (one : WordType) × HasType types operand one × (width ≡ width_of one.kind)
-    × (prefix_type operator (Word one) ≡ Some (Word word))
-HasType types (binary operator width left right) word =
-    (one other : WordType) × HasType types left one × HasType types right other × (width ≡ width_of one.kind)
-    × (divides operator ≡ false) × (binary_type operator (Word one) (Word other) ≡ Some (Word word))
-HasType types (rotate width operand amount) word =
-    (one : WordType) × HasType types operand one × (width ≡ width_of one.kind)
-    × (rotate_type amount (Word one) ≡ Some (Word word))
-HasType types (convert kind operand) word =
-    (one : WordType) × HasType types operand one × IsNumberKind kind
-    × (convert_type kind (Word one) ≡ Some (Word word))
-HasType types (select condition accepted otherwise) word =
-    (chooser one other : WordType) × HasType types condition chooser × HasType types accepted one × HasType types otherwise other
-    × (select_type (Word chooser) (Word one) (Word other) ≡ Some (Word word))
+-- an expression of this type, by rules of inference. Of the operators those are here that are compiled: none divides.
+pub data HasType (types : Types) : TermTree → WordType → Type 0 where
+  of_number : {value : ℕ} {kind : Kind}
+      → value < 2 ^ bits_of kind
+      → HasType types (number value kind) (labelled kind Public)
+  of_truth : {value : Bool}
+      → HasType types (truth value) (labelled Boolean Public)
+  of_variable : {x : ℕ} {word : WordType}
+      → types x ≡ Some word
+      → HasType types (variable x) word
+  of_prefix : {operator : PrefixOperator} {width : Width} {operand : TermTree} {kind : Kind} {label : Label}
+      → HasType types operand (labelled kind label)
+      → Takes operator kind
+      → width ≡ width_of kind
+      → HasType types (prefix operator width operand) (labelled kind label)
+  of_binary : {operator : BinaryOperator} {width : Width} {left right : TermTree} {one other whole : WordType}
+      → HasType types left one
+      → HasType types right other
+      → Makes (operation_of operator) one other whole
+      → divides operator ≡ false
+      → width ≡ width_of one.kind
+      → HasType types (binary operator width left right) whole
+  of_rotation : {width : Width} {operand : TermTree} {amount : ℕ} {kind : Kind} {label : Label}
+      → HasType types operand (labelled kind label)
+      → IsNumberKind kind
+      → 0 < amount
+      → amount < bits_of kind
+      → width ≡ width_of kind
+      → HasType types (rotate width operand amount) (labelled kind label)
+  of_conversion : {kind other : Kind} {operand : TermTree} {label : Label}
+      → HasType types operand (labelled other label)
+      → IsNumberKind kind
+      → HasType types (convert kind operand) (labelled kind label)
+  of_selection : {condition accepted otherwise : TermTree} {kind : Kind} {l m n : Label}
+      → HasType types condition (labelled Boolean l)
+      → HasType types accepted (labelled kind m)
+      → HasType types otherwise (labelled kind n)
+      → HasType types (select condition accepted otherwise) (labelled kind (joined l (joined m n)))
 
 -- an expression that may be put where this type is wanted: of the same kind, and no secret where it is public
 pub record Suits (types : Types) (wanted : WordType) (term : TermTree) : Type 0 where

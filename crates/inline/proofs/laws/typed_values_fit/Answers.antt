@@ -4,7 +4,7 @@ use Rattle.inline.proofs.laws.typed_values_fit.Goals as goal
 
 pub returns : goal.returns
 returns c = record {
-  value = λ types m e word fits typed. value_fits types m fits e word typed;
+  value = λ types m e word fits typed. value_fits types m fits typed;
   suited = λ types m e wanted fits suits. suited_fits types m fits wanted e suits;
   statement = λ types control s m typed. fits_after s types control typed m;
   body = λ types control b m typed. fits_after_all b types control typed m;
