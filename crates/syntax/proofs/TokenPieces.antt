@@ -16,7 +16,8 @@ use Rattle.syntax.specs.declared.token.TokenKind.TheVariants.{Sign as SignToken}
 use Rattle.syntax.specs.declared.lexer.piece.Piece.{Piece}
 use Rattle.syntax.specs.declared.lexer.piece.Piece.TheVariants.{Space, Token}
 use Rattle.syntax.specs.declared.lexer.sign.TheConstants.{SIGNS}
-use Rattle.syntax.specs.Spelling.{Spells, blank, comment, sign, sign_text, is_blank, is_line_feed, is_word_byte, is_no_word_byte, SplitsAtFirst}
+use Rattle.syntax.specs.Spelling.{Spells, blank, comment, sign, sign_text, is_blank, is_line_feed, is_word_byte}
+use Rattle.syntax.specs.private.Splitting.{is_no_word_byte, SplitsAtFirst}
 use Rattle.syntax.specs.Tokens.{BeginsWith, BeginsWithNone}
 use Rattle.syntax.proofs.TokenBytes.{blank_ascii}
 use Rattle.syntax.proofs.TokenRuns.{or_false}
