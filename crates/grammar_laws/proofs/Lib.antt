@@ -3,3 +3,7 @@ pub mod BeginningEnds
 pub mod CasesOfTrees
 pub mod TreesOfCases
 pub mod ByCases
+pub mod Words
+pub mod Existence
+pub mod TokenPlaces
+pub mod TreeHeads

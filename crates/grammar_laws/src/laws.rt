@@ -1,8 +1,37 @@
-// The law, which holds of the definitions alone.
+// The laws, which hold of the definitions alone.
 
+ghost use Rattle.std.specs.Prelude.{◌≡◌, ℕ, ◌≤◌, List, take};
+ghost use Rattle.std.specs.List.{All};
+ghost use Rattle.grammar_laws.specs.Heads.{in_program};
+ghost use Rattle.language.specs.Tree.{ProgramTree};
 ghost use Rattle.syntax.specs.Beginning.{AreByCases};
+ghost use Rattle.syntax.specs.Lexeme.{Lexeme};
+ghost use Rattle.syntax.specs.Reading.{Answer, Reads, accepted};
+ghost use Rattle.syntax.specs.Tokens.{Ending, Lexes, place_after};
+ghost use Rattle.word.specs.Places.{origin};
 
 /// Some program begins with tokens exactly where they begin one by the cases of the grammar.
 pub fn beginnings_are_by_cases()
     ensures { AreByCases }
+{}
+
+/// Each text has a list of tokens, which ends somehow.
+pub fn each_text_has_tokens()
+    ensures { (text : List ℕ) → (tokens : List Lexeme) × (end : Ending) × Lexes text tokens end }
+{}
+
+/// Each text has an answer.
+pub fn each_text_has_an_answer()
+    ensures { (text : List ℕ) → (answer : Answer) × Reads text answer }
+{}
+
+/// A token's place is the one after the bytes before it, so its offset decides its line and its column.
+pub fn offsets_decide_places()
+    ensures { (text : List ℕ) (tokens : List Lexeme) (end : Ending) → Lexes text tokens end
+        → All (λ token. token.place ≡ place_after origin (take token.place.offset text)) tokens }
+{}
+
+/// No two nodes of a program have their heads at one offset.
+pub fn heads_are_distinct()
+    ensures { (text : List ℕ) (tree : ProgramTree) → Reads text (accepted tree) → (n : ℕ) → in_program n tree ≤ 1 }
 {}

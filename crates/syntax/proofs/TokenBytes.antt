@@ -1,7 +1,8 @@
 -- Which bytes are of which sort.
 use Rattle.std.proofs.Common.{◌≡◌, ℕ, ◌<◌, true, false, arith}
 use Rattle.std.proofs.lemmas.Bool.Decides.{nat_tests}
-use Rattle.syntax.specs.Spelling.{is_blank, is_word_byte, is_no_word_byte}
+use Rattle.syntax.specs.Spelling.{is_blank, is_word_byte}
+use Rattle.syntax.specs.private.Splitting.{is_no_word_byte}
 
 pub word_byte_ascii : (b : ℕ) → is_no_word_byte b ≡ false → b < 128
 word_byte_ascii b e = grind (arith, nat_tests)

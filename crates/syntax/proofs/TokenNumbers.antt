@@ -6,7 +6,8 @@ use Rattle.std.specs.List.{list_any, list_all}
 use Rattle.std.specs.Str.Parse.{AllDigits, digits_value}
 use Rattle.syntax.specs.declared.token.Suffix.{Suffix}
 use Rattle.syntax.specs.declared.token.Suffix.TheVariants.{U8, U16, U32}
-use Rattle.syntax.specs.Spelling.{IsNumber, WritesValue, IsEmptyOrBeginsWith, SplitsAtFirst, is_suffix_letter, is_word_byte, is_number_or_bad, is_name_or_keyword, suffix_text}
+use Rattle.syntax.specs.Spelling.{IsNumber, WritesValue, is_word_byte, is_number_or_bad, is_name_or_keyword, suffix_text}
+use Rattle.syntax.specs.private.Splitting.{IsEmptyOrBeginsWith, SplitsAtFirst, is_suffix_letter}
 use Rattle.syntax.proofs.TokenRuns.{run_unique}
 
 digit_is_no_u : (radix c : ℕ) → radix ≤ 16 → digit_value c < radix → is_suffix_letter c ≡ false

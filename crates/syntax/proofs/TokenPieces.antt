@@ -1,5 +1,5 @@
 -- What a text begins with, case by case on its first bytes.
-use Rattle.std.proofs.Common.{◌≡◌, ℕ, suc, ◌<◌, ◌≤◌, true, false, List, [], ◌∷◌, ◌++◌, length, take, drop, Option, Some, None, refl, sym, ap, ◌∙◌, subst, arith, get_or, IsUtf8, ◌-◌, ◌+◌, lit<}
+use Rattle.std.proofs.Common.{◌≡◌, ℕ, suc, ◌<◌, ◌≤◌, true, false, List, [], ◌∷◌, ◌++◌, length, take, drop, Option, Some, None, refl, sym, ap, ◌∙◌, subst, arith, get_or, IsUtf8, ◌-◌, ◌+◌, lit<, ◌⊎◌, inl, inr}
 use Rattle.std.specs.Prelude.{nat_eq, codes, not}
 use Rattle.std.specs.List.{find, slice_get, starts_with, list_any}
 use Rattle.std.specs.Option.{option_copied}
@@ -16,7 +16,8 @@ use Rattle.syntax.specs.declared.token.TokenKind.TheVariants.{Sign as SignToken}
 use Rattle.syntax.specs.declared.lexer.piece.Piece.{Piece}
 use Rattle.syntax.specs.declared.lexer.piece.Piece.TheVariants.{Space, Token}
 use Rattle.syntax.specs.declared.lexer.sign.TheConstants.{SIGNS}
-use Rattle.syntax.specs.Spelling.{Spells, blank, comment, sign, sign_text, is_blank, is_line_feed, is_word_byte, is_no_word_byte, SplitsAtFirst}
+use Rattle.syntax.specs.Spelling.{Spells, blank, comment, sign, sign_text, is_blank, is_line_feed, is_word_byte}
+use Rattle.syntax.specs.private.Splitting.{is_no_word_byte, SplitsAtFirst}
 use Rattle.syntax.specs.Tokens.{BeginsWith, BeginsWithNone}
 use Rattle.syntax.proofs.TokenBytes.{blank_ascii}
 use Rattle.syntax.proofs.TokenRuns.{or_false}
@@ -138,3 +139,11 @@ sign_piece text front rest b found only e front_is rest_is =
           subst (λ l. length l ≤ length (sign_text found)) (sym mark.1)
           (sign_longest text others found mark.0 e (h ∙ ap (λ l. l ++ others) mark.1));
     })
+
+-- such a text begins with a sign, or with no piece
+pub signs : (text : List ℕ) (b : ℕ) → OnlySigns text b → ((mark : Sign) × BeginsWith text (Token (SignToken mark)) (take (length (sign_text mark)) text) (drop (length (sign_text mark)) text)) ⊎ BeginsWithNone text
+signs text b only = by (find (begins text) SIGNS) refl
+  where
+    by : (o : Option Sign) → find (begins text) SIGNS ≡ o → ((mark : Sign) × BeginsWith text (Token (SignToken mark)) (take (length (sign_text mark)) text) (drop (length (sign_text mark)) text)) ⊎ BeginsWithNone text
+    by (Some mark) e = inl (mark, sign_piece text (take (length (sign_text mark)) text) (drop (length (sign_text mark)) text) b mark only e refl refl)
+    by None e = inr (no_piece text b only e)

@@ -3,7 +3,7 @@ use Rattle.std.proofs.Common.{◌≡◌, ℕ, zero, suc, Option, ◌+◌, ◌<�
 use Rattle.std.specs.Prelude.{unwrap_or, not, ◌||◌, ◌&&◌}
 use Rattle.std.specs.List.{position, position_or_len, list_any}
 use Rattle.std.specs.Str.{IsCharBoundary}
-use Rattle.syntax.specs.Spelling.{SplitsAtFirst, IsEmptyOrBeginsWith}
+use Rattle.syntax.specs.private.Splitting.{SplitsAtFirst, IsEmptyOrBeginsWith}
 use Rattle.std.proofs.lemmas.Str.{IsCharBoundary-start, IsCharBoundary-after_ascii}
 use Rattle.std.proofs.lemmas.List.Sums.{prefix_len-le-length, passes_at_first, fails_before_first}
 

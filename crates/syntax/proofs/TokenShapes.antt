@@ -7,7 +7,8 @@ use Rattle.syntax.specs.declared.token.Keyword.TheVariants.{Export}
 use Rattle.syntax.specs.declared.token.Sign.{Sign}
 use Rattle.syntax.specs.declared.token.Sign.TheVariants.{RotateLeft, Slash}
 use Rattle.syntax.specs.declared.lexer.piece.Piece.{Piece}
-use Rattle.syntax.specs.Spelling.{Spells, blank, comment, keyword, name, number, bad_number, sign, keyword_text, sign_text, is_blank, is_line_feed, is_word_byte, is_no_word_byte, is_name_or_keyword, is_number_or_bad, IsEmptyOrBeginsWith}
+use Rattle.syntax.specs.Spelling.{Spells, blank, comment, keyword, name, number, bad_number, sign, keyword_text, sign_text, is_blank, is_line_feed, is_word_byte, is_name_or_keyword, is_number_or_bad}
+use Rattle.syntax.specs.private.Splitting.{is_no_word_byte, IsEmptyOrBeginsWith}
 use Rattle.syntax.proofs.TokenBytes.{blank_is_no_word_byte}
 use Rattle.syntax.proofs.TokenRuns.{or_false, and_true, run_longest}
 

@@ -83,13 +83,6 @@ is_line_feed b = b == 10
 abbrev pub is_word_byte : ℕ → Bool
 is_word_byte b = is_ascii_alphanumeric b || (b == 95)
 
-abbrev pub is_no_word_byte : ℕ → Bool
-is_no_word_byte b = not (is_word_byte b)
-
--- the letter that a suffix begins with, which is no digit
-abbrev pub is_suffix_letter : ℕ → Bool
-is_suffix_letter b = b == 117
-
 -- a word that begins with no digit
 abbrev pub is_name_or_keyword : List ℕ → Bool
 is_name_or_keyword [] = false
@@ -122,14 +115,3 @@ pub data Spells : Piece → List ℕ → Type 0 where
   number : (bytes : List ℕ) (value : ℕ) (suffix : Option Suffix) → is_number_or_bad bytes ≡ true → IsNumber bytes value suffix → Spells (Token (NumberToken value suffix)) bytes
   bad_number : (bytes : List ℕ) → is_number_or_bad bytes ≡ true → ((value : ℕ) (suffix : Option Suffix) → IsNumber bytes value suffix → ⊥) → Spells BadNumber bytes
   sign : (mark : Sign) → Spells (Token (SignToken mark)) (sign_text mark)
-
--- the bytes are none, or the first passes the test
-abbrev pub IsEmptyOrBeginsWith : (ℕ → Bool) → List ℕ → Type 0
-IsEmptyOrBeginsWith test [] = Unit {0}
-IsEmptyOrBeginsWith test (b ∷ bytes) = test b ≡ true
-
--- the text is the bytes before the first that passes the test, and the rest
-pub record SplitsAtFirst (test : ℕ → Bool) (text front rest : List ℕ) : Type 0 where
-  pub parts : text ≡ front ++ rest
-  pub before : list_any test front ≡ false
-  pub next : IsEmptyOrBeginsWith test rest

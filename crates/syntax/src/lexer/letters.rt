@@ -1,7 +1,8 @@
 ghost use Rattle.std.specs.Prelude.{◌≡◌, ◌≢◌, ◌<◌, true, length, MatchOption};
 ghost use Rattle.std.specs.List.{list_all, position};
 ghost use Rattle.syntax.specs.declared.token.Keyword.{Keyword};
-ghost use Rattle.syntax.specs.Spelling.{SplitsAtFirst, Spells, is_word_byte, is_no_word_byte, keyword_text};
+ghost use Rattle.syntax.specs.Spelling.{Spells, is_word_byte, keyword_text};
+ghost use Rattle.syntax.specs.private.Splitting.{SplitsAtFirst, is_no_word_byte};
 
 use crate::lexer::number::read_number;
 use crate::lexer::piece::Piece;

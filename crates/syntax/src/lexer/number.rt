@@ -1,7 +1,8 @@
 ghost use Rattle.std.specs.Prelude.{ℕ, ◌≡◌, ◌≢◌, ◌<◌, ◌^◌, true, Option, IfSome, IfNone, MatchOption};
 ghost use Rattle.std.specs.List.{list_all, position};
 ghost use Rattle.syntax.specs.declared.token.Suffix.{Suffix};
-ghost use Rattle.syntax.specs.Spelling.{IsNumber, SplitsAtFirst, WritesValue, is_word_byte, is_suffix_letter, suffix_text};
+ghost use Rattle.syntax.specs.Spelling.{IsNumber, WritesValue, is_word_byte, suffix_text};
+ghost use Rattle.syntax.specs.private.Splitting.{SplitsAtFirst, is_suffix_letter};
 
 use crate::Suffix;
 

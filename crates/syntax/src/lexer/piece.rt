@@ -1,6 +1,7 @@
 ghost use Rattle.std.specs.Prelude.{◌≡◌, IfSome, IfNone};
 ghost use Rattle.std.specs.List.{position};
-ghost use Rattle.syntax.specs.Spelling.{SplitsAtFirst, is_blank, is_line_feed};
+ghost use Rattle.syntax.specs.Spelling.{is_blank, is_line_feed};
+ghost use Rattle.syntax.specs.private.Splitting.{SplitsAtFirst};
 ghost use Rattle.syntax.specs.Tokens.{BeginsWith, BeginsWithNone};
 
 use crate::TokenKind;

@@ -1,7 +1,7 @@
 use Rattle.std.proofs.Common.{◌≡◌, refl, List, ℕ, take, drop, ap, ◌∙◌, subst, sym}
 use Rattle.std.specs.Str.{IsCharBoundary}
 use Rattle.std.specs.List.{position_or_len}
-use Rattle.syntax.specs.Spelling.{is_no_word_byte, SplitsAtFirst}
+use Rattle.syntax.specs.private.Splitting.{is_no_word_byte, SplitsAtFirst}
 use Rattle.syntax.proofs.TokenBytes.{word_byte_ascii}
 use Rattle.syntax.proofs.TokenRuns.{boundary_after, cut_is, run_at}
 use Rattle.syntax.proofs.lexer.letters.split_word.Goals as goal

@@ -1,7 +1,7 @@
 use Rattle.std.proofs.Common.{◌≡◌, refl, List, ℕ, take, drop, ap, ◌∙◌, subst, sym, arith, eqb-true}
 use Rattle.std.specs.Str.{IsCharBoundary}
 use Rattle.std.specs.List.{position_or_len}
-use Rattle.syntax.specs.Spelling.{is_suffix_letter, SplitsAtFirst}
+use Rattle.syntax.specs.private.Splitting.{is_suffix_letter, SplitsAtFirst}
 use Rattle.syntax.proofs.TokenRuns.{boundary_at, cut_is, run_at}
 use Rattle.syntax.proofs.lexer.number.split_digits.Goals as goal
 use Rattle.syntax.proofs.lexer.number.split_digits.Goals.{After-unwrap_or}

@@ -1,7 +1,8 @@
 use Rattle.std.proofs.Common.{◌≡◌, refl, List, ℕ, take, drop, ap, ◌∙◌, subst, sym, arith, eqb-true}
 use Rattle.std.specs.Str.{IsCharBoundary}
 use Rattle.std.specs.List.{position_or_len}
-use Rattle.syntax.specs.Spelling.{is_line_feed, SplitsAtFirst}
+use Rattle.syntax.specs.Spelling.{is_line_feed}
+use Rattle.syntax.specs.private.Splitting.{SplitsAtFirst}
 use Rattle.syntax.proofs.TokenRuns.{boundary_at, cut_is, run_at}
 use Rattle.syntax.proofs.lexer.piece.split_line.Goals as goal
 use Rattle.syntax.proofs.lexer.piece.split_line.Goals.{After-unwrap_or}
