@@ -12,7 +12,7 @@ use Rattle.image.specs.declared.slot.ResultSlot.{ResultSlot}
 use Rattle.language.specs.declared.signature.Form.{Form}
 use Rattle.language.specs.declared.signature.Param.{Param}
 use Rattle.language.specs.declared.typing.WordType.{WordType}
-use Rattle.codegen.specs.Generated.{program_code, program_height, result_slot, image_of}
+use Rattle.codegen.specs.Generated.{program_code, program_height, result_slot, step_limit, image_of}
 use Rattle.codegen.specs.Layout.{slots_from, temporaries_offset}
 use Rattle.codegen.specs.Room.{HasFrame, HasRoom}
 use Rattle.inline.specs.FlatSize.{IsWord}
@@ -96,7 +96,7 @@ image_allowed p room fit =
     }
 
 -- so are fields that are equal to them, one by one
-pub fields_allowed : (p : StraightProgram) → HasRoom p → (slots : List Slot) (returned : Option ResultSlot) (frame steps : ℕ) (words : List ℕ) → slots ≡ slots_from 0 p.parameters → returned ≡ option_map (result_slot p.variables) p.returned → frame ≡ temporaries_offset p.variables p.controls + 4 * program_height p → steps ≡ 32 * p.nodes + 64 → words ≡ map word_of (program_code p) → All (λ word. word < 2 ^ 32) words → IsImage (record { slots = slots; returned = returned; frame_bytes = frame; max_steps = steps; words = words })
+pub fields_allowed : (p : StraightProgram) → HasRoom p → (slots : List Slot) (returned : Option ResultSlot) (frame steps : ℕ) (words : List ℕ) → slots ≡ slots_from 0 p.parameters → returned ≡ option_map (result_slot p.variables) p.returned → frame ≡ temporaries_offset p.variables p.controls + 4 * program_height p → steps ≡ step_limit p.nodes → words ≡ map word_of (program_code p) → All (λ word. word < 2 ^ 32) words → IsImage (record { slots = slots; returned = returned; frame_bytes = frame; max_steps = steps; words = words })
 fields_allowed p room slots returned frame steps words a b c d e fit =
     let allowed = image_allowed p room (subst (AllByRecursion (λ word. word < 2 ^ 32)) e (recursion_from_All (λ word. word < 2 ^ 32) words fit)) in
     rw (a, b, c, d, e) allowed

@@ -35,11 +35,15 @@ program_height p = max (height_in_all p.statements) (result_height p.value)
 abbrev pub result_slot : ℕ → WordType → ResultSlot
 result_slot variables word = record { kind = word.kind; label = word.label; offset = result_offset variables }
 
+-- how many instructions a run may take, by how many nodes the source has
+abbrev pub step_limit : ℕ → ℕ
+step_limit nodes = 32 * nodes + 64
+
 abbrev pub image_of : StraightProgram → Fields
 image_of p = record {
   slots = slots_from 0 p.parameters;
   returned = option_map (result_slot p.variables) p.returned;
   frame_bytes = temporaries_offset p.variables p.controls + 4 * program_height p;
-  max_steps = 32 * p.nodes + 64;
+  max_steps = step_limit p.nodes;
   words = map word_of (program_code p);
 }

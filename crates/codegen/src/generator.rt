@@ -2,7 +2,7 @@ ghost use Rattle.std.specs.Prelude.{◌≡◌, ◌<◌, ◌^◌, map, All, IfOk}
 ghost use Rattle.std.specs.Option.{option_map};
 ghost use Rattle.branch_removal.specs.Bounds.{IsBounded};
 ghost use Rattle.codegen.specs.Followed.{IsGenerated};
-ghost use Rattle.codegen.specs.Generated.{program_code, program_height, result_slot, image_of};
+ghost use Rattle.codegen.specs.Generated.{program_code, program_height, result_slot, step_limit, image_of};
 ghost use Rattle.codegen.specs.Room.{HasRoom};
 ghost use Rattle.rv_code.specs.Words.{word_of};
 
@@ -70,6 +70,13 @@ fn result_slot(straight: &Straight<'_>, layout: Layout) -> Option<ResultSlot>
     })
 }
 
+/// How many instructions a run may take, by how many nodes the source has.
+fn step_limit(nodes: u32) -> u64
+    ensures { result ≡ step_limit nodes }
+{
+    32 * u64::from(nodes) + 64
+}
+
 /// The image of straight code, as the definition lists it.
 fn listed(alloc: Global, straight: &Straight<'_>) -> Result<Image, AllocError>
     requires { HasRoom straight.now }
@@ -84,7 +91,7 @@ fn listed(alloc: Global, straight: &Straight<'_>) -> Result<Image, AllocError>
     let slots = slots(alloc, straight.parameters())?;
     let words = words(alloc, code.as_slice())?;
     let frame_bytes = layout.temporaries() + WORD_BYTES * temporaries(straight);
-    let max_steps = 32 * u64::from(straight.nodes()) + 64;
+    let max_steps = step_limit(straight.nodes());
     Ok(Image::new(slots, returned, frame_bytes, max_steps, words))
 }
 

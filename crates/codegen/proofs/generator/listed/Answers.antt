@@ -1,6 +1,6 @@
 use Rattle.std.proofs.Common.{◌≡◌, ◌+◌, ◌*◌, map, ap, ap₂, ◌∙◌}
 use Rattle.rv_code.specs.Words.{word_of}
-use Rattle.codegen.specs.Generated.{program_height}
+use Rattle.codegen.specs.Generated.{program_height, step_limit}
 use Rattle.codegen.specs.Layout.{slots_from, temporaries_offset}
 use Rattle.codegen.proofs.ImageLemmas.{fields_allowed}
 use Rattle.codegen.proofs.generator.listed.Goals as goal
@@ -11,6 +11,6 @@ new-requires c =
     let slots = c.in_ok-slots.ensures ∙ ap (λ ps. slots_from 0 ps) c.parameters.ensures in
     let start = c.temporaries.ensures ∙ ap₂ temporaries_offset c.variables.ensures c.controls.ensures in
     let frame : c.temporaries.result + 4 * c.temporaries-2.result ≡ temporaries_offset p.variables p.controls + 4 * program_height p = ap₂ (λ m n. m + 4 * n) start c.temporaries-2.ensures in
-    let steps = ap (λ n. 32 * n + 64) (c.from.ensures ∙ c.nodes.ensures) in
+    let steps = c.step_limit-max_steps.ensures ∙ ap step_limit c.nodes.ensures in
     let words = c.in_ok-words.ensures.words ∙ ap (λ code. map word_of code) (c.as_slice.ensures.value ∙ c.in_ok-code.ensures) in
-    fields_allowed p c.requires c.in_ok-slots.slots.items c.result_slot-returned.result (c.temporaries.result + 4 * c.temporaries-2.result) (32 * c.from.result + 64) c.in_ok-words.words.items slots c.result_slot-returned.ensures frame steps words c.in_ok-words.ensures.fit
+    fields_allowed p c.requires c.in_ok-slots.slots.items c.result_slot-returned.result (c.temporaries.result + 4 * c.temporaries-2.result) c.step_limit-max_steps.result c.in_ok-words.words.items slots c.result_slot-returned.ensures frame steps words c.in_ok-words.ensures.fit
