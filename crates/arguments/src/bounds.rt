@@ -1,9 +1,11 @@
-ghost use Rattle.std.specs.Prelude.{◌≡◌, ◌↔◌};
+ghost use Rattle.std.specs.Prelude.{◌≡◌, ◌↔◌, map};
+ghost use Rattle.language.specs.Signature.{param_of};
+ghost use Rattle.language.specs.Tree.{parameter_tree};
 ghost use Rattle.arguments.specs.Faults.{fault_of, rule_of, rule_of_words};
 ghost use Rattle.arguments.specs.Within.{AreWithin, greatest_of};
 
 use crate::{ArgumentFault, ArgumentRule};
-use language::{Arg, Args, Form, Kind, Param};
+use language::{Arg, Args, Form, Kind, Param, Parameter};
 
 /// The greatest value that a word of a kind has.
 pub(crate) fn greatest(kind: Kind) -> u32
@@ -59,6 +61,22 @@ pub fn first_fault(params: &[Param], args: &Args) -> Option<ArgumentFault>
     }
     for (index, param) in params.iter().enumerate() {
         if let Some(rule) = broken_rule(param, &args[index]) {
+            return Some(ArgumentFault::at(rule, index));
+        }
+    }
+    None
+}
+
+/// The same of a procedure's parameters, with their names.
+pub fn first_fault_of(parameters: &[Parameter<'_>], args: &Args) -> Option<ArgumentFault>
+    ensures { result ≡ fault_of (map param_of (map parameter_tree parameters.now)) args.now }
+{
+    let args = args.as_slice();
+    if args.len() != parameters.len() {
+        return Some(ArgumentFault::count());
+    }
+    for (index, parameter) in parameters.iter().enumerate() {
+        if let Some(rule) = broken_rule(&parameter.param(), &args[index]) {
             return Some(ArgumentFault::at(rule, index));
         }
     }

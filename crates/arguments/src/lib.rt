@@ -9,7 +9,7 @@ mod laws;
 mod numerals;
 mod texts;
 
-pub use bounds::first_fault;
+pub use bounds::{first_fault, first_fault_of};
 pub use fault::{ArgumentFault, ArgumentRule};
 pub use laws::faultless_arguments;
 pub use texts::{ReadError, read};

@@ -1,11 +1,12 @@
 // The program.
 
-ghost use Rattle.std.specs.Prelude.{◌≡◌, ◌≢◌, Err, map, IfOk, IfErr};
+ghost use Rattle.std.specs.Prelude.{◌≡◌, ◌≢◌, Err, Some, map, IfOk, IfErr};
 ghost use Rattle.std.specs.Option.{option_map};
 ghost use Rattle.language.specs.Evaluation.{export_run};
 ghost use Rattle.language.specs.Meaning.{argument_value, final_arrays, holding};
 ghost use Rattle.language.specs.Tree.{parameter_tree, procedure_tree, program_tree};
-ghost use Rattle.source_eval.specs.Answer.{answer};
+ghost use Rattle.arguments.specs.Faults.{fault_of};
+ghost use Rattle.source_eval.specs.Answer.{answer, params_of};
 ghost use Rattle.source_eval.specs.Metering.{Ended, Stopped};
 ghost use Rattle.source_eval.specs.Views.{held, value_of, word_of};
 ghost use Rattle.source_eval.specs.declared.fault.EvalFault.TheVariants.{Memory};
@@ -14,7 +15,7 @@ use crate::EvalFault;
 use crate::statements::body;
 use crate::values::{Value, Word};
 use crate::variables::Variables;
-use arguments::first_fault;
+use arguments::{ArgumentFault, first_fault_of};
 use language::{Arg, Args, Form, Kind, Numbers, Outcome, Parameter, Procedure, Program};
 use std::alloc::Global;
 
@@ -110,16 +111,17 @@ pub fn eval(
     args: &Args,
     budget: u64,
 ) -> Result<Outcome, EvalFault>
-    ensures { result ≢ Err Memory → result ≡ answer (program_tree program.now) args.now budget }
+    ensures answer { result ≢ Err Memory → result ≡ answer (program_tree program.now) args.now budget }
+    // Whatever memory does.
+    ensures judged { (fault : ArgumentFault) → fault_of (params_of (program_tree program.now)) args.now ≡ Some fault → result ≡ Err (EvalFault.Argument fault) }
 {
     let Some((earlier, export)) = program.exported() else {
-        return match first_fault(&[], args) {
+        return match first_fault_of(&[], args) {
             Some(fault) => Err(EvalFault::Argument(fault)),
             None => Ok(Outcome::new(None, Vec::new(alloc))),
         };
     };
-    let params = export.params(alloc)?;
-    if let Some(fault) = first_fault(&params, args) {
+    if let Some(fault) = first_fault_of(&export.parameters, args) {
         return Err(EvalFault::Argument(fault));
     }
     let mut left = budget;
