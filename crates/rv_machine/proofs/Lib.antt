@@ -8,5 +8,6 @@ pub mod Pairs
 pub mod RunLaws
 pub mod SizedNumbers
 pub mod Stretch
+pub mod TotalLaws
 pub mod TurnLaws
 pub mod Turns

@@ -16,7 +16,7 @@ ghost use Rattle.rv_machine.specs.declared.stops.Stop.{Stop};
 ghost use Rattle.rv_machine.specs.Bytes.{ByteMap, number_at, with_number};
 ghost use Rattle.rv_machine.specs.Effects.{sign_extended, upper_value, immediate_value, shift_value, register_value, multiply_value, divide_value, holds, load_size, loaded_value, store_size, address_of, jump_target, branch_target, register_target};
 ghost use Rattle.rv_machine.specs.Entries.{Entry, entries_of, IsFirstDifference};
-ghost use Rattle.rv_machine.specs.Leakage.{Leads, Halts, Ran};
+ghost use Rattle.rv_machine.specs.Leakage.{Leads, Halts, Runs, Ran};
 ghost use Rattle.rv_machine.specs.Machine.{State, Code, IsAt, Ending, Turn, here, next, observed, with_value, with_stored, with_link, moved_to};
 ghost use Rattle.rv_machine.specs.Recording.{kept};
 ghost use Rattle.rv_machine.specs.Registers.{register};
@@ -29,6 +29,13 @@ use rv_code::Instr;
 /// A state has one turn.
 pub fn one_turn()
     ensures { (code : Code) (s : State) (e f : Ending) → Turn code s e → Turn code s f → e ≡ f }
+{}
+
+/// Every state has a turn, and a run of at most so many turns that no recorder cuts short.
+pub fn every_state_has_a_run()
+    ensures turn { (code : Code) (s : State) → (ending : Ending) × Turn code s ending }
+    ensures run { (code : Code) (budget : ℕ) (s : State)
+        → (seen : List Observation) × (stop : Stop) × (t : State) × Runs code budget s seen stop t × (stop ≢ Stop.RecorderRefused) }
 {}
 
 /// Runs follow one another.
