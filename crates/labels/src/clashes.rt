@@ -3,22 +3,32 @@ ghost use Rattle.std.specs.Option.{option_map};
 ghost use Rattle.names.specs.Scope.{declared, found};
 ghost use Rattle.language.specs.Tree.{expr_tree, parameter_tree};
 ghost use Rattle.language.specs.Typing.{array_name, clashes, passed};
+ghost use Rattle.language.specs.declared.typing.ArrayType.{ArrayType};
+ghost use Rattle.language.specs.declared.typing.ValueType.TheVariants.{Array};
 
 use crate::kinds::is_mutable;
 use language::{Expr, Parameter, ValueType};
 use names::Names;
 use std::alloc::{AllocError, Global};
 
+/// The name that an argument is.
+fn bare_name<'a>(argument: &Expr<'a>) -> Option<&'a str>
+    ensures { (array : ArrayType) → option_map (λ name. name.now) result ≡ array_name (Array array) (expr_tree argument.now) }
+{
+    match argument {
+        Expr::Name(_, text) => Some(text),
+        _ => None,
+    }
+}
+
 /// The array that an argument is the bare name of.
 fn array_name<'a>(given: ValueType, argument: &Expr<'a>) -> Option<&'a str>
     ensures { option_map (λ name. name.now) result ≡ array_name given (expr_tree argument.now) }
 {
-    let ValueType::Array(_) = given else {
-        return None;
-    };
-    match argument {
-        Expr::Name(_, text) => Some(text),
-        _ => None,
+    match given {
+        ValueType::Array(_) => bare_name(argument),
+        ValueType::Word(_) => None,
+        ValueType::Nothing => None,
     }
 }
 

@@ -144,10 +144,10 @@ fn written(
     ensures typed { IfOk result (λ types. option_map (λ given. given.items) types ≡ types_of names.now (written (values_tree values.now))) }
     ensures first { OnOk result (first.new.seen ≡ fold sooner first.old.seen (exprs_violations names.now (written (values_tree values.now)))) }
 {
-    let Some(values) = values else {
-        return Ok(Some(Vec::new(alloc)));
-    };
-    expressions(alloc, first, names, values.as_slice())
+    match values {
+        None => Ok(Some(Vec::new(alloc))),
+        Some(values) => expressions(alloc, first, names, values.as_slice()),
+    }
 }
 
 /// A declaration of an array: its name is in scope from here on.

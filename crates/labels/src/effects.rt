@@ -1,18 +1,25 @@
 ghost use Rattle.std.specs.Prelude.{◌≡◌, map};
 ghost use Rattle.language.specs.Tree.{block_tree, call_tree, parameter_tree, procedure_tree, right_tree, statement_tree};
-ghost use Rattle.language.specs.Typing.{assigns_public, block_assigns, calls_one, is_public_mutable, parameters_assign, right_assigns, statement_assigns};
+ghost use Rattle.language.specs.Typing.{assigns_public, block_assigns, calls_one, is_public_mutable, may_assign, parameters_assign, right_assigns, statement_assigns};
 
-use crate::kinds::{callee, is_mutable};
-use language::{Call, Declared, Label, Parameter, Procedure, RightSide, Statement};
+use crate::kinds::{callee, is_mutable, is_secret};
+use language::{Call, Callee, Declared, Label, Parameter, Procedure, RightSide, Statement};
 use names::Names;
 
 /// Whether it is public and may be assigned to.
 fn is_public_mutable(label: Label, mutable: bool) -> bool
     ensures { result ≡ is_public_mutable label mutable }
 {
-    match label {
-        Label::Public => mutable,
-        Label::Secret => false,
+    mutable && !is_secret(label)
+}
+
+/// Whether it is a procedure that may assign to something public.
+fn may_assign(callee: Option<Callee>) -> bool
+    ensures { result ≡ may_assign callee }
+{
+    match callee {
+        Some(known) => known.assigns_public,
+        None => false,
     }
 }
 
@@ -20,10 +27,7 @@ fn is_public_mutable(label: Label, mutable: bool) -> bool
 fn call_assigns(names: &Names<'_, Declared>, call: &Call<'_>) -> bool
     ensures { result ≡ calls_one names.now (call_tree call.now) }
 {
-    match callee(names.find(call.name)) {
-        Some(called) => called.assigns_public,
-        None => false,
-    }
+    may_assign(callee(names.find(call.name)))
 }
 
 /// Whether a right side may assign to something public.

@@ -3,15 +3,26 @@ ghost use Rattle.std.specs.Option.{option_map};
 ghost use Rattle.language.specs.ExprTyping.{expr_violations, exprs_violations, name_rules, name_type, type_of, types_of};
 ghost use Rattle.language.specs.Tree.{expr_tree};
 ghost use Rattle.language.specs.Types.{at};
+ghost use Rattle.language.specs.declared.typing.VariableType.{VariableType};
 ghost use Rattle.labels.specs.Sooner.{sooner};
 
 use crate::first::First;
 use crate::kinds::variable;
 use crate::nodes::{binary, choice, convert, element, number, prefix, rotate};
 use crate::types::word;
-use language::{Declared, Expr, Kind, Label, Place, Rule, ValueType};
+use language::{Declared, Expr, Kind, Label, Place, Rule, ValueType, VariableType};
 use names::Names;
 use std::alloc::{AllocError, Global};
+
+/// The type of a variable, where there is one.
+fn value_of(variable: Option<VariableType>) -> Option<ValueType>
+    ensures { result ≡ option_map (λ (known : VariableType). known.value) variable }
+{
+    match variable {
+        Some(known) => Some(known.value),
+        None => None,
+    }
+}
 
 /// Notes a name that is no variable's, and gives the type of the variable.
 pub fn name(
@@ -23,13 +34,9 @@ pub fn name(
     ensures typed { result ≡ name_type names.now text.now }
     ensures first { first.new.seen ≡ fold sooner first.old.seen (at place (name_rules names.now text.now)) }
 {
-    match variable(names.find(text)) {
-        Some(variable) => Some(variable.value),
-        None => {
-            first.note_if(true, place, Rule::UndeclaredName);
-            None
-        }
-    }
+    let variable = variable(names.find(text));
+    first.note_if(variable.is_none(), place, Rule::UndeclaredName);
+    value_of(variable)
 }
 
 /// Notes what an expression's nodes violate, and gives its type where it is well typed.

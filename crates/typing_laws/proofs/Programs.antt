@@ -4,6 +4,7 @@ use Rattle.word.specs.Places.{origin}
 use Rattle.word.specs.declared.place.Place.{Place}
 use Rattle.language.specs.declared.rule.Rule.TheVariants.{NameDeclaredTwice, NotExactlyOneExport, ReturnMismatch}
 use Rattle.language.specs.declared.signature.Label.TheVariants.{Public}
+use Rattle.language.specs.declared.typing.ValueType.TheVariants.{Word}
 use Rattle.language.specs.declared.typing.WordType.{WordType}
 use Rattle.language.specs.ExprTyping.{type_of, expr_violations}
 use Rattle.language.specs.Tree.{ParameterTree, ReturnTree, ProcedureTree}
@@ -50,7 +51,7 @@ module _ (scope : Scope) where
       let own = at r.place (of_one [] (return_rules (Some wanted)) (type_of scope r.value)) in
       let x = has_type scope r.value (none_left all own h) in
       let w = is_suited wanted x.0 (no_rules r.place (value_rules wanted x.0) (ap (λ t. at r.place (of_one [] (return_rules (Some wanted)) t)) (sym x.1) ∙ none_right all own h)) in
-      value_returned {given = w.0} (subst (HasType scope r.value) w.1 (typed scope r.value x.0 x.1)) w.2
+      value_returned {given = w.0} (subst (HasType scope r.value) {y = Word w.0} w.1 (typed scope r.value x.0 x.1)) w.2
 
   returned_well : {result : Option WordType} {returned : Option ReturnTree} → Returns scope result returned → (when (is_some result && not (is_some returned)) ReturnMismatch ≡ []) × (return_violations scope result returned ≡ [])
   returned_well nothing_returned = (refl, refl)

@@ -100,8 +100,8 @@ module _ (earlier : List ProcedureTree) (scope : Scope) (control : Label) where
       let none = no_rules place (target_is ++ changes) (ap₂ (λ o t. at place (assignment_rules control (variable o) t)) (sym v.1) (sym x.is) ∙ none_right (named ++ all) own h) in
       let w = target_word there.0 x.type (none_left target_is changes none) in
       let free = is_changed control v.0 (label_of there.0) (none_right target_is changes none) in
-      assigns {given = w.1} {wanted = w.0} (v.1 ∙ ap₂ (λ t m. Some (Variable (record { value = t; mutable = m }))) w.2 free.0) (subst (Gives earlier scope control right) w.3 x.given) w.4
-      (subst (λ t. FlowsTo control (label_of t)) w.2 free.1)
+      assigns {given = w.1} {wanted = w.0} (v.1 ∙ ap₂ (λ t m. Some (Variable (record { value = t; mutable = m }))) w.2 free.0) (subst (Gives earlier scope control right) {y = Word w.1} w.3 x.given) w.4
+      (subst (λ t. FlowsTo control (label_of t)) {y = Word w.0} w.2 free.1)
 
   is_element_assigned : (place bracket target : Place) (text : List ℕ) (index : ExprTree) (right : RightTree) → statement_violations earlier scope control (element_assignment place bracket target text index right) ≡ []
       → IsWellTyped earlier scope control (element_assignment place bracket target text index right)
@@ -127,8 +127,8 @@ module _ (earlier : List ProcedureTree) (scope : Scope) (control : Label) where
       ∙ ap (λ t. at place (element_assignment_rules control (variable (found scope text)) (of_two None element_type (name_type scope text) (type_of scope index)) t)) (sym x.is) ∙ none_right (named ++ vi ++ node ++ all) own h) in
       let w = is_suited e.0.element x.type (none_left fits changes none) in
       let free = is_changed control v.0 e.0.element.label (none_right fits changes none) in
-      assigns_element {given = w.0} {array = e.0} (v.1 ∙ ap₂ (λ t m. Some (Variable (record { value = t; mutable = m }))) e.1 free.0) (subst (HasType scope index) e.2 (typed scope index i.0 i.1))
-      (subst (Gives earlier scope control right) w.1 x.given) w.2 free.1
+      assigns_element {given = w.0} {array = e.0} (v.1 ∙ ap₂ (λ t m. Some (Variable (record { value = t; mutable = m }))) e.1 free.0) (subst (HasType scope index) {y = word Uint32 Public} e.2 (typed scope index i.0 i.1))
+      (subst (Gives earlier scope control right) {y = Word w.0} w.1 x.given) w.2 free.1
 
   is_declaration : (place : Place) (label : Label) (mutable : Bool) (kind : Kind) (text : List ℕ) (right : RightTree) → statement_violations earlier scope control (declaration place label mutable kind text right) ≡ []
       → IsWellTyped earlier scope control (declaration place label mutable kind text right)
@@ -143,7 +143,7 @@ module _ (earlier : List ProcedureTree) (scope : Scope) (control : Label) where
       let none = no_rules place (new ++ fits ++ kept) (ap (λ t. at place (of_one [] (declaration_rules control taken label mutable kind) t)) (sym x.is) ∙ none_right all own h) in
       let two = none_left (new ++ fits) kept none in
       let w = is_suited (labelled kind label) x.type (none_right new fits two) in
-      declares {given = w.0} (not_taken (found scope text) (not_when taken NameDeclaredTwice (none_left new fits two))) (subst (Gives earlier scope control right) w.1 x.given) w.2
+      declares {given = w.0} (not_taken (found scope text) (not_when taken NameDeclaredTwice (none_left new fits two))) (subst (Gives earlier scope control right) {y = Word w.0} w.1 x.given) w.2
       (is_declared control label mutable (none_right (new ++ fits) kept none))
 
   is_array_declaration : (place : Place) (label : Label) (mutable : Bool) (kind : Kind) (size : ℕ) (text : List ℕ) (values : Option (List ExprTree)) → statement_violations earlier scope control (array place label mutable kind size text values) ≡ []
@@ -181,7 +181,7 @@ mutual
       let two = none_left (all ++ own) a three in
       let x = has_type scope condition (none_left all own two) in
       let w = bool_word x.0 (is_met (is_bool x.0) WrongKind (no_rules place (condition_rules x.0) (ap (λ t. at place (of_one [] condition_rules t)) (sym x.1) ∙ none_right all own two))) in
-      let is = x.1 ∙ ap Some w.1 in
+      let is = x.1 ∙ ap Some {y = Word w.0} w.1 in
       chooses {label = w.0.label} (subst (HasType scope condition) (w.1 ∙ ap (λ k. word k w.0.label) w.2) (typed scope condition x.0 x.1))
       (block_typed accepted earlier scope (joined w.0.label control) (ap (λ t. block_violations earlier scope (control_under control t) accepted) (sym is) ∙ none_right (all ++ own) a three))
       (block_typed otherwise earlier scope (joined w.0.label control) (ap (λ t. block_violations earlier scope (control_under control t) otherwise) (sym is) ∙ none_right (all ++ own ++ a) b h))
@@ -198,7 +198,7 @@ mutual
       let y = has_type scope high (none_right vl vh two) in
       let bounds = are_bounds x.0 y.0 (no_rules place (bounds_rules x.0 y.0) (ap₂ (λ s t. at place (of_two [] bounds_rules s t)) (sym x.1) (sym y.1) ∙ none_right (vl ++ vh) own three)) in
       let rule = when (is_some (found scope text)) NameDeclaredTwice in
-      repeats (subst (HasType scope low) bounds.0 (typed scope low x.0 x.1)) (subst (HasType scope high) bounds.1 (typed scope high y.0 y.1))
+      repeats (subst (HasType scope low) {y = word Uint32 Public} bounds.0 (typed scope low x.0 x.1)) (subst (HasType scope high) {y = word Uint32 Public} bounds.1 (typed scope high y.0 y.1))
       (not_taken (found scope text) (not_when (is_some (found scope text)) NameDeclaredTwice (no_rules counter rule (none_right (vl ++ vh ++ own) new four))))
       (block_typed body earlier (declared scope text counter_as) control (none_right (vl ++ vh ++ own ++ new) b h))
 

@@ -1,4 +1,5 @@
 pub mod Exports
 pub mod WorkedTrees
 pub mod WorkedTyping
+pub mod WorkedRules
 pub mod WorkedMeaning

@@ -1,0 +1,7 @@
+use Rattle.std.proofs.Common.{ap, sym, ◌∙◌}
+use Rattle.language.specs.Tree.{expr_tree}
+use Rattle.language.specs.Typing.{array_name}
+use Rattle.labels.proofs.clashes.array_name.Goals as goal
+
+pub returns-in-Array : goal.returns-in-Array
+returns-in-Array c = c.bare_name.ensures c.in-Array.field-0 ∙ ap (λ type. array_name type (expr_tree c.args.argument.now)) (sym c.in-Array.is)
