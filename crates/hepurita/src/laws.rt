@@ -32,8 +32,9 @@ ghost use Rattle.hepurita.specs.Paired.{Paired};
 use arguments::faultless_arguments;
 use coverage::compiled_procedures_have_compiled_parts;
 use image::one_spelling;
-use inline::{flat_keeps_meaning, one_outcome};
+use inline::flat_keeps_meaning;
 use language::Label;
+use source_eval::meaning_is_worked_out;
 use syntax::{one_answer_for_a_text, texts_are_grammatical};
 
 /// What the passes promise, put together. Where a text is a program of which each node is compiled and that violates no
@@ -79,5 +80,5 @@ pub fn images_do_what_texts_mean()
     one_spelling();
     faultless_arguments();
     bases_fit();
-    one_outcome();
+    meaning_is_worked_out();
 }

@@ -7,7 +7,6 @@ pub mod Terms
 pub mod FlatTypes
 pub mod ParameterNames
 pub mod FlatPrograms
-pub mod OneMeaning
 pub mod TypesKept
 pub mod FlatEnds
 pub mod FlatMeanings

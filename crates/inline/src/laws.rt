@@ -16,16 +16,10 @@ ghost use Rattle.language.specs.declared.signature.Param.{Param};
 ghost use Rattle.language.specs.declared.typing.WordType.{WordType};
 ghost use Rattle.language.specs.declared.values.Arg.{Arg};
 ghost use Rattle.language.specs.Grammatical.{IsGrammatical};
-ghost use Rattle.language.specs.Meaning.{Ending, Gives, exported, gives};
-ghost use Rattle.language.specs.Results.{Results};
+ghost use Rattle.language.specs.Meaning.{Gives, exported, gives};
 ghost use Rattle.language.specs.Size.{size_violations};
 ghost use Rattle.language.specs.Tree.{ProcedureTree, ProgramTree};
 ghost use Rattle.language.specs.Typing.{violations};
-
-/// A program comes to at most one end on the same arguments.
-pub fn one_outcome()
-    ensures { (program : ProgramTree) (args : List Arg) (a b : Ending Results) → Gives program args a → Gives program args b → a ≡ b }
-{}
 
 /// The export of a program that violates no rule is well typed once its names are numbers.
 pub fn flat_is_typed()

@@ -12,7 +12,7 @@ mod sizes;
 pub use flat::{FlatStatement, Term};
 pub use inlining::inline;
 pub use laws::{
-    flat_is_sized, flat_is_typed, flat_keeps_meaning, flat_values_fit, one_outcome,
-    public_results_agree, typed_values_fit,
+    flat_is_sized, flat_is_typed, flat_keeps_meaning, flat_values_fit, public_results_agree,
+    typed_values_fit,
 };
 pub use program::Flat;
