@@ -8,7 +8,7 @@ use Rattle.arguments.specs.declared.texts.ReadError.TheVariants as errors
 use Rattle.language.specs.declared.signature.Param.{Param}
 use Rattle.language.specs.declared.values.Arg.{Arg}
 use Rattle.hepurita.specs.declared.fault.RunFault.{RunFault}
-use Rattle.hepurita.specs.declared.fault.RunFault.TheVariants.{Argument, Memory}
+use Rattle.hepurita.specs.declared.fault.RunFault.TheVariants.{Argument}
 
 one_fault : (f fault : ArgumentFault) → Argument f.rule f.index ≡ Argument fault.rule fault.index → f ≡ fault
 one_fault f fault h =
@@ -24,8 +24,8 @@ same_fault f fault X was is from to both = (
 )
 
 -- there is none where memory was refused
-pub no_fault : {A B : Type 0} (fault : ArgumentFault) (X : Type 0) (was : Result A ReadError) (is : Result B RunFault) → was ≡ Err errors.Memory → is ≡ Err Memory → ((was ≡ Err (errors.Argument fault)) → X) × (X → was ≡ Err (errors.Argument fault)) → ((is ≡ Err (Argument fault.rule fault.index)) → X) × (X → is ≡ Err (Argument fault.rule fault.index))
-no_fault fault X was is from to both = ((λ h. cc), (λ x. let told = both.1 x in cc))
+pub no_fault : {A B : Type 0} (fault : ArgumentFault) (X : Type 0) (was : Result A ReadError) (is : Result B RunFault) → was ≡ Err errors.Memory → (is ≡ Err (Argument fault.rule fault.index) → ⊥) → ((was ≡ Err (errors.Argument fault)) → X) × (X → was ≡ Err (errors.Argument fault)) → ((is ≡ Err (Argument fault.rule fault.index)) → X) × (X → is ≡ Err (Argument fault.rule fault.index))
+no_fault fault X was is from never both = ((λ h. absurd (never h)), (λ x. let told = both.1 x in cc))
 
 -- the number of a faulty argument is below the count of parameters
 numbered : (params : List Param) (args : List Arg) (low : ℕ) (fault : ArgumentFault) (i : ℕ) → fault_from rule_of low params args ≡ Some fault → fault.index ≡ Some i → i < low + length params

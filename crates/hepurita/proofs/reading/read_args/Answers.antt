@@ -1,4 +1,4 @@
-use Rattle.std.proofs.Common.{◌≡◌, Err, refl, ap}
+use Rattle.std.proofs.Common.{◌≡◌, Err, ap}
 use Rattle.arguments.specs.declared.texts.ReadError.TheVariants as errors
 use Rattle.hepurita.proofs.FaultLemmas.{same_fault, no_fault}
 use Rattle.hepurita.proofs.reading.read_args.Goals as goal
@@ -11,4 +11,4 @@ returns-in-Err-Argument-clause-fault c =
 pub returns-in-Err-Memory-clause-fault : goal.returns-in-Err-Memory-clause-fault
 returns-in-Err-Memory-clause-fault c =
     let was : c.read.result ≡ Err errors.Memory = cc in
-    λ fault. no_fault fault _ c.read.result _ was refl (c.read.ensures.fault fault)
+    λ fault. no_fault fault _ c.read.result _ was (λ h. cc) (c.read.ensures.fault fault)
