@@ -1,0 +1,14 @@
+// A text from any source, compiled to its image on any sink. What `build` promises of a text and its
+// image is promised here of the bytes that come in and go out, also where streams are slow or fail.
+#![tactic(auto)]
+
+mod building;
+mod fault;
+mod reading;
+
+pub use building::{build_source, build_stream};
+pub use fault::BuildFault;
+pub use reading::read_text;
+
+#[cfg(test)]
+mod tests;
