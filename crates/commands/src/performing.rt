@@ -5,14 +5,14 @@ use crate::files::Files;
 use crate::outcome;
 use arguments::ArgumentRule;
 use command_line::{NoRequest, Request, parse};
-use hepurita::{RunFault, build, execute, judge, pair, read_args};
+use hepurita::{RunFault, execute, judge, pair, read_args};
 use image::{Image, LONGEST_IMAGE};
-use language::{Args, Param, Place, Refusal, Rule};
+use language::{Args, Param, Refusal};
 use rv_machine::{NullRecorder, Pairing};
 use source_eval::eval;
 use std::alloc::Global;
+use stream_build::{BuildFault, build_source, read_text};
 use streams::{ReadFault, Sink, get_up_to, put_all};
-use syntax::TEXT_LIMIT;
 
 /// The path that stands for standard output.
 const STANDARD_OUTPUT: &str = "-";
@@ -118,24 +118,24 @@ fn print<O: Sink>(out: &mut O, text: &str) -> Result<(), Fault<'static>>
     }
 }
 
-/// A text's bytes. One that is too long is not read to its end.
-fn text_bytes<'a, F: Files>(
-    alloc: Global,
-    file: &'a str,
-    files: &mut F,
-) -> Result<Vec<u8>, Fault<'a>> {
-    let bytes = read_file(alloc, file, TEXT_LIMIT + 1, files)?;
-    if bytes.len() > TEXT_LIMIT {
-        return Err(Fault::Text(Refusal::at(Rule::TextTooLong, Place::ORIGIN)));
+/// Why the text of a file was not had, or not built. That a sink failed is not said by who only reads.
+fn text_fault(file: &str, fault: BuildFault<Refusal>) -> Fault<'_> {
+    match fault {
+        BuildFault::Read => Fault::File(FileFault::CannotRead(file)),
+        BuildFault::NotUtf8 => Fault::File(FileFault::NotUtf8(file)),
+        BuildFault::Refused(refusal) => Fault::Text(refusal),
+        BuildFault::Write => Fault::File(FileFault::CannotWrite(file)),
     }
-    Ok(bytes)
 }
 
-/// The text that a file's bytes are.
-fn text_of<'a, 'b>(file: &'a str, bytes: &'b [u8]) -> Result<&'b str, Fault<'a>> {
-    match str::from_utf8(bytes) {
+/// The text of a file. One that is too long is not read to its end.
+fn text_of<'a, F: Files>(alloc: Global, file: &'a str, files: &mut F) -> Result<String, Fault<'a>> {
+    let Ok(mut source) = files.open(file) else {
+        return Err(Fault::File(FileFault::CannotRead(file)));
+    };
+    match read_text(alloc, &mut source) {
         Ok(text) => Ok(text),
-        Err(_) => Err(Fault::File(FileFault::NotUtf8(file))),
+        Err(fault) => Err(text_fault(file, fault)),
     }
 }
 
@@ -147,15 +147,19 @@ fn build_image<'a, F: Files>(
     image: &'a str,
     files: &mut F,
 ) -> Result<(), Fault<'a>> {
-    let bytes = text_bytes(alloc, file, files)?;
-    let built = build(alloc, text_of(file, bytes.as_slice())?)?;
-    write_file(image, built.as_slice(), files)
+    let Ok(mut source) = files.open(file) else {
+        return Err(Fault::File(FileFault::CannotRead(file)));
+    };
+    match build_source(alloc, &mut source) {
+        Ok(built) => write_file(image, built.as_slice(), files),
+        Err(fault) => Err(text_fault(file, fault)),
+    }
 }
 
 /// Judges the text of a file.
 fn check_text<'a, F: Files>(alloc: Global, file: &'a str, files: &mut F) -> Result<(), Fault<'a>> {
-    let bytes = text_bytes(alloc, file, files)?;
-    let _accepted = judge(alloc, text_of(file, bytes.as_slice())?)?;
+    let text = text_of(alloc, file, files)?;
+    let _accepted = judge(alloc, text.as_str())?;
     Ok(())
 }
 
@@ -166,8 +170,8 @@ fn evaluate_text<'a, F: Files>(
     arguments: &[&str],
     files: &mut F,
 ) -> Result<String, Fault<'a>> {
-    let bytes = text_bytes(alloc, file, files)?;
-    let accepted = judge(alloc, text_of(file, bytes.as_slice())?)?;
+    let text = text_of(alloc, file, files)?;
+    let accepted = judge(alloc, text.as_str())?;
     let params = accepted.params.as_slice();
     let args = read_args(alloc, params, arguments)?;
     let outcome = eval(alloc, &accepted.program, &args, EVALUATION_BUDGET)?;
