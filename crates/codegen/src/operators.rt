@@ -16,17 +16,6 @@ use rv_code::{
 use std::alloc::AllocError;
 use word::Width;
 
-/// The width of a number of this kind; a bool lies in the narrowest.
-fn width_of(kind: Kind) -> Width
-    ensures { result ≡ width_of kind }
-{
-    match kind {
-        Kind::Boolean | Kind::Uint8 => Width::W8,
-        Kind::Uint16 => Width::W16,
-        Kind::Uint32 => Width::W32,
-    }
-}
-
 /// The left operand and the value into the value.
 fn between(operation: RegisterOperation) -> Instr
     ensures { result ≡ Register operation value_register left_register value_register }
@@ -229,5 +218,5 @@ pub fn rotate(code: &mut Vec<Instr>, width: Width, amount: u32) -> Result<(), Al
 pub fn convert(code: &mut Vec<Instr>, kind: Kind) -> Result<(), AllocError>
     ensures { OnOk result (code.new.items ≡ code.old.items ++ cut_code (width_of kind)) }
 {
-    cut(code, width_of(kind))
+    cut(code, kind.width())
 }

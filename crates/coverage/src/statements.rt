@@ -6,7 +6,7 @@ ghost use Rattle.coverage.specs.NotCompiled.{place_if, uncompiled_block, uncompi
 
 use crate::earliest::Earliest;
 use crate::expressions::{note_call, note_expr, note_exprs, note_right};
-use language::{ArrayDeclaration, ElementAssignment, Statement, rows_are_blocks};
+use language::{ArrayDeclaration, ElementAssignment, Statement};
 
 /// Notes a declaration of an array, and the nodes of its first values.
 fn note_array(earliest: &mut Earliest, array: &ArrayDeclaration<'_>)
@@ -36,7 +36,6 @@ fn note_element(earliest: &mut Earliest, in_arm: bool, assignment: &ElementAssig
 fn note_statement(earliest: &mut Earliest, in_arm: bool, statement: &Statement<'_>)
     ensures { earliest.new.seen ≡ fold sooner earliest.old.seen (uncompiled_statement in_arm (statement_tree statement.now)) }
 {
-    rows_are_blocks();
     match statement {
         Statement::Declare(it) => note_right(earliest, &it.value),
         Statement::DeclareArray(it) => note_array(earliest, it),

@@ -14,15 +14,12 @@ ghost use Rattle.language.specs.declared.rule.Rule.{Rule};
 ghost use Rattle.hepurita.specs.Built.{Judges, JudgesProgram, IsRefusal, IsBuilt, accepts, refuses};
 
 use crate::judging::flat_of;
-use crate::laws::texts_are_compiled;
 use branch_removal::remove;
 use codegen::generate;
-use coverage::compiled_procedures_have_compiled_parts;
 use image::{Image, write};
-use inline::{flat_is_sized, flat_is_typed};
 use language::{Program, Refusal};
 use std::alloc::Global;
-use syntax::{one_answer_for_a_text, parse, texts_are_grammatical};
+use syntax::{one_answer_for_a_text, parse};
 
 /// The image of a program that violates no rule, or the first refusal.
 fn compile(alloc: Global, program: &Program<'_>) -> Result<Image, Refusal>
@@ -31,10 +28,6 @@ fn compile(alloc: Global, program: &Program<'_>) -> Result<Image, Refusal>
     ensures allowed { IfOk result IsImage }
     ensures refused { IfErr result (IsRefusal (JudgesProgram (program_tree program.now))) }
 {
-    // The laws that the passes' conditions rest on.
-    compiled_procedures_have_compiled_parts();
-    flat_is_typed();
-    flat_is_sized();
     let flat = flat_of(alloc, program)?;
     let straight = remove(alloc, &flat)?;
     let image = generate(alloc, &straight)?;
@@ -52,9 +45,6 @@ pub fn build(alloc: Global, text: &str) -> Result<Vec<u8>, Refusal>
     ensures accepted { IfOk result (λ bytes. IsBuilt text.now bytes.items) }
     ensures refused { IfErr result (IsRefusal (Judges text.now)) }
 {
-    // The laws that the first clause and the condition of `compile` rest on.
-    texts_are_compiled();
-    texts_are_grammatical();
     let program = parse(alloc, text)?;
     let image = compile(alloc, &program)?;
     write(alloc, &image)

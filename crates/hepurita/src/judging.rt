@@ -7,7 +7,7 @@ ghost use Rattle.language.specs.Meaning.{exported};
 ghost use Rattle.language.specs.Tree.{ProcedureTree, procedure_tree, program_tree};
 ghost use Rattle.hepurita.specs.Built.{Judges, JudgesProgram, IsRefusal, accepts};
 
-use coverage::{compiled_procedures_have_compiled_parts, first_uncompiled};
+use coverage::first_uncompiled;
 use inline::{Flat, inline};
 use labels::check;
 use language::{Param, Procedure, Program, Refusal, Rule};
@@ -30,8 +30,6 @@ pub(crate) fn flat_of(alloc: Global, program: &Program<'_>) -> Result<Flat, Refu
     ensures accepted { IfOk result (λ flat. (export : ProcedureTree) × JudgesProgram (program_tree program.now) (accepts (program_tree program.now) export) × (flat ≡ flattened export)) }
     ensures refused { IfErr result (IsRefusal (JudgesProgram (program_tree program.now))) }
 {
-    // The law that the condition of `inline` rests on.
-    compiled_procedures_have_compiled_parts();
     if let Some(place) = first_uncompiled(program) {
         return Err(Refusal::at(Rule::NotCompiledYet, place));
     }

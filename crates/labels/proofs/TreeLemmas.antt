@@ -3,14 +3,14 @@ use Rattle.std.proofs.lemmas.List.Sums.{fold-append}
 use Rattle.std.proofs.Common.{◌≡◌, Bool, Option, Result, Ok, Err, OnOk, fold, true, false, ◌||◌, List, [], ◌∷◌, ◌++◌, Vec, Global, length, take, is_some, refl, sym, ap, ap₂, ◌∙◌}
 use Rattle.std.proofs.lemmas.List.{append_assoc, append-nil}
 use Rattle.std.proofs.Math.Seq.{take-append_seam}
-use mathlib.Core.Former.{Count}
 use Rattle.word.specs.declared.place.Place.{Place}
 use Rattle.language.specs.declared.rule.Rule.TheVariants.{NameDeclaredTwice}
 use Rattle.language.specs.declared.tree.Counter.{Counter}
 use Rattle.language.specs.declared.tree.Expr.{Expr}
-use Rattle.language.specs.declared.tree.Statement.{Statement, If, If', For, For', Row_of-Statement, end_of-Statement, more_of-Statement, items-the_row-Statement, items_hidden-the_row-Statement-0}
+use Rattle.language.specs.declared.tree.Statement.{Statement, If, For}
+use Rattle.language.proofs.BlockLemmas.{conditional_tree, loop_tree}
 use Rattle.language.specs.declared.typing.Declared.{Declared}
-use Rattle.language.specs.Tree.{expr_tree, statement_tree, row_tree, block_tree, StatementTree, declaration, array, assignment, element_assignment, call, conditional, loop, BlockTree, nothing, first, ParameterTree, ProcedureTree}
+use Rattle.language.specs.Tree.{expr_tree, statement_tree, block_tree, StatementTree, declaration, array, assignment, element_assignment, call, conditional, loop, BlockTree, nothing, first, ParameterTree, ProcedureTree}
 use Rattle.language.specs.declared.signature.Label.{Label}
 use Rattle.language.specs.declared.typing.Violation.{Violation}
 use Rattle.language.specs.declared.typing.ValueType.{ValueType}
@@ -18,30 +18,6 @@ use Rattle.language.specs.ExprTyping.{expr_violations, type_of}
 use Rattle.language.specs.Types.{Scope, at, declared, found, of_one, of_two, when}
 use Rattle.language.specs.Typing.{block_assigns, block_violations, bounds_rules, condition_rules, control_under, counter_as, declared_array, declared_as, parameter_as, scope_after, scope_after_all, statement_assigns, statement_violations, with_parameters}
 use Rattle.labels.specs.Sooner.{sooner}
-
-rows : (n : _) (row : Row_of-Statement n) → row_tree row ≡ block_tree (items-the_row-Statement n row)
-rows n end_of-Statement = refl
-rows n (more_of-Statement s rest) = ap (first (statement_tree s)) (rows _ rest)
-
-abbrev arms : Statement → ((n : Count) × Row_of-Statement n) × ((n : Count) × Row_of-Statement n)
-arms (If' place condition shape accepted shape' otherwise) = ((_, accepted), (_, otherwise))
-arms (For' place counter low high shape body) = ((_, body), (_, end_of-Statement))
-arms _ = ((_, end_of-Statement), (_, end_of-Statement))
-
-pub conditional_tree : (place : Place) (condition : Expr) (accepted otherwise : Vec Statement Global) →
-    statement_tree (If place condition accepted otherwise) ≡ conditional place (expr_tree condition) (block_tree accepted.items) (block_tree otherwise.items)
-conditional_tree place condition accepted otherwise =
-    let both = arms (If place condition accepted otherwise) in
-    ap₂ (conditional place (expr_tree condition))
-    (rows both.0.0 both.0.1 ∙ ap block_tree (items_hidden-the_row-Statement-0 accepted))
-    (rows both.1.0 both.1.1 ∙ ap block_tree (items_hidden-the_row-Statement-0 otherwise))
-
-pub loop_tree : (place : Place) (counter : Counter) (low high : Expr) (body : Vec Statement Global) →
-    statement_tree (For place counter low high body) ≡ loop place counter.place counter.name.now (expr_tree low) (expr_tree high) (block_tree body.items)
-loop_tree place counter low high body =
-    let both = arms (For place counter low high body) in
-    ap (loop place counter.place counter.name.now (expr_tree low) (expr_tree high))
-    (rows both.0.0 both.0.1 ∙ ap block_tree (items_hidden-the_row-Statement-0 body))
 
 -- a declaration only appends
 pub declared_more : (scope : Scope) (text : List _) (what : Declared) → (more : Scope) × (declared scope text what ≡ scope ++ more)

@@ -12,5 +12,4 @@ pub mod ValuesHad
 pub mod EndsHad
 pub mod NamedCalls
 pub mod OneEnd
-pub mod RowLemmas
 pub mod StatementLemmas

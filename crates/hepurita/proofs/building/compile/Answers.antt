@@ -12,8 +12,8 @@ remove-requires c =
     let program = program_tree c.args.program.now in
     let made = c.in_ok-flat.ensures.accepted in
     record {
-      typed = subst IsTypedProgram (sym made.2) (flat_typed c.flat_is_typed.ensures c.compiled_procedures_have_compiled_parts.ensures program program made.0 c.requires.grammatical made.1);
-      sized = subst IsSized (sym made.2) (flat_sized c.flat_is_sized.ensures c.compiled_procedures_have_compiled_parts.ensures program program made.0 c.requires.grammatical made.1);
+      typed = subst IsTypedProgram (sym made.2) (flat_typed program program made.0 c.requires.grammatical made.1);
+      sized = subst IsSized (sym made.2) (flat_sized program program made.0 c.requires.grammatical made.1);
     }
 
 pub generate-requires : goal.generate-requires

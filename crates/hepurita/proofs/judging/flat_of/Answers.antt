@@ -4,6 +4,7 @@ use Rattle.language.specs.declared.tree.Program.{Program}
 use Rattle.language.specs.Meaning.{exported}
 use Rattle.language.specs.Tree.{procedure_tree, program_tree}
 use Rattle.language.specs.Typing.{violations}
+use Rattle.coverage.proofs.CompiledLemmas.{compiled_export}
 use Rattle.hepurita.proofs.BuiltLemmas.{refusal_of_coverage, refusal_of_types, refusal_of_sizes, judged_flat}
 use Rattle.hepurita.proofs.Exports.{has_export, nothing_exported, export_in}
 use Rattle.hepurita.proofs.judging.flat_of.Goals as goal
@@ -26,7 +27,7 @@ pub inline-requires : goal.inline-requires
 inline-requires c =
     let same : c.program.result.now ≡ c.args.program.now = ap (λ b. b.now) c.program.ensures.program ∙ c.in_ok-checked.ensures.accepted in
     let (before, is) = export_in c.args.program.now c.program.result.now (procedure_tree c.in-Some-exported_of.export.now) same c.in-Some-exported_of.ensures in
-    record { compiled = c.compiled_procedures_have_compiled_parts.ensures (program_tree c.args.program.now) before (procedure_tree c.in-Some-exported_of.export.now) c.in_default.ensures is }
+    record { compiled = compiled_export (program_tree c.args.program.now) before (procedure_tree c.in-Some-exported_of.export.now) c.in_default.ensures is }
 
 pub returns-clause-accepted : goal.returns-clause-accepted
 returns-clause-accepted c =
