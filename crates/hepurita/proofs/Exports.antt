@@ -1,12 +1,10 @@
 -- The exported procedure: it is one of the program's, and a program that violates no rule has one.
-use Rattle.std.proofs.Common.{◌≡◌, suc, Bool, true, false, List, [], ◌∷◌, ◌++◌, length, length-append, map, Option, None, Some, is_some, cond, Contains, Bor, refl, ap, sym, subst, ◌∙◌, arith}
-use Rattle.std.specs.List.{find}
+use Rattle.std.proofs.Common.{◌≡◌, suc, Bool, true, false, List, [], ◌∷◌, ◌++◌, length, length-append, Option, None, Some, is_some, cond, Contains, refl, ap, sym, subst, ◌∙◌, arith}
 use Rattle.std.specs.Option.{option_map}
 use Rattle.word.specs.declared.place.Place.{Place}
-use Rattle.language.specs.declared.tree.Procedure.{Procedure}
 use Rattle.language.specs.declared.tree.Program.{Program}
 use Rattle.language.specs.Meaning.{exported}
-use Rattle.language.specs.Tree.{ProcedureTree, procedure_tree, ProgramTree, program_tree}
+use Rattle.language.specs.Tree.{ProcedureTree, ProgramTree, program_tree}
 use Rattle.language.specs.Typing.{exports, export_place, export_violations, procedures_violations, violations}
 
 -- the exported procedure, and those before it, if there is one
@@ -21,20 +19,6 @@ procedure_of found = option_map (λ (both : List ProcedureTree × ProcedureTree)
 abbrev pub export_or : ProcedureTree → Export → ProcedureTree
 export_or q None = q
 export_or q (Some both) = both.1
-
--- the first procedure with the word `export` is the exported one
-pub found_export : (before : List ProcedureTree) (ps : List Procedure) → option_map procedure_tree (find (λ (p : Procedure). is_some p.export) ps) ≡ procedure_of (exported before (map procedure_tree ps))
-found_export before [] = refl
-found_export before (p ∷ ps) = by (is_some p.export) _ _ (found_export (before ++ procedure_tree p ∷ []) ps)
-  where
-    by : (marked : Bool) (found : Option Procedure) (rest : Export) → option_map procedure_tree found ≡ procedure_of rest → option_map procedure_tree (cond marked (Some p) found) ≡ procedure_of (cond {A = Export} marked (Some (before, procedure_tree p)) rest)
-    by true found rest same = refl
-    by false found rest same = same
-
--- what is found, seen as a tree
-pub seen_as_tree : (found : Option (Bor Procedure)) → option_map (λ (p : Bor Procedure). procedure_tree p.now) found ≡ option_map procedure_tree (option_map (λ (p : Bor Procedure). p.now) found)
-seen_as_tree None = refl
-seen_as_tree (Some p) = refl
 
 -- with those before it
 with_before : (found : Export) (p : ProcedureTree) → procedure_of found ≡ Some p → (before : List ProcedureTree) × (found ≡ Some (before, p))

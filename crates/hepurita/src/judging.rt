@@ -18,10 +18,10 @@ use syntax::parse;
 fn exported_of<'p, 'a>(program: &'p Program<'a>) -> Option<&'p Procedure<'a>>
     ensures { option_map (λ p. procedure_tree p.now) result ≡ option_map (λ found. found.1) (exported [] (program_tree program.now).procedures) }
 {
-    program
-        .procedures
-        .iter()
-        .find(|procedure| procedure.export.is_some())
+    match program.exported() {
+        Some((_, export)) => Some(export),
+        None => None,
+    }
 }
 
 /// The export of a program that violates no rule, as one body; or the first refusal. What is not
