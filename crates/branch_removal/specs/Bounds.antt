@@ -1,52 +1,69 @@
--- How large straight code is, and the bounds that it keeps.
-use Rattle.std.specs.Prelude.{◌≡◌, ℕ, ◌+◌, ◌*◌, ◌<◌, ◌≤◌, List, [], ◌∷◌, length, Option, None, Some, is_some}
+-- How large straight code is and how much work it is, and the bounds that it keeps.
+use Rattle.std.specs.Prelude.{◌≡◌, ℕ, ◌+◌, ◌*◌, ◌≤◌, List, [], ◌∷◌, length, Option, None, Some, slice_index}
 use Rattle.std.specs.List.{AllByRecursion}
-use Rattle.inline.specs.FlatSize.{IsUpTo, IsResultUpTo, IsWord, term_nodes, value_nodes}
-use Rattle.branch_removal.specs.Straight.{StraightTree, set, take, set_under, StraightProgram}
+use Rattle.inline.specs.FlatSize.{HasLength, declared_words, term_nodes, terms_nodes, value_nodes}
+use Rattle.branch_removal.specs.Straight.{StraightTree, set, clear, fill, put, take, set_under, put_under, branch, repeats, StraightBlock, nothing, first, StraightProgram}
+use Rattle.language.specs.declared.limits.TheConstants.{MOST_NODES, MOST_DECLARED_BYTES}
+use Rattle.language.specs.declared.signature.Param.{Param}
 
--- the nodes of a statement, itself among them
-abbrev pub statement_nodes : StraightTree → ℕ
-statement_nodes (set x value) = 1 + term_nodes value
-statement_nodes (take control within condition) = 1 + term_nodes condition
-statement_nodes (set_under control x value) = 1 + term_nodes value
+abbrev mutual
+  -- the nodes of a statement, itself among them; an element that is set is one too
+  pub statement_nodes : StraightTree → ℕ
+  statement_nodes (set x value) = 1 + term_nodes value
+  statement_nodes (clear x size) = 1
+  statement_nodes (fill x values) = 1 + terms_nodes values
+  statement_nodes (put place x size index value) = 1 + (1 + term_nodes index) + term_nodes value
+  statement_nodes (take control within condition) = 1 + term_nodes condition
+  statement_nodes (set_under control x value) = 1 + term_nodes value
+  statement_nodes (put_under control place x size index value) = 1 + (1 + term_nodes index) + term_nodes value
+  statement_nodes (branch condition accepted otherwise) = 1 + term_nodes condition + block_nodes accepted + block_nodes otherwise
+  statement_nodes (repeats x low high body) = 1 + term_nodes low + term_nodes high + block_nodes body
 
-abbrev pub code_nodes : List StraightTree → ℕ
-code_nodes [] = 0
-code_nodes (statement ∷ rest) = statement_nodes statement + code_nodes rest
+  pub block_nodes : StraightBlock → ℕ
+  block_nodes nothing = 0
+  block_nodes (first statement rest) = statement_nodes statement + block_nodes rest
 
--- how many conditions are taken
-abbrev pub taken_in : StraightTree → ℕ
-taken_in (set x value) = 0
-taken_in (take control within condition) = 1
-taken_in (set_under control x value) = 0
+abbrev mutual
+  -- the work of a statement, with the turns that are counted for each counter: an array is as much as its elements
+  pub statement_work : List ℕ → StraightTree → ℕ
+  statement_work turns (set x value) = 1 + term_nodes value
+  statement_work turns (clear x size) = 1 + size
+  statement_work turns (fill x values) = 1 + length values + terms_nodes values
+  statement_work turns (put place x size index value) = 1 + (1 + term_nodes index) + term_nodes value
+  statement_work turns (take control within condition) = 1 + term_nodes condition
+  statement_work turns (set_under control x value) = 1 + term_nodes value
+  statement_work turns (put_under control place x size index value) = 1 + (1 + term_nodes index) + term_nodes value
+  statement_work turns (branch condition accepted otherwise) = 1 + term_nodes condition + block_work turns accepted + block_work turns otherwise
+  statement_work turns (repeats x low high body) = term_nodes low + term_nodes high + (slice_index turns x + 1) * (1 + block_work turns body)
 
-abbrev pub taken_in_all : List StraightTree → ℕ
-taken_in_all [] = 0
-taken_in_all (statement ∷ rest) = taken_in statement + taken_in_all rest
+  pub block_work : List ℕ → StraightBlock → ℕ
+  block_work turns nothing = 0
+  block_work turns (first statement rest) = statement_work turns statement + block_work turns rest
 
--- an enclosing control value, where there is one, is among so many
-abbrev pub IsAmong : ℕ → Option ℕ → Type 0
-IsAmong controls None = Unit {0}
-IsAmong controls (Some control) = control < controls
+abbrev mutual
+  -- how many conditions are taken in a statement
+  pub taken_in : StraightTree → ℕ
+  taken_in (set x value) = 0
+  taken_in (clear x size) = 0
+  taken_in (fill x values) = 0
+  taken_in (put place x size index value) = 0
+  taken_in (take control within condition) = 1
+  taken_in (set_under control x value) = 0
+  taken_in (put_under control place x size index value) = 0
+  taken_in (branch condition accepted otherwise) = taken_in_all accepted + taken_in_all otherwise
+  taken_in (repeats x low high body) = taken_in_all body
 
--- a statement's variables are numbered up to this one, and its control values are among so many
-abbrev pub HasPlaces : ℕ → ℕ → StraightTree → Type 0
-HasPlaces most controls (set x value) = (x ≤ most) × IsUpTo most value
-HasPlaces most controls (take control within condition) = (control + 1 < controls) × IsAmong controls within × IsUpTo most condition
-HasPlaces most controls (set_under control x value) = (control < controls) × (x ≤ most) × IsUpTo most value
+  pub taken_in_all : StraightBlock → ℕ
+  taken_in_all nothing = 0
+  taken_in_all (first statement rest) = taken_in statement + taken_in_all rest
 
 -- a program within the limits on size
 pub record IsBounded (p : StraightProgram) : Type 0 where
-  pub words : AllByRecursion IsWord p.parameters
-  pub parameters : length p.parameters ≤ p.variables
-  pub variables : 4 * p.variables ≤ 32768
-  -- one number past the variables may be named too
-  pub statements : AllByRecursion (λ (statement : StraightTree). HasPlaces p.variables p.controls statement) p.statements
-  pub value : IsResultUpTo p.variables p.value
-  -- it has no more nodes than the source, whose nodes are within the limit
-  pub counted : code_nodes p.statements + value_nodes p.value ≤ p.nodes
-  pub nodes : p.nodes ≤ 6000
+  pub lengths : AllByRecursion (λ (parameter : Param). HasLength parameter.form parameter.length) p.parameters
+  pub declared : 4 * declared_words p.declared ≤ MOST_DECLARED_BYTES
+  -- it has no more nodes than the source, whose nodes are within the limit, and it is no more work
+  pub counted : block_nodes p.body + value_nodes p.value ≤ p.nodes
+  pub nodes : p.nodes ≤ MOST_NODES
+  pub worked : block_work p.turns p.body + value_nodes p.value ≤ p.work
   -- there are at most two control values for each condition that is taken
-  pub controls : p.controls ≤ 2 * taken_in_all p.statements
-  -- a value stands exactly where there is a result
-  pub result : is_some p.value ≡ is_some p.returned
+  pub controls : p.controls ≤ 2 * taken_in_all p.body

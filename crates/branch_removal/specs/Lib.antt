@@ -1,8 +1,7 @@
 pub mod Straight
 pub mod StraightCodes
-pub mod Removal
 pub mod StraightMeaning
-pub mod Fitness
-pub mod Path
+pub mod StraightTyping
 pub mod Bounds
+pub mod Removal
 pub mod Removed

@@ -1,45 +1,80 @@
--- How branches are removed: each condition is taken into control values, and both arms follow.
-use Rattle.std.specs.Prelude.{ℕ, ◌+◌, List, [], ◌∷◌, ◌++◌, Option, None, Some, max}
-use Rattle.inline.specs.Flat.{TermTree, FlatTree, declare, assign, branch, FlatBlock, nothing, first, FlatProgram}
-use Rattle.branch_removal.specs.Straight.{StraightTree, set, take, set_under, StraightProgram}
+-- How branches on secrets are removed: each condition is taken into control values, and both arms follow. Branches on what is
+-- public stay, and loops do: what they go by is public.
+use Rattle.std.specs.Prelude.{ℕ, ◌+◌, List, [], ◌∷◌, Option, None, Some, max}
+use Rattle.branch_removal.specs.Straight.{StraightTree, set, clear, fill, put, take, set_under, put_under, repeats, StraightBlock, nothing, first, chain, StraightProgram}
+use Rattle.branch_removal.specs.Straight as straight
+use Rattle.inline.specs.Flat.{TermTree, FlatTree, declare, array, assign, branch, loop, FlatBlock, FlatProgram}
+use Rattle.inline.specs.Flat as flat
+use Rattle.intervals.specs.Ranged.{RangedProgram}
+use Rattle.language.specs.declared.signature.Label.{Label}
+use Rattle.language.specs.declared.signature.Label.TheVariants.{Public, Secret}
+use Rattle.word.specs.declared.place.Place.{Place}
+
+abbrev single : StraightTree → StraightBlock
+single statement = first statement nothing
 
 -- an assignment under the enclosing control value, where there is one
 abbrev pub set_within : Option ℕ → ℕ → TermTree → StraightTree
 set_within None x value = set x value
 set_within (Some control) x value = set_under control x value
 
+-- so for an element
+abbrev pub put_within : Option ℕ → Place → ℕ → ℕ → TermTree → TermTree → StraightTree
+put_within None place x size index value = put place x size index value
+put_within (Some control) place x size index value = put_under control place x size index value
+
+-- a new array: its first values where some are written, else zeros
+abbrev pub made : ℕ → ℕ → List TermTree → StraightTree
+made x size [] = clear x size
+made x size (e ∷ es) = fill x (e ∷ es)
+
 abbrev mutual
   -- a statement within an enclosing control value; its own control values are from `control` on.
-  -- What it declares is set in any case.
-  pub removed : Option ℕ → ℕ → FlatTree → List StraightTree
-  removed within control (declare x word value) = set x value ∷ []
-  removed within control (assign x value) = set_within within x value ∷ []
-  removed within control (branch condition accepted otherwise) =
-      take control within condition
-      ∷ removed_all (Some control) (control + 2) accepted ++ removed_all (Some (control + 1)) (control + 2) otherwise
+  -- What it declares is set in any case, counters are too.
+  pub removed : Option ℕ → ℕ → FlatTree → StraightBlock
+  removed within control (declare x word mutable value) = single (set x value)
+  removed within control (array x word mutable size values) = single (made x size values)
+  removed within control (assign x value) = single (set_within within x value)
+  removed within control (flat.put place x size index value) = single (put_within within place x size index value)
+  removed within control (branch Secret condition accepted otherwise) =
+      first (take control within condition)
+      (chain (removed_all (Some control) (control + 2) accepted) (removed_all (Some (control + 1)) (control + 2) otherwise))
+  removed within control (branch Public condition accepted otherwise) =
+      single (straight.branch condition (removed_all within control accepted) (removed_all within control otherwise))
+  removed within control (loop x low high body) = single (repeats x low high (removed_all within control body))
 
-  pub removed_all : Option ℕ → ℕ → FlatBlock → List StraightTree
-  removed_all within control nothing = []
-  removed_all within control (first statement rest) = removed within control statement ++ removed_all within control rest
+  pub removed_all : Option ℕ → ℕ → FlatBlock → StraightBlock
+  removed_all within control flat.nothing = nothing
+  removed_all within control (flat.first statement rest) = chain (removed within control statement) (removed_all within control rest)
+
+-- how many control values a conditional takes by itself
+abbrev pub own_controls : Label → ℕ
+own_controls Public = 0
+own_controls Secret = 2
 
 abbrev mutual
   -- how many control values a statement takes
   pub controls_in : FlatTree → ℕ
-  controls_in (declare x word value) = 0
+  controls_in (declare x word mutable value) = 0
+  controls_in (array x word mutable size values) = 0
   controls_in (assign x value) = 0
-  controls_in (branch condition accepted otherwise) = 2 + max (controls_in_all accepted) (controls_in_all otherwise)
+  controls_in (flat.put place x size index value) = 0
+  controls_in (branch label condition accepted otherwise) = own_controls label + max (controls_in_all accepted) (controls_in_all otherwise)
+  controls_in (loop x low high body) = controls_in_all body
 
   pub controls_in_all : FlatBlock → ℕ
-  controls_in_all nothing = 0
-  controls_in_all (first statement rest) = max (controls_in statement) (controls_in_all rest)
+  controls_in_all flat.nothing = 0
+  controls_in_all (flat.first statement rest) = max (controls_in statement) (controls_in_all rest)
 
-abbrev pub straightened : FlatProgram → StraightProgram
-straightened p = record {
-  parameters = p.parameters;
-  returned = p.returned;
-  nodes = p.nodes;
-  variables = p.variables;
-  controls = controls_in_all p.body;
-  statements = removed_all None 0 p.body;
-  value = p.value;
+abbrev pub straightened : RangedProgram → StraightProgram
+straightened ranged = record {
+  parameters = ranged.flat.parameters;
+  returned = ranged.flat.returned;
+  nodes = ranged.flat.nodes;
+  work = ranged.work;
+  turns = ranged.turns;
+  declared = ranged.flat.declared;
+  controls = controls_in_all ranged.flat.body;
+  body = removed_all None 0 ranged.flat.body;
+  value = ranged.flat.value;
 }

@@ -1,30 +1,32 @@
 -- What is promised of straight code for a body with branches.
-use Rattle.std.specs.Prelude.{◌≡◌, List, IfSome}
+use Rattle.std.specs.Prelude.{◌≡◌, List}
 use Rattle.arguments.specs.Agreement.{Agree}
+use Rattle.arguments.specs.PublicResults.{AgreeInPublic}
 use Rattle.arguments.specs.Within.{AreWithin}
 use Rattle.branch_removal.specs.Bounds.{IsBounded}
-use Rattle.branch_removal.specs.Fitness.{IsFitOn}
-use Rattle.branch_removal.specs.Path.{path_of}
 use Rattle.branch_removal.specs.Straight.{StraightProgram}
-use Rattle.branch_removal.specs.StraightMeaning.{outcome_of}
-use Rattle.inline.specs.Flat.{FlatProgram}
+use Rattle.branch_removal.specs.StraightMeaning.{outcome_of, path_of}
+use Rattle.branch_removal.specs.StraightTyping.{IsTypedStraight}
 use Rattle.inline.specs.FlatMeaning.{outcome_of as outcome_of_flat}
-use Rattle.language.specs.declared.signature.Label.TheVariants.{Public}
-use Rattle.language.specs.declared.typing.WordType.{WordType}
+use Rattle.inline.specs.Path.{AreFine}
+use Rattle.intervals.specs.Ranged.{RangedProgram}
 use Rattle.language.specs.declared.values.Arg.{Arg}
 
-pub record IsRemoved (flat : FlatProgram) (straight : StraightProgram) : Type 0 where
+pub record IsRemoved (ranged : RangedProgram) (straight : StraightProgram) : Type 0 where
   -- what stays as it was
-  pub parameters : straight.parameters ≡ flat.parameters
-  pub returned : straight.returned ≡ flat.returned
-  pub nodes : straight.nodes ≡ flat.nodes
+  pub parameters : straight.parameters ≡ ranged.flat.parameters
+  pub returned : straight.returned ≡ ranged.flat.returned
+  pub nodes : straight.nodes ≡ ranged.flat.nodes
+  pub work : straight.work ≡ ranged.work
   -- the limits on size are kept
   pub bounded : IsBounded straight
-  -- machine words can stand for all values
-  pub fit : (args : List Arg) → AreWithin flat.parameters args → IsFitOn straight args
+  -- it is well typed: what branches, bounds, indices and divisions go by is public
+  pub typed : IsTypedStraight straight
   -- the outcome is that of the body with real branches
-  pub outcome : (args : List Arg) → AreWithin flat.parameters args → outcome_of straight args ≡ outcome_of_flat flat args
+  pub outcome : (args : List Arg) → AreWithin straight.parameters args → outcome_of straight args ≡ outcome_of_flat ranged.flat args
+  -- no fault is met, and no loop makes more turns than are counted
+  pub fine : (args : List Arg) → AreWithin straight.parameters args → AreFine straight.turns (path_of straight args)
   -- on arguments that are equal where they are public the path is one and the same
-  pub paths : (one other : List Arg) → Agree flat.parameters one other → path_of straight one ≡ path_of straight other
-  -- and so is the outcome, where the result is public or there is none
-  pub public : (one other : List Arg) → Agree flat.parameters one other → IfSome flat.returned (λ (word : WordType). word.label ≡ Public) → outcome_of straight one ≡ outcome_of straight other
+  pub paths : (one other : List Arg) → Agree straight.parameters one other → path_of straight one ≡ path_of straight other
+  -- and so are the return and the `mut` arrays, where they are public
+  pub public : (one other : List Arg) → Agree straight.parameters one other → AgreeInPublic straight.parameters straight.returned (outcome_of straight one) (outcome_of straight other)

@@ -1,37 +1,77 @@
--- Straight code as values, without where it lies in memory.
-use Rattle.std.specs.Prelude.{ℕ, List, Option, map}
-use Rattle.branch_removal.specs.declared.straight.StraightStatement.{StraightStatement}
-use Rattle.branch_removal.specs.declared.straight.StraightStatement.TheVariants.{Set, Take, SetUnder}
+-- Straight code as values, without where it lies in memory: branches and loops are left only where what decides them is public.
+use Rattle.std.specs.Prelude.{ℕ, List, [], ◌∷◌, map, Option}
+use Rattle.branch_removal.specs.declared.straight.StraightStatement.{StraightStatement, Set, Clear, Fill, Put, Take, SetUnder, PutUnder, Branch', Repeat', Row_of-StraightStatement, end_of-StraightStatement, more_of-StraightStatement}
+use Rattle.inline.specs.declared.flat.FlatVariable.{FlatVariable}
 use Rattle.inline.specs.Flat.{TermTree, term_tree}
 use Rattle.language.specs.declared.signature.Param.{Param}
 use Rattle.language.specs.declared.typing.WordType.{WordType}
+use Rattle.word.specs.declared.place.Place.{Place}
 
-pub data StraightTree : Type 0 where
-  -- a variable is set
-  set : (variable : ℕ) (value : TermTree) → StraightTree
-  -- a condition is taken once, within an enclosing control value or none: this control value is for
-  -- where it is true, the next for where it is not
-  take : (control : ℕ) (within : Option ℕ) (condition : TermTree) → StraightTree
-  -- a variable is set where a control value is true, and kept where it is not
-  set_under : (control variable : ℕ) (value : TermTree) → StraightTree
+mutual
+  pub data StraightTree : Type 0 where
+    -- a variable is set
+    set : (variable : ℕ) (value : TermTree) → StraightTree
+    -- all elements of an array of so many become 0
+    clear : (variable size : ℕ) → StraightTree
+    -- an array gets its first values, one for each element
+    fill : (variable : ℕ) (values : List TermTree) → StraightTree
+    -- an element of an array of so many is set
+    put : (place : Place) (variable size : ℕ) (index value : TermTree) → StraightTree
+    -- a condition is taken once, within an enclosing control value or none: this control value is for
+    -- where it is true, the next for where it is not
+    take : (control : ℕ) (within : Option ℕ) (condition : TermTree) → StraightTree
+    -- a variable is set where a control value is true, and kept where it is not
+    set_under : (control variable : ℕ) (value : TermTree) → StraightTree
+    -- so is an element of an array
+    put_under : (control : ℕ) (place : Place) (variable size : ℕ) (index value : TermTree) → StraightTree
+    -- one of two blocks runs, by a public condition
+    branch : (condition : TermTree) (accepted otherwise : StraightBlock) → StraightTree
+    -- a block runs for each number of a counter, from the first up to the last before the second
+    repeats : (counter : ℕ) (low high : TermTree) (body : StraightBlock) → StraightTree
+
+  pub data StraightBlock : Type 0 where
+    nothing : StraightBlock
+    first : (statement : StraightTree) (rest : StraightBlock) → StraightBlock
+
+-- a block, and another behind it
+abbrev pub chain : StraightBlock → StraightBlock → StraightBlock
+chain nothing next = next
+chain (first statement rest) next = first statement (chain rest next)
 
 pub record StraightProgram : Type 0 where
   pub parameters : List Param
   -- the type of its result, where it has one
   pub returned : Option WordType
-  -- how many nodes the source has
+  -- how many nodes the source has, its work, and how many turns are counted for the loop of each counter
   pub nodes : ℕ
-  -- how many variables and control values there are
-  pub variables : ℕ
+  pub work : ℕ
+  pub turns : List ℕ
+  -- its variables, each at its number, the parameters first
+  pub declared : List FlatVariable
+  -- how many control values there are
   pub controls : ℕ
-  pub statements : List StraightTree
+  pub body : StraightBlock
   -- the result, where there is one
   pub value : Option TermTree
 
-abbrev pub straight_tree : StraightStatement → StraightTree
-straight_tree (Set x value) = set x (term_tree value.now)
-straight_tree (Take c within condition) = take c within (term_tree condition.now)
-straight_tree (SetUnder c x value) = set_under c x (term_tree value.now)
+abbrev mutual
+  pub straight_tree : StraightStatement → StraightTree
+  straight_tree (Set x value) = set x (term_tree value.now)
+  straight_tree (Clear x size) = clear x size
+  straight_tree (Fill x values) = fill x (map term_tree values.now)
+  straight_tree (Put place x size index value) = put place x size (term_tree index.now) (term_tree value.now)
+  straight_tree (Take c within condition) = take c within (term_tree condition.now)
+  straight_tree (SetUnder c x value) = set_under c x (term_tree value.now)
+  straight_tree (PutUnder c place x size index value) = put_under c place x size (term_tree index.now) (term_tree value.now)
+  straight_tree (Branch' condition shape accepted shape' otherwise) = branch (term_tree condition.now) (straight_row accepted) (straight_row otherwise)
+  straight_tree (Repeat' x low high shape body) = repeats x (term_tree low.now) (term_tree high.now) (straight_row body)
 
-abbrev pub straight_trees : List StraightStatement → List StraightTree
-straight_trees statements = map straight_tree statements
+  -- the statements of an arm or a loop
+  pub straight_row : {m : _} → Row_of-StraightStatement m → StraightBlock
+  straight_row end_of-StraightStatement = nothing
+  straight_row (more_of-StraightStatement statement rest) = first (straight_tree statement) (straight_row rest)
+
+-- a list of statements
+abbrev pub straight_block : List StraightStatement → StraightBlock
+straight_block [] = nothing
+straight_block (statement ∷ rest) = first (straight_tree statement) (straight_block rest)

@@ -1,44 +1,85 @@
 -- One body with numbered variables, as values, without where it lies in memory.
-use Rattle.std.specs.Prelude.{ℕ, Bool, List, [], ◌∷◌, Option}
-use Rattle.inline.specs.declared.flat.Term.{Term, Number, Truth, Variable, Prefix', Binary', Rotate', Convert', Select'}
-use Rattle.inline.specs.declared.flat.FlatStatement.{FlatStatement, Declare, Assign, Branch', Row_of-FlatStatement, end_of-FlatStatement, more_of-FlatStatement}
+use Rattle.std.specs.Prelude.{ℕ, Bool, false, List, [], ◌∷◌, map, Option, None, Some}
+use Rattle.inline.specs.declared.flat.FlatVariable.{FlatVariable}
+use Rattle.inline.specs.declared.flat.Term.{Term, Number, Truth, Variable, Prefix', Binary', Rotate', Convert', Select', Element'}
+use Rattle.inline.specs.declared.flat.FlatStatement.{FlatStatement, Declare, DeclareArray, Assign, AssignElement, Branch', Loop', Row_of-FlatStatement, end_of-FlatStatement, more_of-FlatStatement}
+use Rattle.language.specs.declared.signature.Form.{Form}
+use Rattle.language.specs.declared.signature.Form.TheVariants.{SingleWord, FixedArray, MutableArray}
 use Rattle.language.specs.declared.signature.Param.{Param}
 use Rattle.language.specs.declared.signature.Kind.{Kind}
+use Rattle.language.specs.declared.signature.Label.{Label}
 use Rattle.language.specs.declared.tree.BinaryOperator.{BinaryOperator}
 use Rattle.language.specs.declared.tree.PrefixOperator.{PrefixOperator}
 use Rattle.language.specs.declared.typing.WordType.{WordType}
+use Rattle.language.specs.Typing.{is_mutable}
+use Rattle.word.specs.declared.place.Place.{Place}
 use Rattle.word.specs.declared.width.Width.{Width}
 
--- an expression; where the width of an operand decides what a node means, the node has it: the left operand's
+-- An expression; where the width of an operand decides what a node means, the node has it: the left operand's. A node
+-- that may meet a fault has its place.
 pub data TermTree : Type 0 where
   number : (value : ℕ) (kind : Kind) → TermTree
   truth : (value : Bool) → TermTree
   variable : (number : ℕ) → TermTree
   prefix : (operator : PrefixOperator) (width : Width) (operand : TermTree) → TermTree
-  binary : (operator : BinaryOperator) (width : Width) (left right : TermTree) → TermTree
+  binary : (place : Place) (operator : BinaryOperator) (width : Width) (left right : TermTree) → TermTree
   rotate : (width : Width) (operand : TermTree) (amount : ℕ) → TermTree
   convert : (kind : Kind) (operand : TermTree) → TermTree
   select : (condition accepted otherwise : TermTree) → TermTree
+  -- an element of an array of so many
+  element : (place : Place) (array size : ℕ) (index : TermTree) → TermTree
 
 mutual
   pub data FlatTree : Type 0 where
-    declare : (variable : ℕ) (word : WordType) (value : TermTree) → FlatTree
+    declare : (variable : ℕ) (word : WordType) (mutable : Bool) (value : TermTree) → FlatTree
+    -- an array of so many elements: its first values where some are written, else zeros
+    array : (variable : ℕ) (word : WordType) (mutable : Bool) (size : ℕ) (values : List TermTree) → FlatTree
     assign : (variable : ℕ) (value : TermTree) → FlatTree
-    branch : (condition : TermTree) (accepted otherwise : FlatBlock) → FlatTree
+    -- an element of an array of so many is assigned to
+    put : (place : Place) (variable size : ℕ) (index value : TermTree) → FlatTree
+    -- a conditional, with the label of its condition
+    branch : (label : Label) (condition : TermTree) (accepted otherwise : FlatBlock) → FlatTree
+    -- a loop: the first number that its counter is, and the first that it is no longer
+    loop : (counter : ℕ) (low high : TermTree) (body : FlatBlock) → FlatTree
 
   pub data FlatBlock : Type 0 where
     nothing : FlatBlock
     first : (statement : FlatTree) (rest : FlatBlock) → FlatBlock
 
--- the export: its parameters are the first variables, in their order
+-- one word, declared
+abbrev pub word_as : WordType → Bool → FlatVariable
+word_as word mutable = record { word = word; mutable = mutable; elements = None }
+
+-- an array of so many elements, declared
+abbrev pub array_as : WordType → Bool → ℕ → FlatVariable
+array_as word mutable size = record { word = word; mutable = mutable; elements = Some size }
+
+-- how many numbers a variable holds
+abbrev pub numbers_in : Option ℕ → ℕ
+numbers_in None = 1
+numbers_in (Some size) = size
+
+-- how many elements a parameter of this form has, where it is an array
+abbrev pub elements_by : Form → ℕ → Option ℕ
+elements_by SingleWord length = None
+elements_by FixedArray length = Some length
+elements_by MutableArray length = Some length
+
+-- a parameter is a variable
+abbrev pub declaration_of : Param → FlatVariable
+declaration_of p = record { word = record { kind = p.kind; label = p.label }; mutable = is_mutable p.form; elements = elements_by p.form p.length }
+
+-- the export
 pub record FlatProgram : Type 0 where
+  -- where its name stands
+  pub place : Place
   pub parameters : List Param
   -- the type of its result, where it has one
   pub returned : Option WordType
   -- how many nodes the source has
   pub nodes : ℕ
-  -- how many variables there are
-  pub variables : ℕ
+  -- its variables, each at its number: the parameters first, in their order, then what is declared, in the order of the text
+  pub declared : List FlatVariable
   pub body : FlatBlock
   -- the result, where there is one
   pub value : Option TermTree
@@ -48,18 +89,22 @@ term_tree (Number value kind) = number value kind
 term_tree (Truth value) = truth value
 term_tree (Variable n) = variable n
 term_tree (Prefix' operator width p operand) = prefix operator width (term_tree operand)
-term_tree (Binary' operator width p left q right) = binary operator width (term_tree left) (term_tree right)
+term_tree (Binary' place operator width p left q right) = binary place operator width (term_tree left) (term_tree right)
 term_tree (Rotate' width p operand amount) = rotate width (term_tree operand) amount
 term_tree (Convert' kind p operand) = convert kind (term_tree operand)
 term_tree (Select' p condition q accepted r otherwise) = select (term_tree condition) (term_tree accepted) (term_tree otherwise)
+term_tree (Element' place array size p index) = element place array size (term_tree index)
 
 abbrev mutual
   pub flat_tree : FlatStatement → FlatTree
-  flat_tree (Declare x word value) = declare x word (term_tree value)
+  flat_tree (Declare x word mutable value) = declare x word mutable (term_tree value)
+  flat_tree (DeclareArray x word mutable size values) = array x word mutable size (map term_tree values.items)
   flat_tree (Assign x value) = assign x (term_tree value)
-  flat_tree (Branch' condition shape accepted shape' otherwise) = branch (term_tree condition) (row_tree accepted) (row_tree otherwise)
+  flat_tree (AssignElement place x size index value) = put place x size (term_tree index) (term_tree value)
+  flat_tree (Branch' label condition shape accepted shape' otherwise) = branch label (term_tree condition) (row_tree accepted) (row_tree otherwise)
+  flat_tree (Loop' x low high shape body) = loop x (term_tree low) (term_tree high) (row_tree body)
 
-  -- the statements of an arm
+  -- the statements of an arm or a loop
   pub row_tree : {m : _} → Row_of-FlatStatement m → FlatBlock
   row_tree end_of-FlatStatement = nothing
   row_tree (more_of-FlatStatement statement rest) = first (flat_tree statement) (row_tree rest)

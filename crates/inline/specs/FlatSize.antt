@@ -1,9 +1,14 @@
 -- How large a body with numbered variables is, and the bounds that it keeps.
-use Rattle.std.specs.Prelude.{◌≡◌, ℕ, ◌+◌, ◌*◌, ◌≤◌, length, Option, None, Some}
+use Rattle.std.specs.Prelude.{◌≡◌, ℕ, ◌+◌, ◌*◌, ◌≤◌, List, [], ◌∷◌, Option, None, Some}
 use Rattle.std.specs.List.{AllByRecursion}
-use Rattle.inline.specs.Flat.{TermTree, number, truth, variable, prefix, binary, rotate, convert, select, FlatTree, declare, assign, branch, FlatBlock, nothing, first, FlatProgram}
-use Rattle.language.specs.declared.signature.Form.TheVariants.{SingleWord}
+use Rattle.inline.specs.declared.flat.FlatVariable.{FlatVariable}
+use Rattle.inline.specs.Flat.{TermTree, number, truth, variable, prefix, binary, rotate, convert, select, element, FlatTree, declare, array, assign, put, branch, loop, FlatBlock, nothing, first, FlatProgram}
+use Rattle.language.specs.declared.limits.TheConstants.{MOST_NODES, MOST_DECLARED_BYTES, MOST_ELEMENTS}
+use Rattle.language.specs.declared.signature.Form.{Form}
+use Rattle.language.specs.declared.signature.Form.TheVariants.{SingleWord, FixedArray, MutableArray}
 use Rattle.language.specs.declared.signature.Param.{Param}
+use Rattle.language.specs.Size.{array_words}
+use Rattle.language.specs.declared.typing.WordType.{WordType}
 
 -- the nodes of an expression
 abbrev pub term_nodes : TermTree → ℕ
@@ -11,17 +16,26 @@ term_nodes (number value kind) = 1
 term_nodes (truth value) = 1
 term_nodes (variable x) = 1
 term_nodes (prefix operator width operand) = 1 + term_nodes operand
-term_nodes (binary operator width left right) = 1 + term_nodes left + term_nodes right
+term_nodes (binary place operator width left right) = 1 + term_nodes left + term_nodes right
 term_nodes (rotate width operand amount) = 1 + term_nodes operand
 term_nodes (convert kind operand) = 1 + term_nodes operand
 term_nodes (select condition accepted otherwise) = 1 + term_nodes condition + term_nodes accepted + term_nodes otherwise
+term_nodes (element place x size index) = 1 + term_nodes index
+
+-- of expressions
+abbrev pub terms_nodes : List TermTree → ℕ
+terms_nodes [] = 0
+terms_nodes (e ∷ es) = term_nodes e + terms_nodes es
 
 abbrev mutual
-  -- the nodes of a statement, itself among them
+  -- the nodes of a statement, itself among them; an element that is assigned to is one too
   pub tree_nodes : FlatTree → ℕ
-  tree_nodes (declare x word value) = 1 + term_nodes value
+  tree_nodes (declare x word mutable value) = 1 + term_nodes value
+  tree_nodes (array x word mutable size values) = 1 + terms_nodes values
   tree_nodes (assign x value) = 1 + term_nodes value
-  tree_nodes (branch condition accepted otherwise) = 1 + term_nodes condition + body_nodes accepted + body_nodes otherwise
+  tree_nodes (put place x size index value) = 1 + (1 + term_nodes index) + term_nodes value
+  tree_nodes (branch label condition accepted otherwise) = 1 + term_nodes condition + body_nodes accepted + body_nodes otherwise
+  tree_nodes (loop x low high body) = 1 + term_nodes low + term_nodes high + body_nodes body
 
   pub body_nodes : FlatBlock → ℕ
   body_nodes nothing = 0
@@ -32,46 +46,29 @@ abbrev pub value_nodes : Option TermTree → ℕ
 value_nodes None = 0
 value_nodes (Some value) = 1 + term_nodes value
 
--- the variables of an expression are numbered up to this one
-abbrev pub IsUpTo : ℕ → TermTree → Type 0
-IsUpTo most (number value kind) = Unit {0}
-IsUpTo most (truth value) = Unit {0}
-IsUpTo most (variable x) = x ≤ most
-IsUpTo most (prefix operator width operand) = IsUpTo most operand
-IsUpTo most (binary operator width left right) = IsUpTo most left × IsUpTo most right
-IsUpTo most (rotate width operand amount) = IsUpTo most operand
-IsUpTo most (convert kind operand) = IsUpTo most operand
-IsUpTo most (select condition accepted otherwise) = IsUpTo most condition × IsUpTo most accepted × IsUpTo most otherwise
+-- how many words of 4 bytes a variable takes: the last one of an array may be taken in part
+abbrev pub words_by : WordType → Option ℕ → ℕ
+words_by word None = 1
+words_by word (Some size) = array_words word.kind size
 
--- so are those of a result, where there is one
-abbrev pub IsResultUpTo : ℕ → Option TermTree → Type 0
-IsResultUpTo most None = Unit {0}
-IsResultUpTo most (Some value) = IsUpTo most value
+abbrev pub words_of : FlatVariable → ℕ
+words_of d = words_by d.word d.elements
 
-abbrev mutual
-  -- so are those of a statement
-  pub IsTreeUpTo : ℕ → FlatTree → Type 0
-  IsTreeUpTo most (declare x word value) = (x ≤ most) × IsUpTo most value
-  IsTreeUpTo most (assign x value) = (x ≤ most) × IsUpTo most value
-  IsTreeUpTo most (branch condition accepted otherwise) = IsUpTo most condition × IsBodyUpTo most accepted × IsBodyUpTo most otherwise
+-- how many words all variables take
+abbrev pub declared_words : List FlatVariable → ℕ
+declared_words [] = 0
+declared_words (d ∷ ds) = words_of d + declared_words ds
 
-  pub IsBodyUpTo : ℕ → FlatBlock → Type 0
-  IsBodyUpTo most nothing = Unit {0}
-  IsBodyUpTo most (first statement rest) = IsTreeUpTo most statement × IsBodyUpTo most rest
-
--- a parameter of one word. Arrays are not compiled yet.
-pub record IsWord (p : Param) : Type 0 where
-  pub form : p.form ≡ SingleWord
-  pub length : p.length ≡ 1
+-- a parameter's length: 1 of a word, and an array has at least one element
+abbrev pub HasLength : Form → ℕ → Type 0
+HasLength SingleWord length = length ≡ 1
+HasLength FixedArray length = (1 ≤ length) × (length ≤ MOST_ELEMENTS)
+HasLength MutableArray length = (1 ≤ length) × (length ≤ MOST_ELEMENTS)
 
 -- a program within the limits on size
 pub record IsSized (p : FlatProgram) : Type 0 where
-  pub words : AllByRecursion IsWord p.parameters
-  -- the parameters are variables, and with the others they take no more bytes than may be declared
-  pub parameters : length p.parameters ≤ p.variables
-  pub variables : 4 * p.variables ≤ 32768
-  pub body : IsBodyUpTo p.variables p.body
-  pub value : IsResultUpTo p.variables p.value
-  -- it has no more nodes than the source, whose nodes are within the limit
-  pub counted : body_nodes p.body + value_nodes p.value ≤ p.nodes
-  pub nodes : p.nodes ≤ 6000
+  pub lengths : AllByRecursion (λ (parameter : Param). HasLength parameter.form parameter.length) p.parameters
+  pub declared : 4 * declared_words p.declared ≤ MOST_DECLARED_BYTES
+  -- its nodes are those of the source
+  pub counted : body_nodes p.body + value_nodes p.value ≡ p.nodes
+  pub nodes : p.nodes ≤ MOST_NODES

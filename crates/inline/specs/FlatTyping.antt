@@ -1,8 +1,9 @@
 -- Types of numbered variables: what is known of a well-typed body once its names are gone.
-use Rattle.std.specs.Prelude.{◌≡◌, ℕ, zero, suc, Bool, false, ◌^◌, ◌<◌, ◌==◌, List, [], ◌∷◌, Option, None, Some, if◌then◌else◌}
-use Rattle.inline.specs.Flat.{TermTree, number, truth, variable, prefix, binary, rotate, convert, select, FlatTree, declare, assign, branch, FlatBlock, nothing, first, FlatProgram}
+use Rattle.std.specs.Prelude.{◌≡◌, ℕ, Bool, true, false, ◌^◌, ◌<◌, ◌==◌, ◌+◌, List, [], ◌∷◌, length, map, take, Option, None, Some, if◌then◌else◌, slice_get}
+use Rattle.inline.specs.declared.flat.FlatVariable.{FlatVariable}
+use Rattle.inline.specs.Flat.{TermTree, number, truth, variable, prefix, binary, rotate, convert, select, element, FlatTree, declare, array, assign, put, branch, loop, FlatBlock, nothing, first, FlatProgram, word_as, array_as, declaration_of}
 use Rattle.language.specs.declared.signature.Kind.{Kind}
-use Rattle.language.specs.declared.signature.Kind.TheVariants.{Boolean}
+use Rattle.language.specs.declared.signature.Kind.TheVariants.{Boolean, Uint32}
 use Rattle.language.specs.declared.signature.Label.{Label}
 use Rattle.language.specs.declared.signature.Label.TheVariants.{Public, Secret}
 use Rattle.language.specs.declared.signature.Param.{Param}
@@ -11,40 +12,44 @@ use Rattle.language.specs.declared.tree.PrefixOperator.{PrefixOperator}
 use Rattle.language.specs.declared.typing.WordType.{WordType}
 use Rattle.language.specs.ExprTyping.{operation_of}
 use Rattle.language.specs.Grammatical.{IsNumberKind}
-use Rattle.language.specs.Operators.{divides, width_of}
+use Rattle.language.specs.Operators.{width_of}
 use Rattle.language.specs.Types.{bits_of, joined}
 use Rattle.language.specs.WellTyped.{labelled, Makes, Takes}
+use Rattle.word.specs.declared.place.Place.{Place}
 use Rattle.word.specs.declared.width.Width.{Width}
 
--- the types of the variables in scope
+-- what the variables in scope are declared as
 abbrev pub Types : Type 0
-Types = ℕ → Option WordType
+Types = ℕ → Option FlatVariable
 
-abbrev pub with_type : Types → ℕ → WordType → Types
-with_type types x word = λ y. if y == x then Some word else types y
+abbrev pub with_type : Types → ℕ → FlatVariable → Types
+with_type types x declaration = λ y. if y == x then Some declaration else types y
 
--- an expression of this type, by rules of inference. Of the operators those are here that are compiled: none divides.
+-- all variables of a list, each at its number
+abbrev pub types_of : List FlatVariable → Types
+types_of declared = λ x. slice_get declared x
+
+-- an expression of this type, by rules of inference
 pub data HasType (types : Types) : TermTree → WordType → Type 0 where
   of_number : {value : ℕ} {kind : Kind}
       → value < 2 ^ bits_of kind
       → HasType types (number value kind) (labelled kind Public)
   of_truth : {value : Bool}
       → HasType types (truth value) (labelled Boolean Public)
-  of_variable : {x : ℕ} {word : WordType}
-      → types x ≡ Some word
+  of_variable : {x : ℕ} {word : WordType} {mutable : Bool}
+      → types x ≡ Some (word_as word mutable)
       → HasType types (variable x) word
   of_prefix : {operator : PrefixOperator} {width : Width} {operand : TermTree} {kind : Kind} {label : Label}
       → HasType types operand (labelled kind label)
       → Takes operator kind
       → width ≡ width_of kind
       → HasType types (prefix operator width operand) (labelled kind label)
-  of_binary : {operator : BinaryOperator} {width : Width} {left right : TermTree} {one other whole : WordType}
+  of_binary : {place : Place} {operator : BinaryOperator} {width : Width} {left right : TermTree} {one other whole : WordType}
       → HasType types left one
       → HasType types right other
       → Makes (operation_of operator) one other whole
-      → divides operator ≡ false
       → width ≡ width_of one.kind
-      → HasType types (binary operator width left right) whole
+      → HasType types (binary place operator width left right) whole
   of_rotation : {width : Width} {operand : TermTree} {amount : ℕ} {kind : Kind} {label : Label}
       → HasType types operand (labelled kind label)
       → IsNumberKind kind
@@ -61,6 +66,10 @@ pub data HasType (types : Types) : TermTree → WordType → Type 0 where
       → HasType types accepted (labelled kind m)
       → HasType types otherwise (labelled kind n)
       → HasType types (select condition accepted otherwise) (labelled kind (joined l (joined m n)))
+  of_element : {place : Place} {x size : ℕ} {index : TermTree} {word : WordType} {mutable : Bool}
+      → types x ≡ Some (array_as word mutable size)
+      → HasType types index (labelled Uint32 Public)
+      → HasType types (element place x size index) word
 
 -- an expression that may be put where this type is wanted: of the same kind, and no secret where it is public
 pub record Suits (types : Types) (wanted : WordType) (term : TermTree) : Type 0 where
@@ -69,42 +78,105 @@ pub record Suits (types : Types) (wanted : WordType) (term : TermTree) : Type 0 
   pub kind : word.kind ≡ wanted.kind
   pub label : wanted.label ≡ Public → word.label ≡ Public
 
--- the types after a statement: an arm's variables are its own
+-- so does each of these
+abbrev pub AllSuit : Types → WordType → List TermTree → Type 0
+AllSuit types wanted [] = Unit {0}
+AllSuit types wanted (e ∷ es) = Suits types wanted e × AllSuit types wanted es
+
+-- no first values, or one for each of so many elements
+abbrev pub HasCount : ℕ → List TermTree → Type 0
+HasCount size [] = Unit {0}
+HasCount size (e ∷ es) = length (e ∷ es) ≡ size
+
+-- a counter is a public number
+abbrev pub counter_type : WordType
+counter_type = labelled Uint32 Public
+
+-- the types after a statement: what an arm or a loop declares is its own
 abbrev pub types_after : Types → FlatTree → Types
-types_after types (declare x word value) = with_type types x word
+types_after types (declare x word mutable value) = with_type types x (word_as word mutable)
+types_after types (array x word mutable size values) = with_type types x (array_as word mutable size)
 types_after types (assign x value) = types
-types_after types (branch condition accepted otherwise) = types
-
--- a variable that may be assigned to under the control label, and a value for it
-pub record IsAssigned (types : Types) (control : Label) (x : ℕ) (value : TermTree) : Type 0 where
-  pub word : WordType
-  pub known : types x ≡ Some word
-  pub suits : Suits types word value
-  pub hidden : control ≡ Secret → word.label ≡ Secret
-
-abbrev mutual
-  -- a well-typed statement under a control label. What it declares is new.
-  pub IsTyped : Types → Label → FlatTree → Type 0
-  IsTyped types control (declare x word value) = (types x ≡ None) × Suits types word value
-  IsTyped types control (assign x value) = IsAssigned types control x value
-  IsTyped types control (branch condition accepted otherwise) =
-      (word : WordType) × HasType types condition word × (word.kind ≡ Boolean)
-      × AreTyped types (joined word.label control) accepted × AreTyped types (joined word.label control) otherwise
-
-  pub AreTyped : Types → Label → FlatBlock → Type 0
-  AreTyped types control nothing = Unit {0}
-  AreTyped types control (first statement rest) = IsTyped types control statement × AreTyped (types_after types statement) control rest
+types_after types (put place x size index value) = types
+types_after types (branch label condition accepted otherwise) = types
+types_after types (loop x low high body) = types
 
 -- the types after some statements
 abbrev pub types_after_all : Types → FlatBlock → Types
 types_after_all types nothing = types
 types_after_all types (first statement rest) = types_after_all (types_after types statement) rest
 
+-- a variable that may be assigned to under the control label, and a value for it
+pub record IsAssigned (types : Types) (control : Label) (x : ℕ) (value : TermTree) : Type 0 where
+  pub word : WordType
+  pub known : types x ≡ Some (word_as word true)
+  pub suits : Suits types word value
+  pub hidden : control ≡ Secret → word.label ≡ Secret
+
+-- an array whose elements may be assigned to under the control label, an index, and a value for the element
+pub record IsPut (types : Types) (control : Label) (x size : ℕ) (index value : TermTree) : Type 0 where
+  pub word : WordType
+  pub known : types x ≡ Some (array_as word true size)
+  pub index_type : HasType types index (labelled Uint32 Public)
+  pub suits : Suits types word value
+  pub hidden : control ≡ Secret → word.label ≡ Secret
+
+-- a variable that is new where it is declared, and is so declared in the list of all
+pub record IsNew (declared : List FlatVariable) (types : Types) (x : ℕ) (declaration : FlatVariable) : Type 0 where
+  pub new : types x ≡ None
+  pub listed : slice_get declared x ≡ Some declaration
+
+abbrev mutual
+  -- a well-typed statement under a control label, where this is the list of all variables
+  pub IsTyped : List FlatVariable → Types → Label → FlatTree → Type 0
+  IsTyped declared types control (declare x word mutable value) = IsNew declared types x (word_as word mutable) × Suits types word value
+  IsTyped declared types control (array x word mutable size values) =
+      IsNew declared types x (array_as word mutable size) × AllSuit types word values × HasCount size values
+  IsTyped declared types control (assign x value) = IsAssigned types control x value
+  IsTyped declared types control (put place x size index value) = IsPut types control x size index value
+  IsTyped declared types control (branch label condition accepted otherwise) =
+      HasType types condition (labelled Boolean label)
+      × AreTyped declared types (joined label control) accepted × AreTyped declared types (joined label control) otherwise
+  IsTyped declared types control (loop x low high body) =
+      HasType types low counter_type × HasType types high counter_type
+      × IsNew declared types x (word_as counter_type false) × AreTyped declared (with_type types x (word_as counter_type false)) control body
+
+  pub AreTyped : List FlatVariable → Types → Label → FlatBlock → Type 0
+  AreTyped declared types control nothing = Unit {0}
+  AreTyped declared types control (first statement rest) =
+      IsTyped declared types control statement × AreTyped declared (types_after types statement) control rest
+
+abbrev mutual
+  -- how many variables a statement declares
+  pub declarations_in : FlatTree → ℕ
+  declarations_in (declare x word mutable value) = 1
+  declarations_in (array x word mutable size values) = 1
+  declarations_in (assign x value) = 0
+  declarations_in (put place x size index value) = 0
+  declarations_in (branch label condition accepted otherwise) = declarations_in_all accepted + declarations_in_all otherwise
+  declarations_in (loop x low high body) = 1 + declarations_in_all body
+
+  pub declarations_in_all : FlatBlock → ℕ
+  declarations_in_all nothing = 0
+  declarations_in_all (first statement rest) = declarations_in statement + declarations_in_all rest
+
+abbrev mutual
+  -- the variables that a statement declares have the numbers from n on, in their order
+  pub IsNumbered : ℕ → FlatTree → Type 0
+  IsNumbered n (declare x word mutable value) = x ≡ n
+  IsNumbered n (array x word mutable size values) = x ≡ n
+  IsNumbered n (assign x value) = Unit {0}
+  IsNumbered n (put place x size index value) = Unit {0}
+  IsNumbered n (branch label condition accepted otherwise) = AreNumbered n accepted × AreNumbered (n + declarations_in_all accepted) otherwise
+  IsNumbered n (loop x low high body) = (x ≡ n) × AreNumbered (n + 1) body
+
+  pub AreNumbered : ℕ → FlatBlock → Type 0
+  AreNumbered n nothing = Unit {0}
+  AreNumbered n (first statement rest) = IsNumbered n statement × AreNumbered (n + declarations_in statement) rest
+
 -- the parameters' types
 abbrev pub parameter_types : List Param → Types
-parameter_types [] x = None
-parameter_types (p ∷ ps) zero = Some (record { kind = p.kind; label = p.label })
-parameter_types (p ∷ ps) (suc x) = parameter_types ps x
+parameter_types parameters = types_of (map declaration_of parameters)
 
 -- a value stands exactly where there is a result, and suits its type
 abbrev pub IsResult : Types → Option WordType → Option TermTree → Type 0
@@ -113,7 +185,15 @@ IsResult types None (Some value) = ⊥
 IsResult types (Some word) None = ⊥
 IsResult types (Some word) (Some value) = Suits types word value
 
+-- the types where the body has ended
+abbrev pub end_types : FlatProgram → Types
+end_types p = types_after_all (parameter_types p.parameters) p.body
+
 -- a well-typed program
 pub record IsTypedProgram (p : FlatProgram) : Type 0 where
-  pub body : AreTyped (parameter_types p.parameters) Public p.body
-  pub result : IsResult (types_after_all (parameter_types p.parameters) p.body) p.returned p.value
+  -- the parameters are the first variables
+  pub parameters : take (length p.parameters) p.declared ≡ map declaration_of p.parameters
+  -- and what the body declares comes behind them
+  pub numbered : AreNumbered (length p.parameters) p.body
+  pub body : AreTyped p.declared (parameter_types p.parameters) Public p.body
+  pub result : IsResult (end_types p) p.returned p.value

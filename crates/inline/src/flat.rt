@@ -1,29 +1,48 @@
-use language::{BinaryOperator, Kind, PrefixOperator, WordType};
+use language::{BinaryOperator, Kind, Label, Place, PrefixOperator, WordType};
 use word::Width;
 
+/// What a variable is declared as: its type, or that of its elements where it is an array.
+#[derive(Clone, Copy, Debug, PartialEq, Eq)]
+pub struct FlatVariable {
+    pub word: WordType,
+    /// Whether it may be assigned to.
+    pub mutable: bool,
+    /// How many elements an array has; a word has none.
+    pub elements: Option<u32>,
+}
+
 /// An expression over numbered variables. Where the width of an operand decides what a node means, the
-/// node has it: the left operand's.
+/// node has it: the left operand's. A node that may meet a fault has its place.
 #[derive(Debug, Drop)]
 pub enum Term {
     Number(u32, Kind),
     Truth(bool),
     Variable(u32),
     Prefix(PrefixOperator, Width, Box<Term>),
-    Binary(BinaryOperator, Width, Box<Term>, Box<Term>),
+    Binary(Place, BinaryOperator, Width, Box<Term>, Box<Term>),
     /// The operand's bits, moved up by the amount around the width.
     Rotate(Width, Box<Term>, u32),
     /// The operand, as a number of this kind.
     Convert(Kind, Box<Term>),
     /// The first operand chooses between the second, where it is true, and the third.
     Select(Box<Term>, Box<Term>, Box<Term>),
+    /// The element at an index of an array, which has so many.
+    Element(Place, u32, u32, Box<Term>),
 }
 
 /// A statement over numbered variables.
 #[derive(Debug, Drop)]
 pub enum FlatStatement {
-    /// A variable of this number and type begins, with its first value.
-    Declare(u32, WordType, Term),
+    /// A variable of this number and type begins, `mut` or not, with its first value.
+    Declare(u32, WordType, bool, Term),
+    /// An array of this number and type of its elements begins, `mut` or not, with so many elements:
+    /// these values, or zeros where none are written.
+    DeclareArray(u32, WordType, bool, u32, Vec<Term>),
     Assign(u32, Term),
-    /// What runs where the condition is true, and where it is not.
-    Branch(Term, Vec<FlatStatement>, Vec<FlatStatement>),
+    /// The element at an index of an array, which has so many, is set to a value.
+    AssignElement(Place, u32, u32, Term, Term),
+    /// What runs where the condition, which has this label, is true, and where it is not.
+    Branch(Label, Term, Vec<FlatStatement>, Vec<FlatStatement>),
+    /// What runs for each number of a counter, from the first bound up to the last before the second.
+    Loop(u32, Term, Term, Vec<FlatStatement>),
 }

@@ -1,0 +1,6 @@
+pub mod Ranged
+pub mod Loose
+pub mod Intervals
+pub mod Narrowing
+pub mod Ranges
+pub mod Work

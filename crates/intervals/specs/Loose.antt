@@ -1,0 +1,127 @@
+-- Loose runs: runs of a body in which a secret expression may have any value of its type. So a conditional on a secret may
+-- go either way.
+use Rattle.std.specs.Prelude.{◌≡◌, ℕ, zero, suc, ◌+◌, ◌-◌, ◌==◌, List, [], ◌∷◌, ◌++◌, Option, None, Some, if◌then◌else◌, slice_index, slice_set, replicate, Bool}
+use Rattle.arguments.specs.Within.{AreWithin}
+use Rattle.inline.specs.Fitting.{IsWithinKind}
+use Rattle.inline.specs.Flat.{TermTree, number, truth, variable, prefix, binary, rotate, convert, select, element, FlatTree, declare, array, assign, put, branch, loop, FlatBlock, nothing, first, FlatProgram}
+use Rattle.inline.specs.FlatMeaning.{Values, with_value, division, given}
+use Rattle.inline.specs.FlatTyping.{Types, types_of, HasType}
+use Rattle.inline.specs.Path.{Path, bounded, indexed, AreFine}
+use Rattle.language.specs.Operators.{operated, prefix_value, width_of}
+use Rattle.language.specs.declared.signature.Kind.{Kind}
+use Rattle.language.specs.declared.signature.Label.{Label}
+use Rattle.language.specs.declared.signature.Label.TheVariants.{Secret}
+use Rattle.language.specs.declared.tree.BinaryOperator.{BinaryOperator}
+use Rattle.language.specs.declared.tree.PrefixOperator.{PrefixOperator}
+use Rattle.language.specs.declared.typing.WordType.{WordType}
+use Rattle.language.specs.declared.values.Arg.{Arg}
+use Rattle.word.specs.Operators.{rotated_left, converted, word_of}
+use Rattle.word.specs.declared.place.Place.{Place}
+use Rattle.word.specs.declared.width.Width.{Width}
+
+-- where the variables of these types hold these values, an expression may come to this value, on this path
+pub data Comes (types : Types) (m : Values) : TermTree → ℕ → Path → Type 0 where
+  to_number : {value : ℕ} {kind : Kind} → Comes types m (number value kind) value []
+  to_truth : {value : Bool} → Comes types m (truth value) (word_of value) []
+  to_variable : {x : ℕ} → Comes types m (variable x) (slice_index (m x) 0) []
+  to_prefix : {operator : PrefixOperator} {width : Width} {operand : TermTree} {a : ℕ} {path : Path}
+      → Comes types m operand a path
+      → Comes types m (prefix operator width operand) (prefix_value operator width a) path
+  to_binary : {place : Place} {operator : BinaryOperator} {width : Width} {left right : TermTree} {a b : ℕ} {p q : Path}
+      → Comes types m left a p
+      → Comes types m right b q
+      → Comes types m (binary place operator width left right) (operated operator width a b) (p ++ q ++ division place operator a b)
+  to_rotation : {width : Width} {operand : TermTree} {amount a : ℕ} {path : Path}
+      → Comes types m operand a path
+      → Comes types m (rotate width operand amount) (rotated_left width a amount) path
+  to_conversion : {kind : Kind} {operand : TermTree} {a : ℕ} {path : Path}
+      → Comes types m operand a path
+      → Comes types m (convert kind operand) (converted (width_of kind) a) path
+  to_selection : {condition accepted otherwise : TermTree} {c a b : ℕ} {p q r : Path}
+      → Comes types m condition c p
+      → Comes types m accepted a q
+      → Comes types m otherwise b r
+      → Comes types m (select condition accepted otherwise) (if c == 0 then b else a) (p ++ q ++ r)
+  to_element : {place : Place} {x size : ℕ} {index : TermTree} {i : ℕ} {path : Path}
+      → Comes types m index i path
+      → Comes types m (element place x size index) (slice_index (m x) i) (path ++ indexed place size i ∷ [])
+  -- a secret may be anything of its kind
+  to_anything : {e : TermTree} {word : WordType} {u v : ℕ} {path : Path}
+      → Comes types m e u path
+      → HasType types e word
+      → word.label ≡ Secret
+      → IsWithinKind word.kind v
+      → Comes types m e v path
+
+-- expressions, from left to right
+pub data ComeAll (types : Types) (m : Values) : List TermTree → List ℕ → Path → Type 0 where
+  none_left : ComeAll types m [] [] []
+  one_more : {e : TermTree} {es : List TermTree} {v : ℕ} {vs : List ℕ} {p q : Path}
+      → Comes types m e v p
+      → ComeAll types m es vs q
+      → ComeAll types m (e ∷ es) (v ∷ vs) (p ++ q)
+
+-- the elements of a new array, where these values are written
+abbrev pub made : ℕ → List ℕ → List ℕ
+made size [] = replicate size 0
+made size (v ∷ vs) = v ∷ vs
+
+mutual
+  -- a statement may lead from these values to those, on this path
+  pub data Leads (types : Types) : Values → FlatTree → Values → Path → Type 0 where
+    declares : {m : Values} {x : ℕ} {word : WordType} {mutable : Bool} {value : TermTree} {v : ℕ} {path : Path}
+        → Comes types m value v path
+        → Leads types m (declare x word mutable value) (with_value m x (v ∷ [])) path
+    declares_array : {m : Values} {x size : ℕ} {word : WordType} {mutable : Bool} {values : List TermTree} {vs : List ℕ} {path : Path}
+        → ComeAll types m values vs path
+        → Leads types m (array x word mutable size values) (with_value m x (made size vs)) path
+    assigns : {m : Values} {x : ℕ} {value : TermTree} {v : ℕ} {path : Path}
+        → Comes types m value v path
+        → Leads types m (assign x value) (with_value m x (v ∷ [])) path
+    puts : {m : Values} {place : Place} {x size : ℕ} {index value : TermTree} {i v : ℕ} {p q : Path}
+        → Comes types m index i p
+        → Comes types m value v q
+        → Leads types m (put place x size index value) (with_value m x (slice_set (m x) i v)) (p ++ indexed place size i ∷ q)
+    chooses : {m t : Values} {label : Label} {condition : TermTree} {accepted otherwise : FlatBlock} {c : ℕ} {p q : Path}
+        → Comes types m condition c p
+        → LeadAll types m (if c == 0 then otherwise else accepted) t q
+        → Leads types m (branch label condition accepted otherwise) t (p ++ q)
+    repeats : {m t : Values} {x : ℕ} {low high : TermTree} {body : FlatBlock} {a b : ℕ} {p q r : Path}
+        → Comes types m low a p
+        → Comes types m high b q
+        → Turns types x body (b - a) a m t r
+        → Leads types m (loop x low high body) t (p ++ q ++ bounded x a b ∷ r)
+
+  -- so many turns of a loop, the first at this number
+  pub data Turns (types : Types) (x : ℕ) (body : FlatBlock) : ℕ → ℕ → Values → Values → Path → Type 0 where
+    no_turn : {i : ℕ} {m : Values} → Turns types x body zero i m m []
+    a_turn : {n i : ℕ} {m s t : Values} {p q : Path}
+        → LeadAll types (with_value m x (i ∷ [])) body s p
+        → Turns types x body n (i + 1) s t q
+        → Turns types x body (suc n) i m t (p ++ q)
+
+  -- statements in their order
+  pub data LeadAll (types : Types) : Values → FlatBlock → Values → Path → Type 0 where
+    ends : {m : Values} → LeadAll types m nothing m []
+    goes_on : {m s t : Values} {statement : FlatTree} {rest : FlatBlock} {p q : Path}
+        → Leads types m statement s p
+        → LeadAll types s rest t q
+        → LeadAll types m (first statement rest) t (p ++ q)
+
+-- the result, where there is one
+pub data Returns (types : Types) (m : Values) : Option TermTree → Path → Type 0 where
+  nothing_returned : Returns types m None []
+  returned : {value : TermTree} {v : ℕ} {path : Path} → Comes types m value v path → Returns types m (Some value) path
+
+-- a loose run of a program on arguments, on this path
+pub record IsLooseRun (p : FlatProgram) (args : List Arg) (path : Path) : Type 0 where
+  pub end : Values
+  pub front : Path
+  pub back : Path
+  pub body : LeadAll (types_of p.declared) (given p.declared args) p.body end front
+  pub result : Returns (types_of p.declared) end p.value back
+  pub whole : path ≡ front ++ back
+
+-- no loose run on arguments within the parameter types meets a fault, or makes more turns in a loop than these
+abbrev pub IsSafe : FlatProgram → List ℕ → Type 0
+IsSafe p turns = (args : List Arg) (path : Path) → AreWithin p.parameters args → IsLooseRun p args path → AreFine turns path

@@ -1,0 +1,10 @@
+-- A body with what is counted for it.
+use Rattle.std.specs.Prelude.{ℕ, List}
+use Rattle.inline.specs.Flat.{FlatProgram}
+
+pub record RangedProgram : Type 0 where
+  pub flat : FlatProgram
+  -- how many turns the loop of each counter makes at most, at the counter's number; 0 at all other numbers
+  pub turns : List ℕ
+  -- how many nodes a run evaluates at most
+  pub work : ℕ

@@ -1,0 +1,135 @@
+-- What is checked of ranges: each index is below the size of its array and no divisor may be 0, in all code, whether a run
+-- reaches it or not. And how many turns are counted for each loop.
+use Rattle.std.specs.Prelude.{ℕ, ◌+◌, ◌-◌, ◌==◌, ◌&&◌, Bool, true, false, not, nat_lt, nat_le, List, [], ◌∷◌, ◌++◌, length, map, replicate, Option, None, Some, if◌then◌else◌, slice_get, slice_set}
+use Rattle.inline.specs.declared.flat.FlatVariable.{FlatVariable}
+use Rattle.inline.specs.Flat.{TermTree, number, truth, variable, prefix, binary, rotate, convert, select, element, FlatTree, declare, array, assign, put, branch, loop, FlatBlock, nothing, first, FlatProgram, declaration_of}
+use Rattle.intervals.specs.declared.interval.Interval.{Interval}
+use Rattle.intervals.specs.Intervals.{Bounds, between, interval, full_of}
+use Rattle.intervals.specs.Narrowing.{with_bound, where_true, where_false}
+use Rattle.language.specs.Operators.{divides}
+use Rattle.language.specs.Types.{at, when}
+use Rattle.language.specs.declared.rule.Rule.{Rule}
+use Rattle.language.specs.declared.rule.Rule.TheVariants.{IndexOutOfRange, DivisorMayBeZero}
+use Rattle.language.specs.declared.signature.Label.{Label}
+use Rattle.language.specs.declared.signature.Label.TheVariants.{Public, Secret}
+use Rattle.language.specs.declared.signature.Param.{Param}
+use Rattle.language.specs.declared.typing.Violation.{Violation}
+use Rattle.language.specs.declared.typing.WordType.{WordType}
+use Rattle.word.specs.declared.place.Place.{Place}
+
+-- an index of this interval, where an array has so many elements
+abbrev pub index_violations : Place → ℕ → Interval → List Violation
+index_violations place size index = at place (when (nat_le size index.high) IndexOutOfRange)
+
+-- the violations in an expression, where this is known of the variables
+abbrev pub term_violations : List FlatVariable → Bounds → TermTree → List Violation
+term_violations declared bounds (number value kind) = []
+term_violations declared bounds (truth value) = []
+term_violations declared bounds (variable x) = []
+term_violations declared bounds (prefix operator width operand) = term_violations declared bounds operand
+term_violations declared bounds (binary place operator width left right) =
+    term_violations declared bounds left ++ term_violations declared bounds right
+    ++ at place (when (divides operator && (interval declared bounds right).low == 0) DivisorMayBeZero)
+term_violations declared bounds (rotate width operand amount) = term_violations declared bounds operand
+term_violations declared bounds (convert kind operand) = term_violations declared bounds operand
+term_violations declared bounds (select condition accepted otherwise) =
+    term_violations declared bounds condition ++ term_violations declared bounds accepted ++ term_violations declared bounds otherwise
+term_violations declared bounds (element place x size index) =
+    term_violations declared bounds index ++ index_violations place size (interval declared bounds index)
+
+abbrev pub terms_violations : List FlatVariable → Bounds → List TermTree → List Violation
+terms_violations declared bounds [] = []
+terms_violations declared bounds (e ∷ es) = term_violations declared bounds e ++ terms_violations declared bounds es
+
+-- a public word that is not `mut` keeps its value
+abbrev pub is_steady : WordType → Bool → Bool
+is_steady (record { kind = kind; label = Public }) mutable = not mutable
+is_steady (record { kind = kind; label = Secret }) mutable = false
+
+-- how many turns a loop makes at most, by the intervals of its bounds
+abbrev pub most_turns : Interval → Interval → ℕ
+most_turns low high = high.high - low.low
+
+-- what a counter is: from the low of the first bound up to one below the high of the second; where there is no turn, the low
+abbrev pub counter_interval : Interval → Interval → Interval
+counter_interval low high = if nat_lt low.low high.high then between low.low (high.high - 1) else between low.low low.low
+
+module _ (declared : List FlatVariable) where
+  -- what is known after a statement: of what an arm or a loop declares nothing is said outside
+  abbrev pub bounds_after : Bounds → FlatTree → Bounds
+  bounds_after bounds (declare x word mutable value) = if is_steady word mutable then with_bound bounds x (interval declared bounds value) else bounds
+  bounds_after bounds (array x word mutable size values) = bounds
+  bounds_after bounds (assign x value) = bounds
+  bounds_after bounds (put place x size index value) = bounds
+  bounds_after bounds (branch label condition accepted otherwise) = bounds
+  bounds_after bounds (loop x low high body) = bounds
+
+  abbrev pub bounds_after_all : Bounds → FlatBlock → Bounds
+  bounds_after_all bounds nothing = bounds
+  bounds_after_all bounds (first statement rest) = bounds_after_all (bounds_after bounds statement) rest
+
+  -- what is known in the body of a loop
+  abbrev pub in_loop : Bounds → ℕ → TermTree → TermTree → Bounds
+  in_loop bounds x low high = with_bound bounds x (counter_interval (interval declared bounds low) (interval declared bounds high))
+
+  abbrev mutual
+    -- the violations in a statement
+    pub violations : Bounds → FlatTree → List Violation
+    violations bounds (declare x word mutable value) = term_violations declared bounds value
+    violations bounds (array x word mutable size values) = terms_violations declared bounds values
+    violations bounds (assign x value) = term_violations declared bounds value
+    violations bounds (put place x size index value) =
+        term_violations declared bounds index ++ index_violations place size (interval declared bounds index) ++ term_violations declared bounds value
+    violations bounds (branch label condition accepted otherwise) =
+        term_violations declared bounds condition
+        ++ violations_all (where_true declared bounds label condition) accepted
+        ++ violations_all (where_false declared bounds label condition) otherwise
+    violations bounds (loop x low high body) =
+        term_violations declared bounds low ++ term_violations declared bounds high ++ violations_all (in_loop bounds x low high) body
+
+    pub violations_all : Bounds → FlatBlock → List Violation
+    violations_all bounds nothing = []
+    violations_all bounds (first statement rest) = violations bounds statement ++ violations_all (bounds_after bounds statement) rest
+
+  abbrev mutual
+    -- the turns counted so far, and those of a statement's loops, each at its counter's number
+    pub counted : Bounds → List ℕ → FlatTree → List ℕ
+    counted bounds turns (declare x word mutable value) = turns
+    counted bounds turns (array x word mutable size values) = turns
+    counted bounds turns (assign x value) = turns
+    counted bounds turns (put place x size index value) = turns
+    counted bounds turns (branch label condition accepted otherwise) =
+        counted_all (where_false declared bounds label condition) (counted_all (where_true declared bounds label condition) turns accepted) otherwise
+    counted bounds turns (loop x low high body) =
+        counted_all (in_loop bounds x low high) (slice_set turns x (most_turns (interval declared bounds low) (interval declared bounds high))) body
+
+    pub counted_all : Bounds → List ℕ → FlatBlock → List ℕ
+    counted_all bounds turns nothing = turns
+    counted_all bounds turns (first statement rest) = counted_all (bounds_after bounds statement) (counted bounds turns statement) rest
+
+-- what is known of a parameter: a public word is something of its kind
+abbrev pub bound_of : WordType → Bool → Option ℕ → Option Interval
+bound_of word mutable None = if is_steady word mutable then Some (full_of word.kind) else None
+bound_of word mutable (Some size) = None
+
+abbrev pub bound_of_parameter : Option Param → Option Interval
+bound_of_parameter None = None
+bound_of_parameter (Some p) = bound_of (declaration_of p).word (declaration_of p).mutable (declaration_of p).elements
+
+-- what is known where the body begins
+abbrev pub first_bounds : List Param → Bounds
+first_bounds parameters = λ x. bound_of_parameter (slice_get parameters x)
+
+abbrev pub result_violations : List FlatVariable → Bounds → Option TermTree → List Violation
+result_violations declared bounds None = []
+result_violations declared bounds (Some value) = term_violations declared bounds value
+
+-- the violations in a program
+abbrev pub range_violations : FlatProgram → List Violation
+range_violations p =
+    violations_all p.declared (first_bounds p.parameters) p.body
+    ++ result_violations p.declared (bounds_after_all p.declared (first_bounds p.parameters) p.body) p.value
+
+-- how many turns are counted for each counter of a program, at its number
+abbrev pub turns_of : FlatProgram → List ℕ
+turns_of p = counted_all p.declared (first_bounds p.parameters) (replicate (length p.declared) 0) p.body
