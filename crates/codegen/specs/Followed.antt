@@ -3,13 +3,12 @@
 use Rattle.std.specs.Prelude.{◌≡◌, ℕ, ◌+◌, ◌*◌, ◌≤◌, List, length, All}
 use Rattle.std.specs.Option.{option_map}
 use Rattle.arguments.specs.Within.{AreWithin}
-use Rattle.branch_removal.specs.Fitness.{IsFitOn}
-use Rattle.branch_removal.specs.Path.{Path, path_of}
 use Rattle.branch_removal.specs.Straight.{StraightProgram}
-use Rattle.branch_removal.specs.StraightMeaning.{outcome_of}
+use Rattle.branch_removal.specs.StraightMeaning.{outcome_of, path_of}
 use Rattle.codegen.specs.Bases.{AreBases, IsInside}
 use Rattle.codegen.specs.Loaded.{params_of, code_at, loaded_at, results_in}
 use Rattle.image.specs.Fields.{Fields}
+use Rattle.inline.specs.Path.{Path, AreFine}
 use Rattle.image.specs.declared.slot.ResultSlot.{ResultSlot}
 use Rattle.rv_machine.specs.Leakage.{Halts}
 use Rattle.rv_machine.specs.Machine.{State}
@@ -27,10 +26,10 @@ pub record RunsAs (p : StraightProgram) (image : Fields) (code frame : ℕ) (arg
   pub within_frame : All (λ (o : Observation). IsInside frame image.frame_bytes o.event) seen
   pub outcome : results_in frame image end.bytes ≡ outcome_of p args
 
--- one list for each path, whatever the arguments
+-- one list for each path, whatever the arguments; no fault is met on the path, and no more turns are made than are counted
 pub record IsFollowed (p : StraightProgram) (image : Fields) (code frame : ℕ) : Type 0 where
   pub shown : Path → List Observation
-  pub runs : (args : List Arg) → AreWithin p.parameters args → IsFitOn p args → RunsAs p image code frame args (shown (path_of p args))
+  pub runs : (args : List Arg) → AreWithin p.parameters args → AreFine p.turns (path_of p args) → RunsAs p image code frame args (shown (path_of p args))
 
 -- the type of what a slot holds
 abbrev pub type_in : ResultSlot → WordType
@@ -40,7 +39,7 @@ type_in slot = record { kind = slot.kind; label = slot.label }
 pub record IsGenerated (p : StraightProgram) (image : Fields) : Type 0 where
   pub parameters : params_of image ≡ p.parameters
   pub returned : option_map type_in image.returned ≡ p.returned
-  pub max_steps : image.max_steps ≡ 32 * p.nodes + 64
+  pub max_steps : image.max_steps ≡ 32 * p.work + 64
   pub frame_size : image.frame_bytes ≤ 65536
   pub word_count : length image.words ≤ 32 * p.nodes + 64
   pub follows : (code frame : ℕ) → AreBases image code frame → IsFollowed p image code frame

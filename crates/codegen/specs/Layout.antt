@@ -1,24 +1,32 @@
--- Where a program's words lie in the frame: the variables, of which the parameters are the first, then the
--- result, the control values, and the temporaries.
-use Rattle.std.specs.Prelude.{ℕ, ◌+◌, ◌*◌, List, [], ◌∷◌}
+-- Where a program's words lie in the frame: the variables, of which the parameters are the first, then the result, the
+-- control values, the bounds of loops, and the temporaries. All offsets are multiples of 4.
+use Rattle.std.specs.Prelude.{ℕ, ◌+◌, ◌*◌, List, [], ◌∷◌, take}
 use Rattle.image.specs.declared.slot.Slot.{Slot}
+use Rattle.inline.specs.declared.flat.FlatVariable.{FlatVariable}
+use Rattle.inline.specs.Flat.{declaration_of}
+use Rattle.inline.specs.FlatSize.{words_of, declared_words}
 use Rattle.language.specs.declared.signature.Param.{Param}
 
-abbrev pub variable_offset : ℕ → ℕ
-variable_offset x = 4 * x
+-- a variable, behind all of lower numbers
+abbrev pub variable_offset : List FlatVariable → ℕ → ℕ
+variable_offset declared x = 4 * declared_words (take x declared)
 
--- after so many variables
-abbrev pub result_offset : ℕ → ℕ
-result_offset variables = 4 * variables
+-- behind all variables
+abbrev pub result_offset : List FlatVariable → ℕ
+result_offset declared = 4 * declared_words declared
 
-abbrev pub control_offset : ℕ → ℕ → ℕ
-control_offset variables control = 4 * variables + 4 + 4 * control
+abbrev pub control_offset : List FlatVariable → ℕ → ℕ
+control_offset declared control = result_offset declared + 4 + 4 * control
 
--- after so many variables and control values
-abbrev pub temporaries_offset : ℕ → ℕ → ℕ
-temporaries_offset variables controls = 4 * variables + 4 + 4 * controls
+-- behind so many control values, for the loop that so many others are around
+abbrev pub bound_offset : List FlatVariable → ℕ → ℕ → ℕ
+bound_offset declared controls depth = result_offset declared + 4 + 4 * controls + 4 * depth
+
+-- behind so many control values and bounds
+abbrev pub temporaries_offset : List FlatVariable → ℕ → ℕ → ℕ
+temporaries_offset declared controls depths = result_offset declared + 4 + 4 * controls + 4 * depths
 
 -- the parameters with their slots, the first at `low`
 abbrev pub slots_from : ℕ → List Param → List Slot
 slots_from low [] = []
-slots_from low (p ∷ ps) = record { param = p; offset = low } ∷ slots_from (low + 4) ps
+slots_from low (p ∷ ps) = record { param = p; offset = low } ∷ slots_from (low + 4 * words_of (declaration_of p)) ps
