@@ -1,5 +1,5 @@
 -- What is answered for a compiled image at the standard bases.
-use Rattle.std.proofs.Common.{◌≡◌, ◌≢◌, ◌↔◌, inl, inr, ℕ, ◌*◌, ◌+◌, ◌<◌, ◌≤◌, ◌==◌, ◌&&◌, Bool, true, false, List, [], length, slice_get, Option, None, Some, Result, Ok, IfSome, if◌then◌else◌, refl, sym, ap, subst, ◌∙◌, arith}
+use Rattle.std.proofs.Common.{◌≡◌, ◌≢◌, ◌↔◌, inl, inr, ℕ, ◌*◌, ◌+◌, ◌<◌, ◌≤◌, ◌==◌, ◌&&◌, Bool, true, false, List, [], length, slice_get, Option, None, Some, Result, Ok, if◌then◌else◌, refl, sym, ap, subst, ◌∙◌, arith}
 use Rattle.std.specs.Option.{option_map}
 use Rattle.std.proofs.lemmas.Bool.Decides.{Decides-eqb}
 use Rattle.arguments.specs.Faults.{fault_of, count_fault}
@@ -18,25 +18,22 @@ use Rattle.rv_machine.specs.declared.observation.Observation.{Observation}
 use Rattle.rv_machine.specs.declared.stops.Stop.{Stop}
 use Rattle.rv_machine.specs.declared.stops.Stop.TheVariants.{Ecall, Break, Illegal, AccessFault, Misaligned, Budget, RecorderRefused}
 use Rattle.arguments.specs.Agreement.{Agree}
+use Rattle.arguments.specs.PublicResults.{AgreeInPublic}
 use Rattle.hepurita.specs.Bases.{code_base, frame_base}
 use Rattle.codegen.specs.Bases.{AreBases}
-use Rattle.hepurita.specs.Compiled.{IsCompiled, RunsTo}
+use Rattle.hepurita.specs.Compiled.{IsCompiled, Means, RunsTo}
 use Rattle.codegen.specs.Loaded.{params_of, code_at, loaded_at, results_in}
-use Rattle.language.specs.declared.signature.Label.TheVariants.{Public}
 use Rattle.language.specs.declared.signature.Param.{Param}
-use Rattle.language.specs.declared.typing.WordType.{WordType}
 use Rattle.language.specs.declared.values.Arg.{Arg}
-use Rattle.language.specs.Meaning.{Ending, Gives, gives}
 use Rattle.syntax.specs.Reading.{OneAnswer}
 use Rattle.language.specs.Results.{Results}
-use Rattle.language.specs.Size.{nodes_of}
 use Rattle.language.specs.Tree.{ProcedureTree, ProgramTree}
 use Rattle.hepurita.specs.declared.fault.RunFault.{RunFault}
 use Rattle.hepurita.specs.Answers.{Builds, IsTheOutcome, IsSame}
 use Rattle.hepurita.specs.Executed.{Executed, answer_at, refused, out_of_memory, ran}
 use Rattle.hepurita.specs.Paired.{Paired, Observed, Compares, pair_fault, first_of, shifted}
 use Rattle.hepurita.specs.Paired as pairs
-use Rattle.hepurita.proofs.JudgementLemmas.{one_export, few_nodes}
+use Rattle.hepurita.proofs.JudgementLemmas.{one_export}
 
 -- ---- the laws of the layers below
 
@@ -49,12 +46,6 @@ Faultless = (params : List Param) (args : List Arg) → (fault_of params args �
 abbrev pub OneForEach : Type 0
 OneForEach = (params : List Param) (args : List Arg) → AreWithin params args → length args ≡ length params
 
-abbrev pub BasesFit : Type 0
-BasesFit = (program : ProgramTree) (p : ProcedureTree) (image : Fields) (k : ℕ) → IsCompiled program p image → nodes_of p ≤ 6000 → k < 8 → AreBases image (code_base + 0x0010_0000 * k) (frame_base + 0x0001_0000 * k)
-
-abbrev pub OneOutcome : Type 0
-OneOutcome = (program : ProgramTree) (args : List Arg) (a b : Ending Results) → Gives program args a → Gives program args b → a ≡ b
-
 -- ---- the image of an accepted text
 
 -- it is the export, compiled, and may lie at the standard bases
@@ -62,13 +53,13 @@ pub record Fits (program : ProgramTree) (export : ProcedureTree) (image : Fields
   pub compiled : IsCompiled program export image
   pub bases : AreBases image code_base frame_base
 
-pub fits : OneAnswer → OneSpelling → BasesFit → (text bytes : List ℕ) (program : ProgramTree) (export : ProcedureTree) (image : Fields) → Builds text bytes program export image → Fits program export image
-fits one spell fit text bytes program export image is =
+pub fits : OneAnswer → OneSpelling → (text bytes : List ℕ) (program : ProgramTree) (export : ProcedureTree) (image : Fields) → Builds text bytes program export image → Fits program export image
+fits one spell text bytes program export image is =
     let built = is.built in
     let same = one_export one text built.program program built.export export built.judged is.judged in
     let images : built.image ≡ image = spell built.image image built.allowed is.allowed (sym built.spelled ∙ is.spelled) in
     let compiled : IsCompiled program export image = subst (λ (f : Fields). IsCompiled program export f) images (subst (λ (p : ProcedureTree). IsCompiled program p built.image) same.1 (subst (λ (p : ProgramTree). IsCompiled p built.export built.image) same.0 built.compiled)) in
-    record { compiled = compiled; bases = fit program export image 0 compiled (few_nodes text program export is.judged) (omega arith) }
+    record { compiled = compiled; bases = subst (λ (f : Fields). AreBases f code_base frame_base) images (built.bases 0 (omega arith)) }
 
 module _ (program : ProgramTree) (export : ProcedureTree) (image : Fields) (is : Fits program export image) where
   -- the run on arguments
@@ -84,25 +75,24 @@ module _ (program : ProgramTree) (export : ProcedureTree) (image : Fields) (is :
   -- ---- execute
 
   -- a run leaves the outcome, or the recorder refused
-  outcome_at : OneOutcome → (args : List Arg) → AreWithin (params_of image) args → (keeps : Bool) (list after : List Observation) (end : State) (stop : Stop) → Ran (code_at code_base image) keeps image.max_steps (loaded_at code_base frame_base image args) list stop end after → IsTheOutcome program args (answer_at frame_base image stop end.bytes)
-  outcome_at one args within keeps list after end Ecall run =
+  outcome_at : (args : List Arg) → AreWithin (params_of image) args → (keeps : Bool) (list after : List Observation) (end : State) (stop : Stop) → Ran (code_at code_base image) keeps image.max_steps (loaded_at code_base frame_base image args) list stop end after → IsTheOutcome program args (answer_at frame_base image stop end.bytes)
+  outcome_at args within keeps list after end Ecall run =
       let ended = is_run args within keeps list after Ecall end run (λ h. cc) in
-      let given = subst (λ (t : State). Gives program args (gives (results_in frame_base image t.bytes))) (sym ended.1) (run_on args within).outcome in
-      (given, λ other h. one program args other _ h given)
-  outcome_at one args within keeps list after end Break run = let ended = (is_run args within keeps list after Break end run (λ h. cc)).0 in cc
-  outcome_at one args within keeps list after end Illegal run = let ended = (is_run args within keeps list after Illegal end run (λ h. cc)).0 in cc
-  outcome_at one args within keeps list after end AccessFault run = let ended = (is_run args within keeps list after AccessFault end run (λ h. cc)).0 in cc
-  outcome_at one args within keeps list after end Misaligned run = let ended = (is_run args within keeps list after Misaligned end run (λ h. cc)).0 in cc
-  outcome_at one args within keeps list after end Budget run = let ended = (is_run args within keeps list after Budget end run (λ h. cc)).0 in cc
-  outcome_at one args within keeps list after end RecorderRefused run = inr refl
+      subst (λ (t : State). Means program args (results_in frame_base image t.bytes)) (sym ended.1) (run_on args within).outcome
+  outcome_at args within keeps list after end Break run = let ended = (is_run args within keeps list after Break end run (λ h. cc)).0 in cc
+  outcome_at args within keeps list after end Illegal run = let ended = (is_run args within keeps list after Illegal end run (λ h. cc)).0 in cc
+  outcome_at args within keeps list after end AccessFault run = let ended = (is_run args within keeps list after AccessFault end run (λ h. cc)).0 in cc
+  outcome_at args within keeps list after end Misaligned run = let ended = (is_run args within keeps list after Misaligned end run (λ h. cc)).0 in cc
+  outcome_at args within keeps list after end Budget run = let ended = (is_run args within keeps list after Budget end run (λ h. cc)).0 in cc
+  outcome_at args within keeps list after end RecorderRefused run = inr refl
 
-  pub the_outcome : Faultless → OneOutcome → (args : List Arg) (keeps : Bool) (list after : List Observation) (answer : Result Results RunFault) → AreWithin (params_of image) args → Executed image args keeps list answer after → IsTheOutcome program args answer
-  the_outcome faultless one args keeps list after answer within (refused first) =
+  pub the_outcome : Faultless → (args : List Arg) (keeps : Bool) (list after : List Observation) (answer : Result Results RunFault) → AreWithin (params_of image) args → Executed image args keeps list answer after → IsTheOutcome program args answer
+  the_outcome faultless args keeps list after answer within (refused first) =
       let none = (faultless (params_of image) args).1 within in
       cc
-  the_outcome faultless one args keeps list after answer within out_of_memory = inl refl
-  the_outcome faultless one args keeps list after answer within (ran {stop} {end} none run answered) =
-      subst (λ (r : Result Results RunFault). IsTheOutcome program args r) (sym answered) (outcome_at one args within keeps list after end stop run)
+  the_outcome faultless args keeps list after answer within out_of_memory = inl refl
+  the_outcome faultless args keeps list after answer within (ran {stop} {end} none run answered) =
+      subst (λ (r : Result Results RunFault). IsTheOutcome program args r) (sym answered) (outcome_at args within keeps list after end stop run)
 
   -- the results of a run that ends by ECALL, and what it showed
   left_at : (args : List Arg) (within : AreWithin (params_of image) args) (keeps : Bool) (list after : List Observation) (end : State) (outcome : Results) (stop : Stop) → Ran (code_at code_base image) keeps image.max_steps (loaded_at code_base frame_base image args) list stop end after → Ok outcome ≡ answer_at frame_base image stop end.bytes → (outcome ≡ results_in frame_base image (run_on args within).end.bytes) × (after ≡ kept keeps list (run_on args within).seen)
@@ -135,13 +125,13 @@ module _ (program : ProgramTree) (export : ProcedureTree) (image : Fields) (is :
         ∙ ap (kept keeps list) same_shown
         ∙ sym (left other keeps list after' b agree.other_within second).1
 
-    pub one_result : (keeps : Bool) (list after after' : List Observation) (x y : Results) → IfSome export.result (λ (word : WordType). word.label ≡ Public) → Executed image one keeps list (Ok x) after → Executed image other keeps list (Ok y) after' → x ≡ y
-    one_result keeps list after after' x y public first second =
+    pub public_results : (keeps : Bool) (list after after' : List Observation) (x y : Results) → Executed image one keeps list (Ok x) after → Executed image other keeps list (Ok y) after' → AgreeInPublic (params_of image) export.result x y
+    public_results keeps list after after' x y first second =
         let a = run_on one agree.one_within in
         let b = run_on other agree.other_within in
-        (left one keeps list after x agree.one_within first).0
-        ∙ is.compiled.public_result code_base frame_base one other a.turns b.turns a.seen b.seen a.end b.end is.bases public agree a.halts b.halts
-        ∙ sym (left other keeps list after' y agree.other_within second).0
+        subst (λ (r : Results). AgreeInPublic (params_of image) export.result r y) (sym (left one keeps list after x agree.one_within first).0)
+        (subst (λ (r : Results). AgreeInPublic (params_of image) export.result (results_in frame_base image a.end.bytes) r) (sym (left other keeps list after' y agree.other_within second).0)
+        (is.compiled.public_results code_base frame_base one other a.turns b.turns a.seen b.seen a.end b.end is.bases agree a.halts b.halts))
 
     -- what is observed of a run is what it shows
     seen_of : (args : List Arg) (within : AreWithin (params_of image) args) (list : List Observation) → Observed image args list → list ≡ (run_on args within).seen

@@ -1,28 +1,34 @@
 -- An accepted text's image is the export, compiled; and what the passes ask of its export.
-use Rattle.std.proofs.Common.{◌≡◌, ℕ, List, [], length, Some}
+use Rattle.std.proofs.Common.{◌≡◌, ℕ, List, [], length, Some, map, sym, subst, ◌∙◌}
+use Rattle.arguments.specs.Within.{AreWithin}
 use Rattle.branch_removal.specs.Removed.{IsRemoved}
 use Rattle.branch_removal.specs.Straight.{StraightProgram}
 use Rattle.codegen.specs.Followed.{IsGenerated}
-use Rattle.coverage.proofs.CompiledLemmas.{compiled_export}
-use Rattle.coverage.specs.NotCompiled.{IsCompiledYet}
 use Rattle.image.specs.Fields.{Fields}
 use Rattle.inline.proofs.FlatMeanings.{flat_keeps_meaning}
 use Rattle.inline.proofs.FlatPrograms.{flat_is_typed}
 use Rattle.inline.proofs.FlatSizes.{flat_is_sized}
+use Rattle.inline.specs.FlatMeaning.{outcome_of, ending_of}
 use Rattle.inline.specs.FlatSize.{IsSized}
 use Rattle.inline.specs.FlatTyping.{IsTypedProgram}
-use Rattle.inline.specs.Numbering.{flattened}
-use Rattle.hepurita.specs.Compiled.{IsCompiled}
+use Rattle.inline.specs.Numbering.{flattened, param_of}
+use Rattle.intervals.proofs.Safe.{accepted_is_safe, safe_runs_meet_no_fault}
+use Rattle.intervals.specs.Loose.{IsSafe}
+use Rattle.intervals.specs.Ranges.{range_violations, turns_of}
+use Rattle.intervals.specs.Work.{ranged}
+use Rattle.hepurita.specs.Compiled.{Means, IsCompiled}
 use Rattle.language.specs.Grammatical.{IsGrammatical}
-use Rattle.language.specs.Meaning.{exported}
+use Rattle.language.specs.Meaning.{Ending, Gives, gives, exported}
+use Rattle.language.specs.Results.{Results}
+use Rattle.language.specs.declared.values.Arg.{Arg}
+use Rattle.source_eval.proofs.WorkedOut.{worked-out}
 use Rattle.syntax.proofs.GrammarLemmas.{grammatical}
 use Rattle.syntax.specs.Reading.{Reads, accepted}
-use Rattle.language.specs.Size.{size_violations}
 use Rattle.language.specs.Tree.{ProcedureTree, ProgramTree}
-use Rattle.language.specs.Typing.{violations}
-use Rattle.hepurita.specs.Built.{Judges, JudgesProgram, accepts, readable, fine}
+use Rattle.hepurita.specs.Built.{IsWellFormed, IsSmall, Judges, JudgesProgram, accepts, readable, fine}
 use Rattle.hepurita.proofs.Compiler.{compiled}
 use Rattle.hepurita.proofs.Exports.{export_is_there}
+use Rattle.hepurita.proofs.WithoutCalls.{calls_nothing}
 
 -- ---- an accepted program's export
 
@@ -30,22 +36,40 @@ use Rattle.hepurita.proofs.Exports.{export_is_there}
 abbrev pub HasGrammaticalExport : ProgramTree → Type 0
 HasGrammaticalExport program = (before : List ProcedureTree) (p : ProcedureTree) → exported [] program.procedures ≡ Some (before, p) → IsGrammatical p
 
-pub flat_typed : (program of : ProgramTree) (export : ProcedureTree) → HasGrammaticalExport program → JudgesProgram program (accepts of export) → IsTypedProgram (flattened export)
-flat_typed program of export plain (fine {before} all clean is small) =
-    flat_is_typed program before export clean is (compiled_export program before export all is) (plain before export is)
+module _ (program : ProgramTree) (export : ProcedureTree) (plain : HasGrammaticalExport program) (small : IsSmall program export) where
+  pub flat_typed : IsTypedProgram (flattened export)
+  flat_typed =
+      let is = small.well_formed in
+      flat_is_typed program is.before export is.typed is.is_export (calls_nothing program export is) (plain is.before export is.is_export)
 
-pub flat_sized : (program of : ProgramTree) (export : ProcedureTree) → HasGrammaticalExport program → JudgesProgram program (accepts of export) → IsSized (flattened export)
-flat_sized program of export plain (fine {before} all clean is small) =
-    flat_is_sized export (compiled_export program before export all is) (plain before export is) small
+  pub flat_sized : IsSized (flattened export)
+  flat_sized =
+      let is = small.well_formed in
+      flat_is_sized export (calls_nothing program export is) (plain is.before export is.is_export) small.sized
+
+-- the one meaning on arguments, of an export that is safe
+safe_means : (program : ProgramTree) (export : ProcedureTree) → HasGrammaticalExport program → IsSmall program export → IsSafe (flattened export) (turns_of (flattened export)) → (args : List Arg) → AreWithin (map param_of export.parameters) args → Means program args (outcome_of (flattened export) args)
+safe_means program export plain small safe args within =
+    let is = small.well_formed in
+    let meant = flat_keeps_meaning program is.before export args is.typed is.is_export (calls_nothing program export is) (plain is.before export is.is_export) within in
+    let given : Gives program args (gives (outcome_of (flattened export) args)) = subst (λ (e : Ending Results). Gives program args e) (safe_runs_meet_no_fault (flattened export) (turns_of (flattened export)) args safe within) meant in
+    record { given = given; alone = λ other is_other. sym (worked-out program args other is_other) ∙ worked-out program args (gives (outcome_of (flattened export) args)) given }
 
 -- ---- an accepted text's image
 
-pub texts_compiled : (text : List ℕ) (program : ProgramTree) (before : List ProcedureTree) (p : ProcedureTree) (straight : StraightProgram) (image : Fields) → Reads text (accepted program) → exported [] program.procedures ≡ Some (before, p) → IsCompiledYet program → length (violations program) ≡ 0 → length (size_violations p) ≡ 0 → IsRemoved (flattened p) straight → IsGenerated straight image → IsCompiled program p image
-texts_compiled text program before p straight image reads is all clean small removed generated =
-    let parts = compiled_export program before p all is in
-    let plain = grammatical text program p reads (export_is_there [] program.procedures before p is) in
-    compiled program p straight image (λ args within. flat_keeps_meaning program before p args clean is parts plain within) removed generated
+pub export_compiled : (program : ProgramTree) (export : ProcedureTree) (straight : StraightProgram) (image : Fields) → HasGrammaticalExport program → IsSmall program export → length (range_violations (flattened export)) ≡ 0 → IsRemoved (ranged (flattened export)) straight → IsGenerated straight image → IsCompiled program export image
+export_compiled program export straight image plain small in_range removed generated =
+    let safe = accepted_is_safe (flattened export) (flat_typed program export plain small) (flat_sized program export plain small) in_range in
+    compiled program export straight image (safe_means program export plain small safe) removed generated
 
-pub judged_compiled : (text : List ℕ) (program : ProgramTree) (export : ProcedureTree) (straight : StraightProgram) (image : Fields) → Judges text (accepts program export) → IsRemoved (flattened export) straight → IsGenerated straight image → IsCompiled program export image
-judged_compiled text program export straight image (readable reads (fine {before} all typed is small)) removed generated =
-    texts_compiled text program before export straight image reads is all typed small removed generated
+-- the export of a program that a text is, is grammatical
+pub grammatical_export : (text : List ℕ) (program : ProgramTree) → Reads text (accepted program) → HasGrammaticalExport program
+grammatical_export text program reads before p is = grammatical text program p reads (export_is_there [] program.procedures before p is)
+
+pub texts_compiled : (text : List ℕ) (program : ProgramTree) (export : ProcedureTree) (straight : StraightProgram) (image : Fields) → Reads text (accepted program) → JudgesProgram program (accepts program export) → IsRemoved (ranged (flattened export)) straight → IsGenerated straight image → IsCompiled program export image
+texts_compiled text program export straight image reads (fine small in_range in_time) removed generated =
+    export_compiled program export straight image (grammatical_export text program reads) small in_range removed generated
+
+pub judged_compiled : (text : List ℕ) (program : ProgramTree) (export : ProcedureTree) (straight : StraightProgram) (image : Fields) → Judges text (accepts program export) → IsRemoved (ranged (flattened export)) straight → IsGenerated straight image → IsCompiled program export image
+judged_compiled text program export straight image (readable reads (fine small in_range in_time)) removed generated =
+    texts_compiled text program export straight image reads (fine small in_range in_time) removed generated

@@ -6,12 +6,12 @@ use Rattle.rv_machine.specs.declared.pairing.Pairing.{Pairing}
 use Rattle.rv_machine.specs.declared.pairing.Pairing.TheVariants.{Same}
 use Rattle.rv_machine.specs.declared.stops.Stop.TheVariants.{RecorderRefused}
 use Rattle.language.specs.declared.values.Arg.{Arg}
-use Rattle.language.specs.Meaning.{Ending, Gives, gives}
 use Rattle.language.specs.Results.{Results}
 use Rattle.language.specs.Tree.{ProcedureTree, ProgramTree}
 use Rattle.hepurita.specs.declared.fault.RunFault.{RunFault}
 use Rattle.hepurita.specs.declared.fault.RunFault.TheVariants.{Memory, Stopped}
 use Rattle.hepurita.specs.Built.{Judges, accepts, IsBuilt}
+use Rattle.hepurita.specs.Compiled.{Means}
 
 -- a text that is accepted with this export, and the image that its bytes spell
 pub record Builds (text bytes : List ℕ) (program : ProgramTree) (export : ProcedureTree) (image : Fields) : Type 0 where
@@ -22,7 +22,7 @@ pub record Builds (text bytes : List ℕ) (program : ProgramTree) (export : Proc
 
 -- the one outcome that the program gives, which meets no fault; or memory was refused, or the recorder refused
 abbrev pub IsTheOutcome : ProgramTree → List Arg → Result Results RunFault → Type 0
-IsTheOutcome program args (Ok outcome) = Gives program args (gives outcome) × ((other : Ending Results) → Gives program args other → other ≡ gives outcome)
+IsTheOutcome program args (Ok outcome) = Means program args outcome
 IsTheOutcome program args (Err fault) = (fault ≡ Memory) ⊎ (fault ≡ Stopped RecorderRefused)
 
 -- `same`; or memory was refused

@@ -1,10 +1,15 @@
 -- What the compiler answers to a text: the passes are asked in order, and each names its first violation.
-use Rattle.std.specs.Prelude.{◌≡◌, ◌⊎◌, ℕ, List, [], length, Some}
+use Rattle.std.specs.Prelude.{◌≡◌, ◌⊎◌, ℕ, ◌+◌, ◌*◌, ◌<◌, List, [], length, Some}
 use Rattle.coverage.specs.Earliest.{IsEarliest}
 use Rattle.coverage.specs.NotCompiled.{uncompiled, IsCompiledYet}
 use Rattle.image.specs.Fields.{Fields, IsImage}
 use Rattle.image.specs.Spelling.{spelling}
+use Rattle.codegen.specs.Bases.{AreBases}
+use Rattle.hepurita.specs.Bases.{code_base, frame_base, most_images, code_distance, frame_distance}
 use Rattle.hepurita.specs.Compiled.{IsCompiled}
+use Rattle.inline.specs.Numbering.{flattened}
+use Rattle.intervals.specs.Ranges.{range_violations}
+use Rattle.intervals.specs.Work.{work_violations}
 use Rattle.word.specs.declared.place.Place.{Place}
 use Rattle.language.specs.declared.refusal.Refusal.{Refusal}
 use Rattle.language.specs.declared.rule.Rule.{Rule}
@@ -23,6 +28,18 @@ pub data Judgement : Type 0 where
   accepts : (program : ProgramTree) (export : ProcedureTree) → Judgement
   refuses : (rule : Rule) (place : Place) → Judgement
 
+-- a program with this export of which each node is compiled and that violates no rule on names, types and labels
+pub record IsWellFormed (program : ProgramTree) (export : ProcedureTree) : Type 0 where
+  pub before : List ProcedureTree
+  pub compiled : IsCompiledYet program
+  pub typed : length (violations program) ≡ 0
+  pub is_export : exported [] program.procedures ≡ Some (before, export)
+
+-- whose export passes no limit on size
+pub record IsSmall (program : ProgramTree) (export : ProcedureTree) : Type 0 where
+  pub well_formed : IsWellFormed program export
+  pub sized : length (size_violations export) ≡ 0
+
 -- the judgement on a program
 pub data JudgesProgram (program : ProgramTree) : Judgement → Type 0 where
   -- it has a node that is not compiled yet
@@ -30,9 +47,13 @@ pub data JudgesProgram (program : ProgramTree) : Judgement → Type 0 where
   -- it violates a rule on names, types and labels
   ill_typed : {first : Violation} → IsCompiledYet program → IsFirst (violations program) first → JudgesProgram program (refuses first.rule first.place)
   -- its export passes a limit on size
-  too_large : {before : List ProcedureTree} {export : ProcedureTree} {first : Violation} → IsCompiledYet program → length (violations program) ≡ 0 → exported [] program.procedures ≡ Some (before, export) → IsFirst (size_violations export) first → JudgesProgram program (refuses first.rule first.place)
+  too_large : {export : ProcedureTree} {first : Violation} → IsWellFormed program export → IsFirst (size_violations export) first → JudgesProgram program (refuses first.rule first.place)
+  -- an index in it may be out of range, or a divisor 0
+  out_of_range : {export : ProcedureTree} {first : Violation} → IsSmall program export → IsFirst (range_violations (flattened export)) first → JudgesProgram program (refuses first.rule first.place)
+  -- it is too much work
+  too_much_work : {export : ProcedureTree} {first : Violation} → IsSmall program export → length (range_violations (flattened export)) ≡ 0 → IsFirst (work_violations (flattened export)) first → JudgesProgram program (refuses first.rule first.place)
   -- nothing is violated
-  fine : {before : List ProcedureTree} {export : ProcedureTree} → IsCompiledYet program → length (violations program) ≡ 0 → exported [] program.procedures ≡ Some (before, export) → length (size_violations export) ≡ 0 → JudgesProgram program (accepts program export)
+  fine : {export : ProcedureTree} → IsSmall program export → length (range_violations (flattened export)) ≡ 0 → length (work_violations (flattened export)) ≡ 0 → JudgesProgram program (accepts program export)
 
 -- the judgement on a text
 pub data Judges (text : List ℕ) : Judgement → Type 0 where
@@ -54,3 +75,5 @@ pub record IsBuilt (text bytes : List ℕ) : Type 0 where
   pub allowed : IsImage image
   pub spelled : bytes ≡ spelling image
   pub compiled : IsCompiled program export image
+  -- code and frame may lie at the standard bases, and those of several images side by side
+  pub bases : (k : ℕ) → k < most_images → AreBases image (code_base + code_distance * k) (frame_base + frame_distance * k)

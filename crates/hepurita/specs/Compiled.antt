@@ -1,23 +1,29 @@
 -- What it is for an image to be a compiled procedure: its outcome is the source's, and it shows only what is public.
-use Rattle.std.specs.Prelude.{◌≡◌, ℕ, ◌+◌, ◌*◌, ◌≤◌, List, length, map, All, IfSome}
+use Rattle.std.specs.Prelude.{◌≡◌, ℕ, ◌+◌, ◌*◌, ◌≤◌, List, length, map, All}
 use Rattle.std.specs.Option.{option_map}
+use Rattle.arguments.specs.PublicResults.{AgreeInPublic}
 use Rattle.arguments.specs.Within.{AreWithin}
-use Rattle.inline.specs.Numbering.{param_of}
+use Rattle.inline.specs.Numbering.{flattened, param_of}
+use Rattle.intervals.specs.Work.{work_of}
 use Rattle.image.specs.Fields.{Fields}
 use Rattle.rv_machine.specs.Leakage.{Halts}
 use Rattle.rv_machine.specs.Machine.{State}
 use Rattle.rv_machine.specs.declared.observation.Observation.{Observation}
 use Rattle.rv_machine.specs.declared.stops.Stop.TheVariants.{Ecall}
-use Rattle.language.specs.declared.signature.Label.TheVariants.{Public}
 use Rattle.language.specs.declared.values.Arg.{Arg}
-use Rattle.language.specs.Meaning.{Gives, gives}
-use Rattle.language.specs.Size.{nodes_of, work_of}
-use Rattle.language.specs.declared.typing.WordType.{WordType}
+use Rattle.language.specs.Meaning.{Ending, Gives, gives}
+use Rattle.language.specs.Results.{Results}
+use Rattle.language.specs.Size.{nodes_of}
 use Rattle.language.specs.Tree.{ProcedureTree, ProgramTree}
 use Rattle.arguments.specs.Agreement.{Agree}
 use Rattle.codegen.specs.Bases.{AreBases, IsInside}
 use Rattle.codegen.specs.Followed.{type_in}
 use Rattle.codegen.specs.Loaded.{params_of, code_at, loaded_at, results_in}
+
+-- on these arguments the program gives these results, and nothing else: it meets no fault
+pub record Means (program : ProgramTree) (args : List Arg) (results : Results) : Type 0 where
+  pub given : Gives program args (gives results)
+  pub alone : (other : Ending Results) → Gives program args other → other ≡ gives results
 
 -- a run that gives what the source means, within the stated steps and the frame
 pub record RunsTo (program : ProgramTree) (image : Fields) (code frame : ℕ) (args : List Arg) : Type 0 where
@@ -27,18 +33,18 @@ pub record RunsTo (program : ProgramTree) (image : Fields) (code frame : ℕ) (a
   pub halts : Halts (code_at code image) turns (loaded_at code frame image args) seen Ecall end
   pub within_steps : turns ≤ image.max_steps
   pub within_frame : All (λ (o : Observation). IsInside frame image.frame_bytes o.event) seen
-  pub outcome : Gives program args (gives (results_in frame image end.bytes))
+  pub outcome : Means program args (results_in frame image end.bytes)
 
 -- the image is the program's exported procedure
 pub record IsCompiled (program : ProgramTree) (p : ProcedureTree) (image : Fields) : Type 0 where
   pub params : params_of image ≡ map param_of p.parameters
   pub result : option_map type_in image.returned ≡ p.result
-  pub max_steps : image.max_steps ≡ 32 * work_of p + 64
+  pub max_steps : image.max_steps ≡ 32 * work_of (flattened p) + 64
   pub frame_size : image.frame_bytes ≤ 65536
   pub word_count : length image.words ≤ 32 * nodes_of p + 64
   -- results: on all arguments within the parameter types
   pub results : (code frame : ℕ) (args : List Arg) → AreBases image code frame → AreWithin (params_of image) args → RunsTo program image code frame args
   -- equal leakage: two lists of arguments that agree show one and the same list of observations
   pub equal_leakage : (code frame : ℕ) (one other : List Arg) (m n : ℕ) (seen seen' : List Observation) (s t : State) → AreBases image code frame → Agree (params_of image) one other → Halts (code_at code image) m (loaded_at code frame image one) seen Ecall s → Halts (code_at code image) n (loaded_at code frame image other) seen' Ecall t → seen ≡ seen'
-  -- and where the result is public or there is none, one and the same outcome
-  pub public_result : (code frame : ℕ) (one other : List Arg) (m n : ℕ) (seen seen' : List Observation) (s t : State) → AreBases image code frame → IfSome p.result (λ (word : WordType). word.label ≡ Public) → Agree (params_of image) one other → Halts (code_at code image) m (loaded_at code frame image one) seen Ecall s → Halts (code_at code image) n (loaded_at code frame image other) seen' Ecall t → results_in frame image s.bytes ≡ results_in frame image t.bytes
+  -- and give one and the same return and `mut` arrays, where these are public
+  pub public_results : (code frame : ℕ) (one other : List Arg) (m n : ℕ) (seen seen' : List Observation) (s t : State) → AreBases image code frame → Agree (params_of image) one other → Halts (code_at code image) m (loaded_at code frame image one) seen Ecall s → Halts (code_at code image) n (loaded_at code frame image other) seen' Ecall t → AgreeInPublic (params_of image) p.result (results_in frame image s.bytes) (results_in frame image t.bytes)

@@ -6,6 +6,7 @@ ghost use Rattle.branch_removal.specs.Straight.{StraightProgram};
 ghost use Rattle.codegen.specs.Followed.{IsGenerated};
 ghost use Rattle.image.specs.Fields.{IsImage};
 ghost use Rattle.inline.specs.Numbering.{flattened};
+ghost use Rattle.intervals.specs.Work.{ranged};
 ghost use Rattle.language.specs.Grammatical.{IsGrammatical};
 ghost use Rattle.language.specs.Meaning.{exported};
 ghost use Rattle.language.specs.Tree.{ProcedureTree, ProgramTree, program_tree};
@@ -16,6 +17,7 @@ ghost use Rattle.hepurita.specs.Built.{Judges, JudgesProgram, IsRefusal, IsBuilt
 use crate::judging::flat_of;
 use branch_removal::remove;
 use codegen::generate;
+use intervals::check_ranges;
 use image::{Image, write};
 use language::{Program, Refusal};
 use std::alloc::Global;
@@ -24,19 +26,20 @@ use syntax::{one_answer_for_a_text, parse};
 /// The image of a program that violates no rule, or the first refusal.
 fn compile(alloc: Global, program: &Program<'_>) -> Result<Image, Refusal>
     requires grammatical { (before : List ProcedureTree) (p : ProcedureTree) → exported [] (program_tree program.now).procedures ≡ Some (before, p) → IsGrammatical p }
-    ensures accepted { IfOk result (λ image. (export : ProcedureTree) × JudgesProgram (program_tree program.now) (accepts (program_tree program.now) export) × ((straight : StraightProgram) × IsRemoved (flattened export) straight × IsGenerated straight image)) }
+    ensures accepted { IfOk result (λ image. (export : ProcedureTree) × JudgesProgram (program_tree program.now) (accepts (program_tree program.now) export) × ((straight : StraightProgram) × IsRemoved (ranged (flattened export)) straight × IsGenerated straight image)) }
     ensures allowed { IfOk result IsImage }
     ensures refused { IfErr result (IsRefusal (JudgesProgram (program_tree program.now))) }
 {
     let flat = flat_of(alloc, program)?;
-    let straight = remove(alloc, &flat)?;
+    let ranged = check_ranges(alloc, &flat)?;
+    let straight = remove(alloc, &ranged)?;
     let image = generate(alloc, &straight)?;
     let _words = image.words();
     Ok(image)
 }
 
 /// The bytes of the image of an accepted text, or the first refusal. Passes are asked in the order:
-/// the text itself; what is not compiled yet; names, types and labels; sizes.
+/// the text itself; what is not compiled yet; names, types and labels; sizes; ranges; work.
 ///
 /// The image, run on any arguments within the parameter types, gives what the text means, within its
 /// stated steps and its frame; and on arguments that are equal where they are public an observer

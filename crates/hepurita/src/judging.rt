@@ -5,10 +5,11 @@ ghost use Rattle.std.specs.Option.{option_map};
 ghost use Rattle.inline.specs.Numbering.{flattened, param_of};
 ghost use Rattle.language.specs.Meaning.{exported};
 ghost use Rattle.language.specs.Tree.{ProcedureTree, procedure_tree, program_tree};
-ghost use Rattle.hepurita.specs.Built.{Judges, JudgesProgram, IsRefusal, accepts};
+ghost use Rattle.hepurita.specs.Built.{IsSmall, Judges, JudgesProgram, IsRefusal, accepts};
 
 use coverage::first_uncompiled;
 use inline::{Flat, inline};
+use intervals::check_ranges;
 use labels::check;
 use language::{Param, Procedure, Program, Refusal, Rule};
 use std::alloc::Global;
@@ -24,10 +25,10 @@ fn exported_of<'p, 'a>(program: &'p Program<'a>) -> Option<&'p Procedure<'a>>
     }
 }
 
-/// The export of a program that violates no rule, as one body; or the first refusal. What is not
-/// compiled yet is asked first, then names, types and labels, then sizes.
+/// The export of a program that violates no rule on names, types and labels, as one body within the
+/// limits on size; or the first refusal. What is not compiled yet is asked first.
 pub(crate) fn flat_of(alloc: Global, program: &Program<'_>) -> Result<Flat, Refusal>
-    ensures accepted { IfOk result (λ flat. (export : ProcedureTree) × JudgesProgram (program_tree program.now) (accepts (program_tree program.now) export) × (flat ≡ flattened export)) }
+    ensures accepted { IfOk result (λ flat. (export : ProcedureTree) × IsSmall (program_tree program.now) export × (flat ≡ flattened export)) }
     ensures refused { IfErr result (IsRefusal (JudgesProgram (program_tree program.now))) }
 {
     if let Some(place) = first_uncompiled(program) {
@@ -54,6 +55,7 @@ pub fn judge<'a>(alloc: Global, text: &'a str) -> Result<Accepted<'a>, Refusal>
 {
     let program = parse(alloc, text)?;
     let flat = flat_of(alloc, &program)?;
+    let _ranged = check_ranges(alloc, &flat)?;
     let params = flat.parameters().to_vec(alloc)?;
     Ok(Accepted { program, params })
 }

@@ -1,28 +1,27 @@
 // What the answers of the calls are to each other.
 
-ghost use Rattle.std.specs.Prelude.{◌≡◌, ℕ, ◌+◌, ◌*◌, ◌<◌, ◌≤◌, Bool, [], List, length, Result, Ok, Some, IfSome};
+ghost use Rattle.std.specs.Prelude.{ℕ, ◌+◌, ◌*◌, ◌<◌, ◌≤◌, ◌≡◌, Bool, List, Result, Ok};
 ghost use Rattle.arguments.specs.Within.{AreWithin};
 ghost use Rattle.branch_removal.specs.Removed.{IsRemoved};
 ghost use Rattle.branch_removal.specs.Straight.{StraightProgram};
 ghost use Rattle.codegen.specs.Bases.{AreBases};
 ghost use Rattle.codegen.specs.Followed.{IsGenerated};
-ghost use Rattle.coverage.specs.NotCompiled.{IsCompiledYet};
 ghost use Rattle.image.specs.Fields.{Fields};
 ghost use Rattle.inline.specs.Numbering.{flattened};
+ghost use Rattle.intervals.specs.Work.{ranged};
 ghost use Rattle.rv_machine.specs.declared.pairing.Pairing.{Pairing};
 ghost use Rattle.rv_machine.specs.declared.observation.Observation.{Observation};
 ghost use Rattle.arguments.specs.Agreement.{Agree};
-ghost use Rattle.language.specs.Meaning.{exported};
-ghost use Rattle.language.specs.Size.{nodes_of, size_violations};
-ghost use Rattle.language.specs.Typing.{violations};
-ghost use Rattle.hepurita.specs.Bases.{code_base, frame_base};
+ghost use Rattle.arguments.specs.PublicResults.{AgreeInPublic};
+ghost use Rattle.language.specs.Size.{nodes_of};
+ghost use Rattle.language.specs.declared.limits.TheConstants.{MOST_NODES};
+ghost use Rattle.hepurita.specs.Bases.{code_base, frame_base, most_images, code_distance, frame_distance};
+ghost use Rattle.hepurita.specs.Built.{JudgesProgram, accepts};
 ghost use Rattle.hepurita.specs.Compiled.{IsCompiled};
 ghost use Rattle.codegen.specs.Loaded.{params_of};
 ghost use Rattle.syntax.specs.Reading.{Reads, accepted};
-ghost use Rattle.language.specs.declared.signature.Label.{Label};
 ghost use Rattle.language.specs.declared.values.Arg.{Arg};
 ghost use Rattle.language.specs.Results.{Results};
-ghost use Rattle.language.specs.declared.typing.WordType.{WordType};
 ghost use Rattle.language.specs.Tree.{ProcedureTree, ProgramTree};
 ghost use Rattle.hepurita.specs.declared.fault.RunFault.{RunFault};
 ghost use Rattle.hepurita.specs.Answers.{Builds, IsTheOutcome, IsSame};
@@ -31,30 +30,27 @@ ghost use Rattle.hepurita.specs.Paired.{Paired};
 
 use arguments::faultless_arguments;
 use image::one_spelling;
-use language::Label;
-use source_eval::meaning_is_worked_out;
 use syntax::one_answer_for_a_text;
 
-/// What the passes promise, put together. Where a text is a program of which each node is compiled and that violates no
-/// rule and no limit, the image for straight code for its export is that export, compiled.
+/// What the passes promise, put together. Where a text is a program that is accepted with an export, the image for
+/// straight code for the export is that export, compiled.
 pub fn texts_are_compiled()
-    ensures { (text : List ℕ) (program : ProgramTree) (before : List ProcedureTree) (p : ProcedureTree) (straight : StraightProgram) (image : Fields) → Reads text (accepted program)
-        → exported [] program.procedures ≡ Some (before, p) → IsCompiledYet program
-        → length (violations program) ≡ 0 → length (size_violations p) ≡ 0
-        → IsRemoved (flattened p) straight → IsGenerated straight image → IsCompiled program p image }
+    ensures { (text : List ℕ) (program : ProgramTree) (export : ProcedureTree) (straight : StraightProgram) (image : Fields) → Reads text (accepted program)
+        → JudgesProgram program (accepts program export)
+        → IsRemoved (ranged (flattened export)) straight → IsGenerated straight image → IsCompiled program export image }
 {}
 
-/// Code and frame of a compiled image may lie at the standard bases, and eight images beside one
+/// Code and frame of a compiled image may lie at the standard bases, and those of eight images beside one
 /// another, the code 2^20 and the frames 2^16 bytes apart.
 pub fn bases_fit()
-    ensures { (program : ProgramTree) (p : ProcedureTree) (image : Fields) (k : ℕ) → IsCompiled program p image → nodes_of p ≤ 6000 → k < 8
-        → AreBases image (code_base + 0x0010_0000 * k) (frame_base + 0x0001_0000 * k) }
+    ensures { (program : ProgramTree) (p : ProcedureTree) (image : Fields) (k : ℕ) → IsCompiled program p image → nodes_of p ≤ MOST_NODES → k < most_images
+        → AreBases image (code_base + code_distance * k) (frame_base + frame_distance * k) }
 {}
 
 /// The calls, one after another. The image of an accepted text, read from the bytes that `build`
 /// answers and executed on arguments within the parameter types, gives the one outcome that the text
 /// means. On two lists of arguments that are equal where they are public `pair` answers `same`, the
-/// recorder takes one and the same list, and a result that is public is one and the same. Other
+/// recorder takes one and the same list, and the return and the `mut` arrays are equal where they are public. Other
 /// answers are want of memory and a recorder that refuses.
 pub fn images_do_what_texts_mean()
     ensures outcome { (text bytes : List ℕ) (program : ProgramTree) (export : ProcedureTree) (image : Fields) (args : List Arg) (keeps : Bool) (list after : List Observation) (answer : Result Results RunFault)
@@ -67,12 +63,10 @@ pub fn images_do_what_texts_mean()
         → Builds text bytes program export image → Agree (params_of image) one other
         → Executed image one keeps list (Ok a) after → Executed image other keeps list (Ok b) after' → after ≡ after' }
     ensures public { (text bytes : List ℕ) (program : ProgramTree) (export : ProcedureTree) (image : Fields) (one other : List Arg) (keeps : Bool) (list after after' : List Observation) (a b : Results)
-        → Builds text bytes program export image → IfSome export.result (λ (word : WordType). word.label ≡ Label.Public) → Agree (params_of image) one other
-        → Executed image one keeps list (Ok a) after → Executed image other keeps list (Ok b) after' → a ≡ b }
+        → Builds text bytes program export image → Agree (params_of image) one other
+        → Executed image one keeps list (Ok a) after → Executed image other keeps list (Ok b) after' → AgreeInPublic (params_of image) export.result a b }
 {
     one_answer_for_a_text();
     one_spelling();
     faultless_arguments();
-    bases_fit();
-    meaning_is_worked_out();
 }
