@@ -3,3 +3,4 @@ mod TypeLemmas
 mod RuleLemmas
 mod ClashLemmas
 mod TreeLemmas
+pub mod ExportLemmas
