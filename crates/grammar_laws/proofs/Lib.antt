@@ -7,3 +7,5 @@ pub mod Words
 pub mod Existence
 pub mod TokenPlaces
 pub mod TreeHeads
+pub mod HeadPlaces
+pub mod ViolationPlaces

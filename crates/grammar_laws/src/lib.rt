@@ -7,5 +7,5 @@ mod laws;
 
 pub use laws::{
     beginnings_are_by_cases, each_text_has_an_answer, each_text_has_tokens, heads_are_distinct,
-    offsets_decide_places,
+    heads_are_in_place, offsets_decide_places,
 };
