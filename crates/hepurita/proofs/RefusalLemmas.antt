@@ -1,4 +1,4 @@
--- A text is refused for one rule at one offset.
+-- A text is refused for one rule at one place.
 use Rattle.std.proofs.Common.{◌≡◌, inl, inr, ℕ, zero, suc, ◌≤◌, List, [], ◌∷◌, refl, ap, sym, subst, ◌∙◌, arith}
 use Rattle.std.proofs.lemmas.List.Elements.{All-contains}
 use Rattle.coverage.specs.Earliest.{IsEarliest}
@@ -11,12 +11,14 @@ use Rattle.language.specs.Meaning.{exported}
 use Rattle.language.specs.Rules.{rank_of}
 use Rattle.language.specs.Size.{size_violations}
 use Rattle.language.specs.Tree.{ProcedureTree, ProgramTree}
-use Rattle.syntax.specs.Reading.{accepted, refused, OneAnswer}
+use Rattle.syntax.specs.Reading.{Reads, accepted, refused, OneAnswer}
 use Rattle.hepurita.specs.Built.{Judges, JudgesProgram, refuses, not_compiled_yet, ill_typed, too_large, unreadable, readable}
+use Rattle.grammar_laws.proofs.HeadPlaces.{one_place}
+use Rattle.hepurita.proofs.PlaceLemmas.{refused_in_place}
 use Rattle.hepurita.proofs.JudgementLemmas.{none, nowhere, exports_agree}
 
 -- one rule, at one offset
-abbrev pub AreAlike : Rule → Place → Rule → Place → Type 0
+abbrev AreAlike : Rule → Place → Rule → Place → Type 0
 AreAlike rule place rule' place' = (rule ≡ rule') × (place.offset ≡ place'.offset)
 
 -- ---- a rule is known by its rank
@@ -98,12 +100,21 @@ of_program program rule rule' place place' (too_large {before} {export} {first =
     let same = exports_agree (exported [] program.procedures) before' before other export is' is in
     one_first (size_violations export) v v' first (subst (λ (e : ProcedureTree). IsFirst (size_violations e) v') same first')
 
-pub one_refusal_for : OneAnswer → (text : List ℕ) (rule rule' : Rule) (place place' : Place) → Judges text (refuses rule place) → Judges text (refuses rule' place') → AreAlike rule place rule' place'
+abbrev pub AreOne : Rule → Place → Rule → Place → Type 0
+AreOne rule place rule' place' = (rule ≡ rule') × (place ≡ place')
+
+-- the offset decides the place
+at_one_place : (text : List ℕ) (program : ProgramTree) (rule rule' : Rule) (place place' : Place) → Reads text (accepted program) → JudgesProgram program (refuses rule place) → JudgesProgram program (refuses rule' place') → AreOne rule place rule' place'
+at_one_place text program rule rule' place place' reads judges judges' =
+    let alike = of_program program rule rule' place place' judges judges' in
+    (alike.0, one_place text place place' (refused_in_place text program rule place reads judges) (refused_in_place text program rule' place' reads judges') alike.1)
+
+pub one_refusal_for : OneAnswer → (text : List ℕ) (rule rule' : Rule) (place place' : Place) → Judges text (refuses rule place) → Judges text (refuses rule' place') → AreOne rule place rule' place'
 one_refusal_for one text rule rule' place place' (unreadable reads) (unreadable reads') =
     let answer : refused rule place ≡ refused rule' place' = one text (refused rule place) (refused rule' place') reads reads' in
     let same : rule ≡ rule' = cc in
     let at : place ≡ place' = cc in
-    (same, ap (λ (p : Place). p.offset) at)
+    (same, at)
 one_refusal_for one text rule rule' place place' (unreadable reads) (readable {program} reads' judges') =
     let answer : refused rule place ≡ accepted program = one text (refused rule place) (accepted program) reads reads' in
     cc
@@ -113,4 +124,4 @@ one_refusal_for one text rule rule' place place' (readable {program} reads judge
 one_refusal_for one text rule rule' place place' (readable {program} reads judges) (readable {program = other} reads' judges') =
     let answer : accepted program ≡ accepted other = one text (accepted program) (accepted other) reads reads' in
     let same : program ≡ other = cc in
-    of_program other rule rule' place place' (subst (λ (p : ProgramTree). JudgesProgram p (refuses rule place)) same judges) judges'
+    at_one_place text other rule rule' place place' reads' (subst (λ (p : ProgramTree). JudgesProgram p (refuses rule place)) same judges) judges'

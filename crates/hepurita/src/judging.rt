@@ -14,16 +14,6 @@ use language::{Param, Procedure, Program, Refusal, Rule};
 use std::alloc::Global;
 use syntax::parse;
 
-/// The exported procedure, where there is one.
-fn exported_of<'p, 'a>(program: &'p Program<'a>) -> Option<&'p Procedure<'a>>
-    ensures { option_map (λ p. procedure_tree p.now) result ≡ option_map (λ found. found.1) (exported [] (program_tree program.now).procedures) }
-{
-    match program.exported() {
-        Some((_, export)) => Some(export),
-        None => None,
-    }
-}
-
 /// The export of a program that violates no rule, as one body; or the first refusal. What is not
 /// compiled yet is asked first, then names, types and labels, then sizes.
 pub(crate) fn flat_of(alloc: Global, program: &Program<'_>) -> Result<Flat, Refusal>
@@ -34,9 +24,7 @@ pub(crate) fn flat_of(alloc: Global, program: &Program<'_>) -> Result<Flat, Refu
         return Err(Refusal::at(Rule::NotCompiledYet, place));
     }
     let checked = check(alloc, program)?;
-    let Some(export) = exported_of(checked.program()) else {
-        unreachable!()
-    };
+    let (_, export) = checked.export();
     inline(alloc, export)
 }
 
