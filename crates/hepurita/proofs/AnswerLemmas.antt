@@ -29,6 +29,7 @@ use Rattle.language.specs.declared.values.Arg.{Arg}
 use Rattle.language.specs.Meaning.{Ending, Gives, gives}
 use Rattle.syntax.specs.Reading.{OneAnswer}
 use Rattle.language.specs.Results.{Results}
+use Rattle.language.specs.declared.limits.TheConstants.{MOST_NODES}
 use Rattle.language.specs.Size.{nodes_of}
 use Rattle.language.specs.Tree.{ProcedureTree, ProgramTree}
 use Rattle.hepurita.specs.declared.fault.RunFault.{RunFault}
@@ -50,7 +51,7 @@ abbrev pub OneForEach : Type 0
 OneForEach = (params : List Param) (args : List Arg) → AreWithin params args → length args ≡ length params
 
 abbrev pub BasesFit : Type 0
-BasesFit = (program : ProgramTree) (p : ProcedureTree) (image : Fields) (k : ℕ) → IsCompiled program p image → nodes_of p ≤ 6000 → k < 8 → AreBases image (code_base + 0x0010_0000 * k) (frame_base + 0x0001_0000 * k)
+BasesFit = (program : ProgramTree) (p : ProcedureTree) (image : Fields) (k : ℕ) → IsCompiled program p image → nodes_of p ≤ MOST_NODES → k < 8 → AreBases image (code_base + 0x0010_0000 * k) (frame_base + 0x0001_0000 * k)
 
 abbrev pub OneOutcome : Type 0
 OneOutcome = (program : ProgramTree) (args : List Arg) (a b : Ending Results) → Gives program args a → Gives program args b → a ≡ b

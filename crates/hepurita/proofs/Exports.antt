@@ -1,11 +1,7 @@
 -- The exported procedure: it is one of the program's, and a program that violates no rule has one.
-use Rattle.std.proofs.Common.{◌≡◌, suc, Bool, true, false, List, [], ◌∷◌, ◌++◌, length, length-append, Option, None, Some, is_some, cond, Contains, refl, ap, sym, subst, ◌∙◌, arith}
-use Rattle.std.specs.Option.{option_map}
-use Rattle.word.specs.declared.place.Place.{Place}
-use Rattle.language.specs.declared.tree.Program.{Program}
+use Rattle.std.proofs.Common.{◌≡◌, suc, Bool, true, false, List, [], ◌∷◌, ◌++◌, Option, None, Some, is_some, cond, Contains, refl, ap, subst, arith}
 use Rattle.language.specs.Meaning.{exported}
-use Rattle.language.specs.Tree.{ProcedureTree, ProgramTree, program_tree}
-use Rattle.language.specs.Typing.{exports, export_place, export_violations, procedures_violations, violations}
+use Rattle.language.specs.Tree.{ProcedureTree}
 
 -- the exported procedure, and those before it, if there is one
 abbrev pub Export : Type 0

@@ -3,6 +3,7 @@ use Rattle.std.proofs.Common.{◌≡◌, ℕ, suc, ◌+◌, ◌<◌, ◌≤◌, 
 use Rattle.std.specs.List.{AllByRecursion}
 use Rattle.arguments.specs.Within.{AreWithin}
 use Rattle.image.specs.Fields.{AreSlots, IsSlot, slot_end, slot_bytes}
+use Rattle.image.specs.declared.limits.TheConstants.{MOST_FRAME_BYTES}
 use Rattle.image.specs.declared.slot.Slot.{Slot}
 use Rattle.rv_machine.specs.Bytes.{ByteMap, zeros}
 use Rattle.language.specs.declared.signature.Form.TheVariants.{SingleWord}
@@ -17,7 +18,7 @@ use Rattle.hepurita.proofs.DataLemmas.{is_some-zeros}
 end_of_word : (low : ℕ) (slot : Slot) → IsSlot low slot → slot_end slot ≡ slot.offset + 4
 end_of_word low slot is = ap (λ form. slot.offset + slot_bytes form slot.param.kind slot.param.length) is.form
 
-holds : (frame bytes low : ℕ) (slot : Slot) → IsSlot low slot → slot_end slot ≤ bytes → bytes ≤ 65536 → HoldsWord frame (zeros frame bytes) slot
+holds : (frame bytes low : ℕ) (slot : Slot) → IsSlot low slot → slot_end slot ≤ bytes → bytes ≤ MOST_FRAME_BYTES → HoldsWord frame (zeros frame bytes) slot
 holds frame bytes low slot is inside small =
     let end = end_of_word low slot is in
     record {
@@ -26,7 +27,7 @@ holds frame bytes low slot is inside small =
     }
 
 -- each slot of an image holds a word of its frame
-pub slots_hold : (frame bytes low : ℕ) (slots : List Slot) → AreSlots low slots → AllByRecursion (λ slot. slot_end slot ≤ bytes) slots → bytes ≤ 65536 → AllByRecursion (HoldsWord frame (zeros frame bytes)) slots
+pub slots_hold : (frame bytes low : ℕ) (slots : List Slot) → AreSlots low slots → AllByRecursion (λ slot. slot_end slot ≤ bytes) slots → bytes ≤ MOST_FRAME_BYTES → AllByRecursion (HoldsWord frame (zeros frame bytes)) slots
 slots_hold frame bytes low [] are inside small = tt
 slots_hold frame bytes low (slot ∷ slots) are inside small =
     (holds frame bytes low slot are.0 inside.0 small, slots_hold frame bytes (slot_end slot) slots are.1 inside.1 small)

@@ -1,15 +1,13 @@
 -- What a program is refused for stands at a head of its tree, so its offset decides its line and its column.
-use Rattle.std.proofs.Common.{◌≡◌, ℕ, zero, suc, ◌+◌, Bool, true, false, List, [], ◌∷◌, ◌++◌, Option, None, Some, is_some, cond, Contains, refl, ap, sym, subst, arith}
+use Rattle.std.proofs.Common.{◌≡◌, ℕ, Bool, true, false, List, [], ◌∷◌, ◌++◌, Option, None, Some, is_some, cond, refl, ap, subst, arith}
 use Rattle.word.specs.Places.{origin}
 use Rattle.word.specs.declared.place.Place.{Place}
 use Rattle.language.specs.declared.rule.Rule.{Rule}
 use Rattle.language.specs.Meaning.{exported}
 use Rattle.language.specs.Operators.{divides}
-use Rattle.language.specs.Size.{size_violations}
 use Rattle.language.specs.Tree.{ExprTree, number, truth, name, prefix, binary, rotate, convert, select, element, CallTree, RightTree, called, computed, StatementTree, declaration, array, assignment, element_assignment, call, conditional, loop, BlockTree, nothing, first, ParameterTree, ReturnTree, ProcedureTree, ProgramTree}
-use Rattle.language.specs.Typing.{violations}
 use Rattle.syntax.specs.Reading.{Reads, accepted}
-use Rattle.coverage.specs.NotCompiled.{is_array_form, place_if, uncompiled, uncompiled_block, uncompiled_call, uncompiled_expr, uncompiled_exprs, uncompiled_further, uncompiled_parameters, uncompiled_procedure, uncompiled_procedures, uncompiled_return, uncompiled_right, uncompiled_statement, uncompiled_values}
+use Rattle.coverage.specs.NotCompiled.{is_array_form, place_if, uncompiled_block, uncompiled_call, uncompiled_expr, uncompiled_exprs, uncompiled_further, uncompiled_parameters, uncompiled_procedure, uncompiled_procedures, uncompiled_return, uncompiled_right, uncompiled_statement, uncompiled_values}
 use Rattle.grammar_laws.specs.Heads.{astray, in_block, in_call, in_expr, in_exprs, in_parameters, in_procedure, in_procedures, in_program, in_return, in_right, in_statement, in_values}
 use Rattle.grammar_laws.proofs.HeadPlaces.{heads_in_place}
 use Rattle.grammar_laws.proofs.Light.{AreLight, none, more, both, light_of}
@@ -31,8 +29,8 @@ module _ (w : Place → ℕ) where
       both (both (where_it (divides operator) place (omega (arith, h))) (expr left (omega (arith, h)))) (expr right (omega (arith, h)))
   expr (rotate place operand amount) h = expr operand (omega (arith, h))
   expr (convert place kind operand) h = expr operand (omega (arith, h))
-  expr (select place condition accepted otherwise) h =
-      both (both (expr condition (omega (arith, h))) (expr accepted (omega (arith, h)))) (expr otherwise (omega (arith, h)))
+  expr (select place condition one other) h =
+      both (both (expr condition (omega (arith, h))) (expr one (omega (arith, h)))) (expr other (omega (arith, h)))
   expr (element place target text index) h = more (omega (arith, h)) (expr index (omega (arith, h)))
 
   exprs : (es : List ExprTree) → in_exprs w es ≡ 0 → AreLight w (uncompiled_exprs es)
@@ -58,8 +56,8 @@ module _ (w : Place → ℕ) where
     statement in_arm (element_assignment place bracket target text index right) h =
         both (both (more (omega (arith, h)) (where_it in_arm place (omega (arith, h)))) (expr index (omega (arith, h)))) (right_side right (omega (arith, h)))
     statement in_arm (call c) h = calls c h
-    statement in_arm (conditional place condition accepted otherwise) h =
-        both (both (both (where_it in_arm place (omega (arith, h))) (expr condition (omega (arith, h)))) (block true accepted (omega (arith, h)))) (block true otherwise (omega (arith, h)))
+    statement in_arm (conditional place condition arm others) h =
+        both (both (both (where_it in_arm place (omega (arith, h))) (expr condition (omega (arith, h)))) (block true arm (omega (arith, h)))) (block true others (omega (arith, h)))
     statement in_arm (loop place counter text low high body) h =
         both (both (more (omega (arith, h)) (more (omega (arith, h)) (expr low (omega (arith, h))))) (expr high (omega (arith, h)))) (block in_arm body (omega (arith, h)))
 

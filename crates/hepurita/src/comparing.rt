@@ -2,6 +2,7 @@
 
 ghost use Rattle.std.specs.Prelude.{◌≡◌, ◌≤◌, None, length, IfOk, IfErr};
 ghost use Rattle.arguments.specs.Within.{AreWithin};
+ghost use Rattle.image.specs.declared.limits.TheConstants.{MOST_PARAMETERS};
 ghost use Rattle.rv_machine.specs.ListRecording.{recorded};
 ghost use Rattle.codegen.specs.Loaded.{params_of};
 ghost use Rattle.hepurita.specs.Paired.{pair_fault, Observed, Paired};
@@ -16,7 +17,7 @@ use std::alloc::Global;
 
 /// The first fault of two lists of arguments; those of the second are numbered after the first's.
 fn fault_of_both(params: &[Param], one: &Args, other: &Args) -> Option<ArgumentFault>
-    requires { length params.now ≤ 8192 }
+    requires { length params.now ≤ MOST_PARAMETERS }
     ensures first { result ≡ pair_fault params.now one.now other.now }
     ensures within { result ≡ None → AreWithin params.now one.now × AreWithin params.now other.now }
 {

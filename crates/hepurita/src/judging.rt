@@ -1,16 +1,14 @@
 // What a text is judged to be: what is refused first, and the program and parameters of an accepted text.
 
-ghost use Rattle.std.specs.Prelude.{◌≡◌, [], map, IfOk, IfErr};
-ghost use Rattle.std.specs.Option.{option_map};
+ghost use Rattle.std.specs.Prelude.{◌≡◌, map, IfOk, IfErr};
 ghost use Rattle.inline.specs.Numbering.{flattened, param_of};
-ghost use Rattle.language.specs.Meaning.{exported};
-ghost use Rattle.language.specs.Tree.{ProcedureTree, procedure_tree, program_tree};
+ghost use Rattle.language.specs.Tree.{ProcedureTree, program_tree};
 ghost use Rattle.hepurita.specs.Built.{Judges, JudgesProgram, IsRefusal, accepts};
 
 use coverage::first_uncompiled;
 use inline::{Flat, inline};
 use labels::check;
-use language::{Param, Procedure, Program, Refusal, Rule};
+use language::{Param, Program, Refusal, Rule};
 use std::alloc::Global;
 use syntax::parse;
 

@@ -13,6 +13,7 @@ ghost use Rattle.rv_machine.specs.declared.pairing.Pairing.{Pairing};
 ghost use Rattle.rv_machine.specs.declared.observation.Observation.{Observation};
 ghost use Rattle.arguments.specs.Agreement.{Agree};
 ghost use Rattle.language.specs.Meaning.{exported};
+ghost use Rattle.language.specs.declared.limits.TheConstants.{MOST_NODES};
 ghost use Rattle.language.specs.Size.{nodes_of, size_violations};
 ghost use Rattle.language.specs.Typing.{violations};
 ghost use Rattle.hepurita.specs.Bases.{code_base, frame_base};
@@ -47,7 +48,7 @@ pub fn texts_are_compiled()
 /// Code and frame of a compiled image may lie at the standard bases, and eight images beside one
 /// another, the code 2^20 and the frames 2^16 bytes apart.
 pub fn bases_fit()
-    ensures { (program : ProgramTree) (p : ProcedureTree) (image : Fields) (k : ℕ) → IsCompiled program p image → nodes_of p ≤ 6000 → k < 8
+    ensures { (program : ProgramTree) (p : ProcedureTree) (image : Fields) (k : ℕ) → IsCompiled program p image → nodes_of p ≤ MOST_NODES → k < 8
         → AreBases image (code_base + 0x0010_0000 * k) (frame_base + 0x0001_0000 * k) }
 {}
 

@@ -2,6 +2,7 @@
 
 ghost use Rattle.std.specs.Prelude.{◌≡◌, ◌+◌, ◌≤◌, ℕ, true, is_some, length, map, All, IfOk, IfErr};
 ghost use Rattle.image.specs.Fields.{IsImage};
+ghost use Rattle.image.specs.declared.limits.TheConstants.{MOST_PARAMETERS};
 ghost use Rattle.arguments.specs.Within.{AreWithin};
 ghost use Rattle.rv_machine.specs.Bytes.{number_at};
 ghost use Rattle.rv_machine.specs.Flat.{flat_bytes};
@@ -27,7 +28,7 @@ pub const FRAME_BASE: u32 = 0x1000_0000;
 /// The parameters of an image, in their order.
 pub fn params(alloc: Global, image: &Image) -> Result<Vec<Param>, AllocError>
     ensures params { IfOk result (λ params. params.items ≡ params_of image.now) }
-    ensures few { IfOk result (λ params. length params.items ≤ 8192) }
+    ensures few { IfOk result (λ params. length params.items ≤ MOST_PARAMETERS) }
 {
     image.slots().iter().map(|slot| slot.param).collect(alloc)
 }

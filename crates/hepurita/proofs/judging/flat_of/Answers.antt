@@ -1,12 +1,10 @@
-use Rattle.std.proofs.Common.{◌≡◌, [], length, ap, sym, ◌∙◌}
+use Rattle.std.proofs.Common.{[], map, ap, sym, ◌∙◌}
 use Rattle.std.proofs.lemmas.Result.{err_from_is_err_and, IfErr-weaker}
 use Rattle.language.specs.declared.tree.Program.{Program}
 use Rattle.language.specs.Meaning.{exported}
 use Rattle.language.specs.Tree.{procedure_tree, program_tree}
-use Rattle.language.specs.Typing.{violations}
 use Rattle.coverage.proofs.CompiledLemmas.{compiled_export}
 use Rattle.hepurita.proofs.BuiltLemmas.{refusal_of_coverage, refusal_of_types, refusal_of_sizes, judged_flat}
-use Rattle.hepurita.proofs.Exports.{has_export, nothing_exported, export_in}
 use Rattle.hepurita.proofs.judging.flat_of.Goals as goal
 
 pub returns-in-Some-clause-refused : goal.returns-in-Some-clause-refused
@@ -20,11 +18,15 @@ returns-in_err-checked-clause-refused c =
 
 pub inline-requires : goal.inline-requires
 inline-requires c =
-    let export = procedure_tree c.export.result.1.now in
-    record { compiled = compiled_export (program_tree c.args.program.now) (map procedure_tree c.export.result.0.now) export c.in_default.ensures (exported_in c) }
+    let is = ap (λ (q : Program). exported [] (program_tree q).procedures) (sym c.in_ok-checked.ensures.program) ∙ c.export.ensures in
+    record { compiled = compiled_export (program_tree c.args.program.now) (map procedure_tree c.export.result.0.now) (procedure_tree c.export.result.1.now) c.in_default.ensures is }
 
 pub returns-clause-accepted : goal.returns-clause-accepted
-returns-clause-accepted c = ?
+returns-clause-accepted c =
+    let is = ap (λ (q : Program). exported [] (program_tree q).procedures) (sym c.in_ok-checked.ensures.program) ∙ c.export.ensures in
+    judged_flat (program_tree c.args.program.now) (map procedure_tree c.export.result.0.now) (procedure_tree c.export.result.1.now) c.inline.result c.in_default.ensures c.in_ok-checked.ensures.well_typed is c.inline.ensures.accepted c.inline.ensures.within
 
 pub returns-clause-refused : goal.returns-clause-refused
-returns-clause-refused c = ?
+returns-clause-refused c =
+    let is = ap (λ (q : Program). exported [] (program_tree q).procedures) (sym c.in_ok-checked.ensures.program) ∙ c.export.ensures in
+    IfErr-weaker c.inline.result _ _ (λ refusal. refusal_of_sizes (program_tree c.args.program.now) (map procedure_tree c.export.result.0.now) (procedure_tree c.export.result.1.now) refusal c.in_default.ensures c.in_ok-checked.ensures.well_typed is) c.inline.ensures.refused
