@@ -56,7 +56,10 @@ stands before (p ∷ ps) index h = by (is_some p.export) _ h (stands (before ++ 
         let later = after h in
         let more = length-append before (p ∷ []) in
         record {
-          place = suc later.place; export = later.export; is = omega (arith, later.is, more); there = later.there;
+          place = suc later.place;
+          export = later.export;
+          is = omega (arith, later.is, more);
+          there = later.there;
           found_so = later.found_so ∙ ap (λ (l : List ProcedureTree). Some (l, later.export)) (append_assoc before (p ∷ []) (take later.place ps));
         }
 
