@@ -2,13 +2,14 @@
 
 ghost use Rattle.std.specs.Prelude.{◌≡◌, ◌+◌, ◌%◌, ◌==◌, nat_le, length, Ok};
 ghost use Rattle.image.specs.declared.fields.ReadError.TheVariants.{Memory};
+ghost use Rattle.image.specs.Fields.{is_length};
 ghost use Rattle.image.specs.Reading.{is_offset, is_frame_size, is_step_limit, is_word_count};
 ghost use Rattle.image.specs.Parts.{Gives, Fails, byte_at, number_at, field_at, coded_at, kind_of, label_of, form_of, preamble_at, slot_at, result_slot_at, returned_at};
 
 use crate::limits::{MOST_FRAME_BYTES, MOST_PARAMETERS, MOST_STEPS, MOST_WORDS};
 use crate::{ImageRule, ResultSlot, Slot};
 use byteorder::{ByteOrder, LittleEndian};
-use language::{Form, Kind, Label, Param};
+use language::{Form, Kind, Label, MOST_ELEMENTS, Param};
 use std::alloc::{AllocError, AllocFailed};
 
 /// The bytes `FACI`, as a number.
@@ -197,12 +198,13 @@ fn read_label(bytes: &[u8]) -> Result<(Label, &[u8]), ReadError>
     }
 }
 
-/// Arrays have no images yet.
 fn form_from(code: u8) -> Option<Form>
     ensures { result ≡ form_of code }
 {
     match code {
         0 => Some(Form::SingleWord),
+        1 => Some(Form::FixedArray),
+        2 => Some(Form::MutableArray),
         _ => None,
     }
 }
@@ -218,12 +220,22 @@ fn read_form(bytes: &[u8]) -> Result<(Form, &[u8]), ReadError>
     }
 }
 
+/// Whether a parameter may hold so many words.
+fn is_length(form: Form, length: u16) -> bool
+    ensures { result ≡ is_length form length }
+{
+    match form {
+        Form::SingleWord => length == 1,
+        Form::FixedArray | Form::MutableArray => 1 <= length && length <= MOST_ELEMENTS,
+    }
+}
+
 #[tactic(auto, unfolding(crate::specs::Parts::field_at))]
-fn read_length(bytes: &[u8]) -> Result<(u16, &[u8]), ReadError>
-    ensures { Gives (λ x. (x.0, x.1.now)) result (field_at 2 (λ n. n == 1) ImageRule.FieldOutOfRange bytes.now) }
+fn read_length(form: Form, bytes: &[u8]) -> Result<(u16, &[u8]), ReadError>
+    ensures { Gives (λ x. (x.0, x.1.now)) result (field_at 2 (is_length form) ImageRule.FieldOutOfRange bytes.now) }
 {
     let (length, rest) = read_u16(bytes)?;
-    if length != 1 {
+    if !is_length(form, length) {
         return Err(fault_of(ImageRule::FieldOutOfRange, bytes));
     }
     Ok((length, rest))
@@ -249,7 +261,7 @@ pub fn read_slot(low: u64, bytes: &[u8]) -> Result<(Slot, &[u8]), ReadError>
     let (kind, rest) = read_kind(bytes)?;
     let (label, rest) = read_label(rest)?;
     let (form, rest) = read_form(rest)?;
-    let (length, rest) = read_length(rest)?;
+    let (length, rest) = read_length(form, rest)?;
     let (offset, rest) = read_offset(low, rest)?;
     let param = Param {
         kind,
