@@ -16,9 +16,9 @@ use Rattle.image.specs.declared.slot.Slot.{Slot}
 use Rattle.image.specs.declared.slot.ResultSlot.{ResultSlot}
 use Rattle.image.specs.declared.fault.ImageRule.TheVariants.{FieldOutOfRange}
 use Rattle.image.specs.Fields.{slot_end, is_length, IsSlot, AreSlots, IsResultSlot}
-use Rattle.image.specs.Spelling.{kind_code, label_code, form_code, spelled_slot, spelled_result}
+use Rattle.image.specs.private.Spelling.{kind_code, label_code, form_code, spelled_slot, spelled_result}
 use Rattle.image.specs.Reading.{is_offset}
-use Rattle.image.specs.Parts.{◌>>=◌, byte_at, field_at, coded_at, kind_of, label_of, form_of, slot_at, slots_at, result_slot_at, returned_at}
+use Rattle.image.specs.private.Parts.{◌>>=◌, byte_at, field_at, coded_at, kind_of, label_of, form_of, slot_at, slots_at, result_slot_at, returned_at}
 use Rattle.image.proofs.Steps.{bind_ok, ok_is}
 use Rattle.image.proofs.Numbers.{IsBytes, IsBytes-rest, Takes, Takes-then, wide2, wide4, field_takes, field_again, coded_takes, coded_again}
 

@@ -1,5 +1,6 @@
--- The format of an image: its fields from the first to the last, which values each may have, and what is read by it.
-use Rattle.std.specs.Prelude.{◌≡◌, ℕ, zero, suc, ◌%◌, Bool, true, ◌&&◌, List, [], ◌∷◌, length, Option, Some, None, Result, Ok, Err, nat_lt, nat_le, ◌==◌}
+-- The format of an image: its fields from the first to the last, which values each may have, and what bytes spell by it.
+use Rattle.std.specs.Prelude.{◌≡◌, ℕ, zero, suc, ◌%◌, ◌<◌, Bool, true, ◌&&◌, List, [], ◌∷◌, length, Option, Some, None, Result, Ok, Err, nat_lt, nat_le, ◌==◌}
+use Rattle.std.specs.List.{AllByRecursion}
 use Rattle.language.specs.declared.signature.Kind.{Kind}
 use Rattle.language.specs.declared.signature.Kind.TheVariants.{Boolean, Uint8, Uint16, Uint32}
 use Rattle.language.specs.declared.signature.Label.{Label}
@@ -98,6 +99,14 @@ image_format =
 -- the fields that the bytes spell, or the first fault and the offset of its field
 abbrev pub reading : List ℕ → Result Fields ImageFault
 reading bytes = read_by (length bytes) image_format bytes
+
+-- numbers that are bytes
+abbrev pub AreBytes : List ℕ → Type 0
+AreBytes = AllByRecursion (λ byte. byte < 256)
+
+-- the bytes, all of them, spell the fields
+abbrev pub Spells : List ℕ → Fields → Type 0
+Spells bytes fields = reading bytes ≡ Ok fields
 
 -- what was read is what should be, unless memory ran out
 abbrev pub IsUnlessMemory : {A : Type 0} → Result A ImageFault → Result A ImageFault → Type 0

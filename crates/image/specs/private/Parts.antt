@@ -1,4 +1,4 @@
--- The parts of an image, as the reader takes one after another. The contracts of private functions cite them, and no public one does.
+-- The parts of an image, as the reader takes one after another.
 use Rattle.std.specs.Prelude.{◌≡◌, ℕ, zero, suc, Bool, List, [], ◌∷◌, length, drop, Option, Some, None, Result, Ok, Err, nat_lt, nat_le, ◌==◌, if◌then◌else◌}
 use Rattle.byteorder.specs.Endian.{little_number}
 use Rattle.language.specs.declared.signature.Kind.{Kind}
