@@ -1,5 +1,5 @@
 -- The generated image's fields are allowed.
-use Rattle.std.proofs.Common.{◌≡◌, ℕ, suc, ◌+◌, ◌*◌, ◌%◌, ◌^◌, ◌<◌, ◌≤◌, true, List, [], ◌∷◌, length, map, All, Option, None, Some, IfSome, refl, sym, ap, subst, ◌∙◌, arith, length-append}
+use Rattle.std.proofs.Common.{◌≡◌, ℕ, suc, ◌+◌, ◌*◌, ◌%◌, ◌^◌, ◌<◌, ◌≤◌, true, List, [], ◌∷◌, length, map, All, Option, None, Some, IfSome, refl, sym, ap, ap₂, subst, ◌∙◌, arith, length-append}
 use Rattle.std.proofs.lemmas.List.{length-map}
 use Rattle.std.proofs.lemmas.List.Elements.{recursion_from_All}
 use Rattle.std.specs.List.{AllByRecursion}
@@ -25,7 +25,7 @@ word_bytes : (p : Param) → IsWord p → slot_bytes p.form p.kind p.length ≡ 
 word_bytes p is = ap (λ (form : Form). slot_bytes form p.kind p.length) is.form
 
 word_length : (p : Param) → IsWord p → is_length p.form p.length ≡ true
-word_length p is = rw (is.form, is.length) refl
+word_length p is = ap₂ is_length is.form is.length
 
 multiple : (low : ℕ) → low % 4 ≡ 0 → (low + 4) % 4 ≡ 0
 multiple low h = omega arith

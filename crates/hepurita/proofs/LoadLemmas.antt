@@ -18,17 +18,17 @@ use Rattle.language.specs.declared.values.Arg.{Arg}
 use Rattle.codegen.specs.Loaded.{with_argument, with_arguments, HoldsWord}
 use Rattle.hepurita.proofs.DataLemmas.{is_some-zeros}
 
-some_elements : (kind : Kind) (length : ℕ) → 1 ≤ length → 1 ≤ array_words kind length
-some_elements Boolean length some = omega (arith, some)
-some_elements Uint8 length some = omega (arith, some)
-some_elements Uint16 length some = omega (arith, some)
-some_elements Uint32 length some = omega (arith, some)
+some_elements : (kind : Kind) (n : ℕ) → 1 ≤ n → 1 ≤ array_words kind n
+some_elements Boolean n some = omega (arith, some)
+some_elements Uint8 n some = omega (arith, some)
+some_elements Uint16 n some = omega (arith, some)
+some_elements Uint32 n some = omega (arith, some)
 
 -- whatever a parameter holds takes a word at least
-some_words : (form : Form) (kind : Kind) (length : ℕ) → is_length form length ≡ true → 1 ≤ held_words form kind length
-some_words SingleWord kind length is = omega arith
-some_words FixedArray kind length is = some_elements kind length (leb-true 1 length (and_parts (leb 1 length) (leb length MOST_ELEMENTS) is).0)
-some_words MutableArray kind length is = some_elements kind length (leb-true 1 length (and_parts (leb 1 length) (leb length MOST_ELEMENTS) is).0)
+some_words : (form : Form) (kind : Kind) (n : ℕ) → is_length form n ≡ true → 1 ≤ held_words form kind n
+some_words SingleWord kind n is = omega arith
+some_words FixedArray kind n is = some_elements kind n (leb-true 1 n (and_parts (leb 1 n) (leb n MOST_ELEMENTS) is).0)
+some_words MutableArray kind n is = some_elements kind n (leb-true 1 n (and_parts (leb 1 n) (leb n MOST_ELEMENTS) is).0)
 
 holds : (frame bytes low : ℕ) (slot : Slot) → IsSlot low slot → slot_end slot ≤ bytes → bytes ≤ 65536 → HoldsWord frame (zeros frame bytes) slot
 holds frame bytes low slot is inside small =

@@ -2,6 +2,7 @@
 use Rattle.std.proofs.Common.{◌≡◌, ◌↔◌, ℕ, zero, suc, ◌/◌, ◌%◌, ◌^◌, ◌<◌, List, [], ◌∷◌, ◌++◌, length, Option, Some, None, sym, ap, ◌∙◌, subst, arith}
 use Rattle.std.specs.Int.{byte_at, bytes_low_first}
 use Rattle.std.specs.List.{flat_map}
+use Rattle.std.proofs.Math.Nat.{mod-lt}
 use Rattle.std.proofs.lemmas.List.Concat.{flat_map-cons}
 use Rattle.byteorder.specs.Endian.{little_bytes}
 use Rattle.language.specs.declared.signature.Form.{Form}
@@ -36,8 +37,8 @@ both_bytes (x ∷ xs) ys one other = (one.0, both_bytes xs ys one.1 other)
 -- ---- the bytes of a spelling are bytes
 
 byte_small : (j n : ℕ) → byte_at j n < 256
-byte_small zero n = omega arith
-byte_small (suc j) n = omega arith
+byte_small zero n = mod-lt n {m = 256} (omega arith)
+byte_small (suc j) n = mod-lt (n / 256 ^ suc j) {m = 256} (omega arith)
 
 number_bytes : (j k n : ℕ) → AreBytes (bytes_low_first j k n)
 number_bytes j zero n = tt
