@@ -1,5 +1,5 @@
 -- Bytes and the fields that they spell determine each other.
-use Rattle.std.proofs.Common.{◌≡◌, ◌↔◌, ℕ, zero, suc, ◌/◌, ◌%◌, ◌^◌, ◌<◌, List, [], ◌∷◌, ◌++◌, length, Option, Some, None, sym, ap, ◌∙◌, subst, arith}
+use Rattle.std.proofs.Common.{◌≡◌, ◌↔◌, ℕ, zero, suc, ◌/◌, ◌^◌, ◌<◌, List, [], ◌∷◌, ◌++◌, length, Option, Some, None, sym, ap, ◌∙◌, subst, arith}
 use Rattle.std.specs.Int.{byte_at, bytes_low_first}
 use Rattle.std.specs.List.{flat_map}
 use Rattle.std.proofs.Math.Nat.{mod-lt}
@@ -60,12 +60,9 @@ form_small FixedArray = omega arith
 form_small MutableArray = omega arith
 
 slot_bytes_small : (slot : Slot) → AreBytes (spelled_slot slot)
-slot_bytes_small slot = (
-  kind_small slot.param.kind,
-  label_small slot.param.label,
-  form_small slot.param.form,
-  both_bytes (little_bytes 2 slot.param.length) (little_bytes 4 slot.offset) (number_bytes 0 2 slot.param.length) (number_bytes 0 4 slot.offset),
-)
+slot_bytes_small slot =
+    let numbers = both_bytes (little_bytes 2 slot.param.length) (little_bytes 4 slot.offset) (number_bytes 0 2 slot.param.length) (number_bytes 0 4 slot.offset) in
+    (kind_small slot.param.kind, (label_small slot.param.label, (form_small slot.param.form, numbers)))
 
 slots_small : (slots : List Slot) → AreBytes (flat_map spelled_slot slots)
 slots_small [] = tt
@@ -79,10 +76,10 @@ words_small (word ∷ words) =
 
 result_small : (returned : Option ResultSlot) → AreBytes (spelled_result returned)
 result_small None = (omega arith, tt)
-result_small (Some slot) = (omega arith, kind_small slot.kind, label_small slot.label, number_bytes 0 4 slot.offset)
+result_small (Some slot) = (omega arith, (kind_small slot.kind, (label_small slot.label, number_bytes 0 4 slot.offset)))
 
 preamble_small : AreBytes preamble
-preamble_small = (omega arith, omega arith, omega arith, omega arith, omega arith, omega arith, omega arith, omega arith, tt)
+preamble_small = (omega arith, (omega arith, (omega arith, (omega arith, (omega arith, (omega arith, (omega arith, (omega arith, tt))))))))
 
 module _ (f : Fields) where
   layout_small : AreBytes (spelled_layout f)
