@@ -6,7 +6,7 @@ use Rattle.arguments.specs.Faults.{fault_of, count_fault}
 use Rattle.arguments.specs.Within.{AreWithin}
 use Rattle.arguments.specs.declared.fault.ArgumentFault.{ArgumentFault}
 use Rattle.image.specs.Fields.{Fields, IsImage}
-use Rattle.image.specs.Spelling.{spelling}
+use Rattle.image.specs.Reading.{Spells}
 use Rattle.rv_machine.specs.Entries.{Entry, entries_of}
 use Rattle.rv_machine.specs.declared.pairing.Pairing.{Pairing}
 use Rattle.rv_machine.specs.declared.pairing.Pairing.TheVariants.{Same, Differ}
@@ -41,9 +41,6 @@ use Rattle.hepurita.proofs.JudgementLemmas.{one_export, few_nodes}
 
 -- ---- the laws of the layers below
 
-abbrev pub OneSpelling : Type 0
-OneSpelling = (f g : Fields) → IsImage f → IsImage g → spelling f ≡ spelling g → f ≡ g
-
 abbrev pub Faultless : Type 0
 Faultless = (params : List Param) (args : List Arg) → (fault_of params args ≡ None) ↔ AreWithin params args
 
@@ -63,11 +60,16 @@ pub record Fits (program : ProgramTree) (export : ProcedureTree) (image : Fields
   pub compiled : IsCompiled program export image
   pub bases : AreBases image code_base frame_base
 
-pub fits : OneAnswer → OneSpelling → BasesFit → (text bytes : List ℕ) (program : ProgramTree) (export : ProcedureTree) (image : Fields) → Builds text bytes program export image → Fits program export image
-fits one spell fit text bytes program export image is =
+same_fields : (bytes : List ℕ) (f g : Fields) → Spells bytes f → Spells bytes g → f ≡ g
+same_fields bytes f g one other =
+    let both = sym one ∙ other in
+    cc
+
+pub fits : OneAnswer → BasesFit → (text bytes : List ℕ) (program : ProgramTree) (export : ProcedureTree) (image : Fields) → Builds text bytes program export image → Fits program export image
+fits one fit text bytes program export image is =
     let built = is.built in
     let same = one_export one text built.program program built.export export built.judged is.judged in
-    let images : built.image ≡ image = spell built.image image built.allowed is.allowed (sym built.spelled ∙ is.spelled) in
+    let images : built.image ≡ image = same_fields bytes built.image image built.spelled is.spelled in
     let compiled : IsCompiled program export image = subst (λ (f : Fields). IsCompiled program export f) images (subst (λ (p : ProcedureTree). IsCompiled program p built.image) same.1 (subst (λ (p : ProgramTree). IsCompiled p built.export built.image) same.0 built.compiled)) in
     record { compiled = compiled; bases = fit program export image 0 compiled (few_nodes text program export is.judged) (omega arith) }
 

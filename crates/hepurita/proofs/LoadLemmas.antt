@@ -1,29 +1,42 @@
 -- Slots inside the frame, and arguments put into them one after another.
-use Rattle.std.proofs.Common.{◌≡◌, ℕ, suc, ◌+◌, ◌<◌, ◌≤◌, List, [], ◌∷◌, length, drop, slice_index_or, refl, sym, ap, ◌∙◌, arith, drop-cons, add-one}
+use Rattle.std.proofs.Common.{◌≡◌, ℕ, suc, ◌+◌, ◌<◌, ◌≤◌, true, leb, List, [], ◌∷◌, length, drop, slice_index_or, refl, sym, ap, ◌∙◌, arith, drop-cons, add-one}
 use Rattle.std.specs.List.{AllByRecursion}
 use Rattle.arguments.specs.Within.{AreWithin}
-use Rattle.image.specs.Fields.{AreSlots, IsSlot, slot_end, slot_bytes}
+use Rattle.image.specs.Fields.{AreSlots, IsSlot, is_length, slot_end}
 use Rattle.image.specs.declared.limits.TheConstants.{MOST_FRAME_BYTES}
 use Rattle.image.specs.declared.slot.Slot.{Slot}
 use Rattle.rv_machine.specs.Bytes.{ByteMap, zeros}
-use Rattle.language.specs.declared.signature.Form.TheVariants.{SingleWord}
-use Rattle.language.specs.declared.signature.Kind.TheVariants.{Boolean}
+use Rattle.std.proofs.lemmas.Bool.{and_parts, leb-true}
+use Rattle.language.specs.Size.{array_words, held_words}
+use Rattle.language.specs.declared.limits.TheConstants.{MOST_ELEMENTS}
+use Rattle.language.specs.declared.signature.Form.{Form}
+use Rattle.language.specs.declared.signature.Form.TheVariants.{SingleWord, FixedArray, MutableArray}
+use Rattle.language.specs.declared.signature.Kind.{Kind}
+use Rattle.language.specs.declared.signature.Kind.TheVariants.{Boolean, Uint8, Uint16, Uint32}
 use Rattle.language.specs.declared.signature.Label.TheVariants.{Public}
 use Rattle.language.specs.declared.signature.Param.{Param}
 use Rattle.language.specs.declared.values.Arg.{Arg}
 use Rattle.codegen.specs.Loaded.{with_argument, with_arguments, HoldsWord}
 use Rattle.hepurita.proofs.DataLemmas.{is_some-zeros}
 
--- a word's slot takes four bytes
-end_of_word : (low : ℕ) (slot : Slot) → IsSlot low slot → slot_end slot ≡ slot.offset + 4
-end_of_word low slot is = ap (λ form. slot.offset + slot_bytes form slot.param.kind slot.param.length) is.form
+some_elements : (kind : Kind) (n : ℕ) → 1 ≤ n → 1 ≤ array_words kind n
+some_elements Boolean n some = omega (arith, some)
+some_elements Uint8 n some = omega (arith, some)
+some_elements Uint16 n some = omega (arith, some)
+some_elements Uint32 n some = omega (arith, some)
+
+-- whatever a parameter holds takes a word at least
+some_words : (form : Form) (kind : Kind) (n : ℕ) → is_length form n ≡ true → 1 ≤ held_words form kind n
+some_words SingleWord kind n is = omega arith
+some_words FixedArray kind n is = some_elements kind n (leb-true 1 n (and_parts (leb 1 n) (leb n MOST_ELEMENTS) is).0)
+some_words MutableArray kind n is = some_elements kind n (leb-true 1 n (and_parts (leb 1 n) (leb n MOST_ELEMENTS) is).0)
 
 holds : (frame bytes low : ℕ) (slot : Slot) → IsSlot low slot → slot_end slot ≤ bytes → bytes ≤ MOST_FRAME_BYTES → HoldsWord frame (zeros frame bytes) slot
 holds frame bytes low slot is inside small =
-    let end = end_of_word low slot is in
+    let some = some_words slot.param.form slot.param.kind slot.param.length is.length in
     record {
-      near = omega arith;
-      data_there = is_some-zeros frame bytes 4 (frame + slot.offset) (omega arith) (omega arith);
+      near = omega (arith, some, inside, small);
+      data_there = is_some-zeros frame bytes 4 (frame + slot.offset) (omega arith) (omega (arith, some, inside));
     }
 
 -- each slot of an image holds a word of its frame

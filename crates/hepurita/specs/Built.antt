@@ -3,7 +3,7 @@ use Rattle.std.specs.Prelude.{◌≡◌, ◌⊎◌, ℕ, List, [], length, Some}
 use Rattle.coverage.specs.Earliest.{IsEarliest}
 use Rattle.coverage.specs.NotCompiled.{uncompiled, IsCompiledYet}
 use Rattle.image.specs.Fields.{Fields, IsImage}
-use Rattle.image.specs.Spelling.{spelling}
+use Rattle.image.specs.Reading.{Spells}
 use Rattle.hepurita.specs.Compiled.{IsCompiled}
 use Rattle.word.specs.declared.place.Place.{Place}
 use Rattle.language.specs.declared.refusal.Refusal.{Refusal}
@@ -52,5 +52,5 @@ pub record IsBuilt (text bytes : List ℕ) : Type 0 where
   pub image : Fields
   pub judged : Judges text (accepts program export)
   pub allowed : IsImage image
-  pub spelled : bytes ≡ spelling image
+  pub spelled : Spells bytes image
   pub compiled : IsCompiled program export image

@@ -31,7 +31,6 @@ ghost use Rattle.hepurita.specs.Executed.{Executed};
 ghost use Rattle.hepurita.specs.Paired.{Paired};
 
 use arguments::faultless_arguments;
-use image::one_spelling;
 use language::Label;
 use source_eval::meaning_is_worked_out;
 use syntax::one_answer_for_a_text;
@@ -72,7 +71,6 @@ pub fn images_do_what_texts_mean()
         → Executed image one keeps list (Ok a) after → Executed image other keeps list (Ok b) after' → a ≡ b }
 {
     one_answer_for_a_text();
-    one_spelling();
     faultless_arguments();
     bases_fit();
     meaning_is_worked_out();
