@@ -7,7 +7,7 @@ use Rattle.arguments.specs.Within.{AreWithin}
 use Rattle.arguments.specs.declared.fault.ArgumentFault.{ArgumentFault}
 use Rattle.image.specs.Fields.{Fields, IsImage}
 use Rattle.image.specs.Reading.{Spells}
-use Rattle.rv_machine.specs.Entries.{Entry, entries_of}
+use Rattle.rv_machine.specs.Entries.{Entry, entries_of, Compares}
 use Rattle.rv_machine.specs.declared.pairing.Pairing.{Pairing}
 use Rattle.rv_machine.specs.declared.pairing.Pairing.TheVariants.{Same, Differ}
 use Rattle.rv_machine.specs.Leakage.{Ran}
@@ -35,7 +35,7 @@ use Rattle.language.specs.Tree.{ProcedureTree, ProgramTree}
 use Rattle.hepurita.specs.declared.fault.RunFault.{RunFault}
 use Rattle.hepurita.specs.Answers.{Builds, IsTheOutcome, IsSame}
 use Rattle.hepurita.specs.Executed.{Executed, answer_at, refused, out_of_memory, ran}
-use Rattle.hepurita.specs.Paired.{Paired, Observed, Compares, pair_fault, first_of, shifted}
+use Rattle.hepurita.specs.Paired.{Paired, Observed, pair_fault, first_of, shifted}
 use Rattle.hepurita.specs.Paired as pairs
 use Rattle.hepurita.proofs.JudgementLemmas.{one_export, few_nodes}
 
