@@ -1,6 +1,6 @@
 // Two turns, and two runs in step, compared. Their entries are counted by hand.
 
-ghost use Rattle.std.specs.Prelude.{◌≤◌, length};
+ghost use Rattle.std.specs.Prelude.{◌≡◌, ◌≤◌, length, IfOk};
 
 use rv_machine::hart::Hart;
 use rv_machine::laws::{entries_tell_observations_apart, one_first_difference};
@@ -45,7 +45,9 @@ fn finds_another_event(rt: HostRuntime) {
 }
 
 // A run from the code's base, with this number in x2 and four bytes of data.
-fn run_from(alloc: Global, x2: u32, budget: u64) -> Result<Running<FlatMemory>, AllocError> {
+fn run_from(alloc: Global, x2: u32, budget: u64) -> Result<Running<FlatMemory>, AllocError>
+    ensures { IfOk result (λ run. run.turns_left ≡ budget) }
+{
     Ok(Running {
         hart: Hart::new(CODE, x2),
         memory: FlatMemory::new(alloc, DATA, 4)?,
