@@ -31,9 +31,13 @@ abbrev pub each_number : List (List ℕ) → Option (List ℕ)
 each_number [] = Some []
 each_number (part ∷ parts) = option_and_then (λ number. option_map (λ numbers. number ∷ numbers) (each_number parts)) (number_of part)
 
+-- what stands before, between and after the commas of a text; a comma is the byte 44
+abbrev pub parts_of : List ℕ → List (List ℕ)
+parts_of text = slice_split (λ byte. byte == 44) text
+
 -- the numbers that a text spells between its commas
 abbrev pub numbers_of : List ℕ → Option (List ℕ)
-numbers_of text = each_number (slice_split (λ byte. byte == 44) text)
+numbers_of text = each_number (parts_of text)
 
 -- the number that a text spells, where it fits a word
 abbrev pub word_of : List ℕ → Option ℕ

@@ -1,6 +1,6 @@
-ghost use Rattle.std.specs.Prelude.{◌≡◌, ◌↔◌, ◌==◌, map, IfOk, OnOk};
-ghost use Rattle.std.specs.List.{filter_map, slice_split};
-ghost use Rattle.arguments.specs.Texts.{count_of, fault_of_texts, numbers_of, rule_of_text, word_of};
+ghost use Rattle.std.specs.Prelude.{◌≡◌, ◌↔◌, map, IfOk, OnOk};
+ghost use Rattle.std.specs.List.{filter_map};
+ghost use Rattle.arguments.specs.Texts.{count_of, fault_of_texts, numbers_of, parts_of, rule_of_text, word_of};
 ghost use Rattle.arguments.specs.Faults.{fault_by};
 ghost use Rattle.arguments.specs.Within.{AreWithin, IsWithin, words_of};
 ghost use Rattle.arguments.specs.declared.texts.ReadError.TheVariants.{Memory};
@@ -110,7 +110,7 @@ fn word(text: &str) -> Option<u32>
 
 /// The words that a text spells between its commas, those that are words.
 fn words(alloc: Global, text: &str) -> Result<Vec<u32>, AllocError>
-    ensures { IfOk result (λ words. words.items ≡ filter_map word_of (slice_split (λ byte. byte == 44) text.now)) }
+    ensures { IfOk result (λ words. words.items ≡ filter_map word_of (parts_of text.now)) }
 {
     let mut words = Vec::new(alloc);
     for part in text.split(',') {

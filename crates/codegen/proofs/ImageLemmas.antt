@@ -1,12 +1,12 @@
 -- The generated image's fields are allowed.
-use Rattle.std.proofs.Common.{◌≡◌, ℕ, suc, ◌+◌, ◌*◌, ◌%◌, ◌^◌, ◌<◌, ◌≤◌, List, [], ◌∷◌, length, map, All, Option, None, Some, IfSome, refl, sym, ap, subst, ◌∙◌, arith, length-append}
+use Rattle.std.proofs.Common.{◌≡◌, ℕ, suc, ◌+◌, ◌*◌, ◌%◌, ◌^◌, ◌<◌, ◌≤◌, true, List, [], ◌∷◌, length, map, All, Option, None, Some, IfSome, refl, sym, ap, ap₂, subst, ◌∙◌, arith, length-append}
 use Rattle.std.proofs.lemmas.List.{length-map}
 use Rattle.std.proofs.lemmas.List.Elements.{recursion_from_All}
 use Rattle.std.specs.List.{AllByRecursion}
 use Rattle.std.specs.Option.{option_map}
 use Rattle.branch_removal.specs.Straight.{StraightProgram}
 use Rattle.rv_code.specs.Words.{word_of}
-use Rattle.image.specs.Fields.{IsImage, AreSlots, IsResultSlot, slot_end, result_end, slots_end, slot_bytes}
+use Rattle.image.specs.Fields.{IsImage, is_length, AreSlots, IsResultSlot, slot_end, result_end, slots_end, slot_bytes}
 use Rattle.image.specs.declared.slot.Slot.{Slot}
 use Rattle.image.specs.declared.slot.ResultSlot.{ResultSlot}
 use Rattle.language.specs.declared.signature.Form.{Form}
@@ -24,13 +24,16 @@ length-slots_from low (p ∷ ps) = ap suc (length-slots_from (low + 4) ps)
 word_bytes : (p : Param) → IsWord p → slot_bytes p.form p.kind p.length ≡ 4
 word_bytes p is = ap (λ (form : Form). slot_bytes form p.kind p.length) is.form
 
+word_length : (p : Param) → IsWord p → is_length p.form p.length ≡ true
+word_length p is = ap₂ is_length is.form is.length
+
 multiple : (low : ℕ) → low % 4 ≡ 0 → (low + 4) % 4 ≡ 0
 multiple low h = omega arith
 
 pub slots_are : (low : ℕ) (ps : List Param) → AllByRecursion IsWord ps → low % 4 ≡ 0 → low + 4 * length ps < 2 ^ 32 → AreSlots low (slots_from low ps)
 slots_are low [] words aligned room = tt
 slots_are low (p ∷ ps) words aligned room = (
-  record { form = words.0.form; length = words.0.length; aligned = aligned; above = omega arith; fits = omega arith },
+  record { length = word_length p words.0; aligned = aligned; above = omega arith; fits = omega arith },
   subst (λ n. AreSlots (low + n) (slots_from (low + 4) ps)) (sym (word_bytes p words.0)) (slots_are (low + 4) ps words.1 (multiple low aligned) (omega arith)),
 )
 

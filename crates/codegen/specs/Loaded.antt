@@ -15,7 +15,7 @@ use Rattle.language.specs.declared.values.Arg.TheVariants.{Word, Array}
 abbrev pub params_of : Fields → List Param
 params_of image = map (λ slot. slot.param) image.slots
 
--- the bytes with an argument at its slot. Arrays have no images yet.
+-- the bytes with an argument at its slot. Arrays are not loaded yet.
 abbrev pub with_argument : ℕ → ByteMap → Slot → Arg → ByteMap
 with_argument frame bytes slot (Word word) = with_number bytes 4 (frame + slot.offset) word
 with_argument frame bytes slot (Array words) = bytes
@@ -43,7 +43,7 @@ loaded_at code_base frame_base image args = record {
 abbrev pub word_in : ℕ → ByteMap → ℕ → ℕ
 word_in frame bytes offset = unwrap_or (number_at bytes 4 (frame + offset)) 0
 
--- the outcome that the slots hold. No array is changed yet.
+-- the outcome that the slots hold. Arrays are not read yet.
 abbrev pub results_in : ℕ → Fields → ByteMap → Results
 results_in frame image bytes = record { returned = option_map (λ slot. word_in frame bytes slot.offset) image.returned; arrays = [] }
 

@@ -7,3 +7,6 @@ pub mod Words
 pub mod Existence
 pub mod TokenPlaces
 pub mod TreeHeads
+pub mod Light
+pub mod HeadPlaces
+pub mod ViolationPlaces

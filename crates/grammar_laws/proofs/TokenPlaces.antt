@@ -9,7 +9,7 @@ use Rattle.syntax.specs.Lexeme.{Lexeme}
 use Rattle.syntax.specs.Tokens.{Ending, Lexes, LexesFrom, at_end, past_space, past_token, at_bad_number, at_unknown_character, place_after, next_place}
 
 -- the token's place is that after the bytes before it
-abbrev IsPlacedIn : List ℕ → Lexeme → Type 0
+abbrev pub IsPlacedIn : List ℕ → Lexeme → Type 0
 IsPlacedIn text token = token.place ≡ place_after origin (take token.place.offset text)
 
 pub offset_after : (place : Place) (bytes : List ℕ) → (place_after place bytes).offset ≡ place.offset + length bytes

@@ -14,13 +14,13 @@ use Rattle.syntax.proofs.TokenLaws.{spelled_some}
 use Rattle.grammar_laws.proofs.TokenPlaces.{offset_after}
 use Rattle.grammar_laws.specs.Heads.{here, in_expr, in_exprs, in_values, in_call, in_right, in_statement, in_block, in_parameters, in_return, in_export, in_procedure, in_procedures, in_program}
 
--- how many tokens stand at the offset
-abbrev among : ℕ → List Lexeme → ℕ
-among n [] = 0
-among n (t ∷ tokens) = here n t.place + among n tokens
+-- the weights of the tokens' places, summed
+abbrev pub among : (Place → ℕ) → List Lexeme → ℕ
+among w [] = 0
+among w (t ∷ tokens) = w t.place + among w tokens
 
-module _ (n : ℕ) where
-  expr : {level : ℕ} {tokens rest : List Lexeme} {tree : ExprTree} → ExprAt level tokens tree rest → in_expr n tree + among n rest ≤ among n tokens
+module _ (w : Place → ℕ) where
+  expr : {level : ℕ} {tokens rest : List Lexeme} {tree : ExprTree} → ExprAt level tokens tree rest → in_expr w tree + among w rest ≤ among w tokens
   expr (a_number level t value suffix rest is) = omega arith
   expr (a_true level t rest is) = omega arith
   expr (a_false level t rest is) = omega arith
@@ -40,43 +40,43 @@ module _ (n : ℕ) where
       let hr = expr in_right in
       omega (arith, hl, hr)
 
-  more_exprs : {end : TokenKind} {tokens rest : List Lexeme} {trees : List ExprTree} → MoreExprs end tokens trees rest → in_exprs n trees + among n rest ≤ among n tokens
+  more_exprs : {end : TokenKind} {tokens rest : List Lexeme} {trees : List ExprTree} → MoreExprs end tokens trees rest → in_exprs w trees + among w rest ≤ among w tokens
   more_exprs (no_more closing rest is) = omega arith
   more_exprs (one_more comma list second rest tree trees is in_tree in_trees) =
       let h = expr in_tree in
       let hs = more_exprs in_trees in
       omega (arith, h, hs)
 
-  exprs : {end : TokenKind} {tokens rest : List Lexeme} {trees : List ExprTree} → SomeExprs end tokens trees rest → in_exprs n trees + among n rest ≤ among n tokens
+  exprs : {end : TokenKind} {tokens rest : List Lexeme} {trees : List ExprTree} → SomeExprs end tokens trees rest → in_exprs w trees + among w rest ≤ among w tokens
   exprs (some_exprs list second rest tree trees in_tree in_trees) =
       let h = expr in_tree in
       let hs = more_exprs in_trees in
       omega (arith, h, hs)
 
-  arguments : {tokens rest : List Lexeme} {trees : List ExprTree} → Arguments tokens trees rest → in_exprs n trees + among n rest ≤ among n tokens
+  arguments : {tokens rest : List Lexeme} {trees : List ExprTree} → Arguments tokens trees rest → in_exprs w trees + among w rest ≤ among w tokens
   arguments (no_arguments closing rest is) = omega arith
   arguments (some_arguments list rest trees in_trees) = exprs in_trees
 
-  call : {tokens rest : List Lexeme} {tree : CallTree} → Call tokens tree rest → in_call n tree + among n rest ≤ among n tokens
+  call : {tokens rest : List Lexeme} {tree : CallTree} → Call tokens tree rest → in_call w tree + among w rest ≤ among w tokens
   call (a_call t opening list rest trees is opens in_trees) = let h = arguments in_trees in omega (arith, h)
 
-  right : {tokens rest : List Lexeme} {tree : RightTree} → RightSide tokens tree rest → in_right n tree + among n rest ≤ among n tokens
+  right : {tokens rest : List Lexeme} {tree : RightTree} → RightSide tokens tree rest → in_right w tree + among w rest ≤ among w tokens
   right (a_call_value list rest tree in_tree) = call in_tree
   right (a_value list rest tree in_tree) = expr in_tree
 
-  mutable : {tokens rest : List Lexeme} {is : Bool} → Mutable tokens is rest → among n rest ≤ among n tokens
+  mutable : {tokens rest : List Lexeme} {is : Bool} → Mutable tokens is rest → among w rest ≤ among w tokens
   mutable (no_mut rest) = omega arith
   mutable (a_mut t rest is) = omega arith
 
-  array_type : {tokens rest : List Lexeme} {kind : Kind} {length : ℕ} → ArrayType tokens kind length rest → among n rest ≤ among n tokens
+  array_type : {tokens rest : List Lexeme} {kind : Kind} {length : ℕ} → ArrayType tokens kind length rest → among w rest ≤ among w tokens
   array_type (an_array_type word opening number closing rest kind length is opens is_length closes) = omega arith
 
-  values : {tokens rest : List Lexeme} {trees : Option (List ExprTree)} → FirstValues tokens trees rest → in_values n trees + among n rest ≤ among n tokens
+  values : {tokens rest : List Lexeme} {trees : Option (List ExprTree)} → FirstValues tokens trees rest → in_values w trees + among w rest ≤ among w tokens
   values (no_values rest) = omega arith
   values (some_values equals opening list rest trees is opens in_trees) = let h = exprs in_trees in omega (arith, h)
 
   mutual
-    statement : {tokens rest : List Lexeme} {tree : StatementTree} → Statement tokens tree rest → in_statement n tree + among n rest ≤ among n tokens
+    statement : {tokens rest : List Lexeme} {tree : StatementTree} → Statement tokens tree rest → in_statement w tree + among w rest ≤ among w tokens
     statement (a_declaration start second t equals semicolon list right' rest label is_mut kind tree is in_mut is_kind is_name is_equals in_right ends) =
         let hm = mutable in_mut in
         let hr = right in_right in
@@ -99,60 +99,60 @@ module _ (n : ℕ) where
         let hb = block in_body in
         omega (arith, hl, hh, hb)
 
-    conditional : {tokens rest : List Lexeme} {tree : StatementTree} → Conditional tokens tree rest → in_statement n tree + among n rest ≤ among n tokens
+    conditional : {tokens rest : List Lexeme} {tree : StatementTree} → Conditional tokens tree rest → in_statement w tree + among w rest ≤ among w tokens
     conditional (a_conditional t opening closing list arm others rest condition one other is opens in_condition closes in_arm in_otherwise) =
         let hc = expr in_condition in
         let ha = block in_arm in
         let ho = otherwise in_otherwise in
         omega (arith, hc, ha, ho)
 
-    statements : {tokens rest : List Lexeme} {tree : BlockTree} → Statements tokens tree rest → in_block n tree + among n rest ≤ among n tokens
+    statements : {tokens rest : List Lexeme} {tree : BlockTree} → Statements tokens tree rest → in_block w tree + among w rest ≤ among w tokens
     statements (no_statement rest) = omega arith
     statements (one_statement list others rest tree trees in_tree in_trees) =
         let h = statement in_tree in
         let hs = statements in_trees in
         omega (arith, h, hs)
 
-    block : {tokens rest : List Lexeme} {tree : BlockTree} → Block tokens tree rest → in_block n tree + among n rest ≤ among n tokens
+    block : {tokens rest : List Lexeme} {tree : BlockTree} → Block tokens tree rest → in_block w tree + among w rest ≤ among w tokens
     block (a_block opening closing list rest trees opens in_trees closes) = let h = statements in_trees in omega (arith, h)
 
-    otherwise : {tokens rest : List Lexeme} {tree : BlockTree} → Otherwise tokens tree rest → in_block n tree + among n rest ≤ among n tokens
+    otherwise : {tokens rest : List Lexeme} {tree : BlockTree} → Otherwise tokens tree rest → in_block w tree + among w rest ≤ among w tokens
     otherwise (no_else rest) = omega arith
     otherwise (an_else t arm rest trees is in_arm) = let h = block in_arm in omega (arith, h)
     otherwise (an_else_if t list rest tree is in_tree) = let h = conditional in_tree in omega (arith, h)
 
-  parameter : {tokens rest : List Lexeme} {tree : ParameterTree} → Parameter tokens tree rest → here n tree.place + among n rest ≤ among n tokens
+  parameter : {tokens rest : List Lexeme} {tree : ParameterTree} → Parameter tokens tree rest → w tree.place + among w rest ≤ among w tokens
   parameter (a_word start second t rest label kind is is_kind is_name) = omega arith
   parameter (a_fixed_array start t list rest label kind length is in_type is_name) = let h = array_type in_type in omega (arith, h)
   parameter (a_mutable_array start word t list rest label kind length is is_mut in_type is_name) = let h = array_type in_type in omega (arith, h)
 
-  more_parameters : {tokens rest : List Lexeme} {trees : List ParameterTree} → MoreParameters tokens trees rest → in_parameters n trees + among n rest ≤ among n tokens
+  more_parameters : {tokens rest : List Lexeme} {trees : List ParameterTree} → MoreParameters tokens trees rest → in_parameters w trees + among w rest ≤ among w tokens
   more_parameters (no_more_parameters closing rest is) = omega arith
   more_parameters (one_more_parameter comma list second rest tree trees is in_tree in_trees) =
       let h = parameter in_tree in
       let hs = more_parameters in_trees in
       omega (arith, h, hs)
 
-  parameters : {tokens rest : List Lexeme} {trees : List ParameterTree} → Parameters tokens trees rest → in_parameters n trees + among n rest ≤ among n tokens
+  parameters : {tokens rest : List Lexeme} {trees : List ParameterTree} → Parameters tokens trees rest → in_parameters w trees + among w rest ≤ among w tokens
   parameters (no_parameters closing rest is) = omega arith
   parameters (some_parameters list second rest tree trees in_tree in_trees) =
       let h = parameter in_tree in
       let hs = more_parameters in_trees in
       omega (arith, h, hs)
 
-  result : {tokens rest : List Lexeme} {type : Option WordType} → ResultType tokens type rest → among n rest ≤ among n tokens
+  result : {tokens rest : List Lexeme} {type : Option WordType} → ResultType tokens type rest → among w rest ≤ among w tokens
   result (a_void t rest is) = omega arith
   result (a_type start second rest label kind is is_kind) = omega arith
 
-  returned : {tokens rest : List Lexeme} {tree : Option ReturnTree} → BodyEnd tokens tree rest → in_return n tree + among n rest ≤ among n tokens
+  returned : {tokens rest : List Lexeme} {tree : Option ReturnTree} → BodyEnd tokens tree rest → in_return w tree + among w rest ≤ among w tokens
   returned (no_return closing rest is) = omega arith
   returned (a_return t semicolon closing list rest tree is in_tree ends closes) = let h = expr in_tree in omega (arith, h)
 
-  exported : {tokens rest : List Lexeme} {place : Option Place} → Exported tokens place rest → in_export n place + among n rest ≤ among n tokens
+  exported : {tokens rest : List Lexeme} {place : Option Place} → Exported tokens place rest → in_export w place + among w rest ≤ among w tokens
   exported (not_exported rest) = omega arith
   exported (an_export t rest is) = omega arith
 
-  procedure : {tokens rest : List Lexeme} {tree : ProcedureTree} → Procedure tokens tree rest → in_procedure n tree + among n rest ≤ among n tokens
+  procedure : {tokens rest : List Lexeme} {tree : ProcedureTree} → Procedure tokens tree rest → in_procedure w tree + among w rest ≤ among w tokens
   procedure (a_procedure t opening opening' list signature parameters' body end rest export type own trees returned' in_export in_result is opens in_parameters opens' in_body in_end) =
       let he = exported in_export in
       let ht = result in_result in
@@ -161,16 +161,17 @@ module _ (n : ℕ) where
       let hr = returned in_end in
       omega (arith, he, ht, hp, hb, hr)
 
-  procedures : {tokens : List Lexeme} {trees : List ProcedureTree} → Procedures tokens trees → in_procedures n trees ≤ among n tokens
+  procedures : {tokens : List Lexeme} {trees : List ProcedureTree} → Procedures tokens trees → in_procedures w trees ≤ among w tokens
   procedures no_procedure = omega arith
   procedures (one_procedure list others tree trees in_tree in_trees) =
       let h = procedure in_tree in
       let hs = procedures in_trees in
       omega (arith, h, hs)
 
-  program : {tokens : List Lexeme} {tree : ProgramTree} → IsProgram tokens tree → in_program n tree ≤ among n tokens
+  pub program : {tokens : List Lexeme} {tree : ProgramTree} → IsProgram tokens tree → in_program w tree ≤ among w tokens
   program (a_program list trees in_trees) = procedures in_trees
 
+module _ (n : ℕ) where
   -- a place is at the offset or not
   where_is : (place : Place) → ((place.offset ≡ n) × (here n place ≡ 1)) ⊎ ((place.offset ≢ n) × (here n place ≡ 0))
   where_is place = by (nat_eq place.offset n) refl
@@ -180,7 +181,7 @@ module _ (n : ℕ) where
       by false e = inr ((λ same. absurd (let h : false ≡ true = sym e ∙ eq-eqb place.offset n same in cc)), ap (λ b. if b then 1 else 0) e)
 
   -- tokens stand one after another
-  apart : {place : Place} {text : List ℕ} {tokens : List Lexeme} {end : Ending} → LexesFrom place text tokens end → (n < place.offset → among n tokens ≡ 0) × (among n tokens ≤ 1)
+  apart : {place : Place} {text : List ℕ} {tokens : List Lexeme} {end : Ending} → LexesFrom place text tokens end → (n < place.offset → among (here n) tokens ≡ 0) × (among (here n) tokens ≤ 1)
   apart (at_end place) = (λ _. refl, omega arith)
   apart (past_space place text spelling rest tokens end begins h) =
       let later = offset_after place spelling in
@@ -199,9 +200,9 @@ module _ (n : ℕ) where
   apart (at_bad_number place text spelling rest begins) = (λ _. refl, omega arith)
   apart (at_unknown_character place b text none) = (λ _. refl, omega arith)
 
-  answered : (tokens : List Lexeme) (ending : Ending) (tree : ProgramTree) → Answers tokens ending (accepted tree) → among n tokens ≤ 1 → in_program n tree ≤ 1
-  answered tokens ending tree (program_answer _ end _ is within) few = let h = program is in omega (arith, h, few)
+  answered : (tokens : List Lexeme) (ending : Ending) (tree : ProgramTree) → Answers tokens ending (accepted tree) → among (here n) tokens ≤ 1 → in_program (here n) tree ≤ 1
+  answered tokens ending tree (program_answer _ end _ is within) few = let h = program (here n) is in omega (arith, h, few)
 
 -- at each offset stands one head at most
-pub one_head : (text : List ℕ) (tree : ProgramTree) → Reads text (accepted tree) → (n : ℕ) → in_program n tree ≤ 1
+pub one_head : (text : List ℕ) (tree : ProgramTree) → Reads text (accepted tree) → (n : ℕ) → in_program (here n) tree ≤ 1
 one_head text tree (by_tokens _ tokens ending _ short lexes answers) n = answered n tokens ending tree answers (apart n lexes).1

@@ -2,7 +2,7 @@
 
 ghost use Rattle.std.specs.Prelude.{◌≡◌, ℕ, ◌≤◌, List, take};
 ghost use Rattle.std.specs.List.{All};
-ghost use Rattle.grammar_laws.specs.Heads.{in_program};
+ghost use Rattle.grammar_laws.specs.Heads.{astray, here, in_program};
 ghost use Rattle.language.specs.Tree.{ProgramTree};
 ghost use Rattle.syntax.specs.Beginning.{AreByCases};
 ghost use Rattle.syntax.specs.Lexeme.{Lexeme};
@@ -33,5 +33,10 @@ pub fn offsets_decide_places()
 
 /// No two nodes of a program have their heads at one offset.
 pub fn heads_are_distinct()
-    ensures { (text : List ℕ) (tree : ProgramTree) → Reads text (accepted tree) → (n : ℕ) → in_program n tree ≤ 1 }
+    ensures { (text : List ℕ) (tree : ProgramTree) → Reads text (accepted tree) → (n : ℕ) → in_program (here n) tree ≤ 1 }
+{}
+
+/// The offset of a head of a program decides its line and its column.
+pub fn heads_are_in_place()
+    ensures { (text : List ℕ) (tree : ProgramTree) → Reads text (accepted tree) → in_program (astray text) tree ≡ 0 }
 {}

@@ -5,9 +5,9 @@ use Rattle.std.proofs.lemmas.Bool.Decides.{Decides-eqb}
 use Rattle.arguments.specs.Faults.{fault_of, count_fault}
 use Rattle.arguments.specs.Within.{AreWithin}
 use Rattle.arguments.specs.declared.fault.ArgumentFault.{ArgumentFault}
-use Rattle.image.specs.Fields.{Fields, IsImage}
-use Rattle.image.specs.Spelling.{spelling}
-use Rattle.rv_machine.specs.Entries.{Entry, entries_of}
+use Rattle.image.specs.Fields.{Fields}
+use Rattle.image.specs.Reading.{Spells}
+use Rattle.rv_machine.specs.Entries.{Entry, entries_of, Compares}
 use Rattle.rv_machine.specs.declared.pairing.Pairing.{Pairing}
 use Rattle.rv_machine.specs.declared.pairing.Pairing.TheVariants.{Same, Differ}
 use Rattle.rv_machine.specs.Leakage.{Ran}
@@ -31,14 +31,11 @@ use Rattle.language.specs.Tree.{ProcedureTree, ProgramTree}
 use Rattle.hepurita.specs.declared.fault.RunFault.{RunFault}
 use Rattle.hepurita.specs.Answers.{Builds, IsTheOutcome, IsSame}
 use Rattle.hepurita.specs.Executed.{Executed, answer_at, refused, out_of_memory, ran}
-use Rattle.hepurita.specs.Paired.{Paired, Observed, Compares, pair_fault, first_of, shifted}
+use Rattle.hepurita.specs.Paired.{Paired, Observed, pair_fault, first_of, shifted}
 use Rattle.hepurita.specs.Paired as pairs
 use Rattle.hepurita.proofs.JudgementLemmas.{one_export}
 
 -- ---- the laws of the layers below
-
-abbrev pub OneSpelling : Type 0
-OneSpelling = (f g : Fields) → IsImage f → IsImage g → spelling f ≡ spelling g → f ≡ g
 
 abbrev pub Faultless : Type 0
 Faultless = (params : List Param) (args : List Arg) → (fault_of params args ≡ None) ↔ AreWithin params args
@@ -53,11 +50,16 @@ pub record Fits (program : ProgramTree) (export : ProcedureTree) (image : Fields
   pub compiled : IsCompiled program export image
   pub bases : AreBases image code_base frame_base
 
-pub fits : OneAnswer → OneSpelling → (text bytes : List ℕ) (program : ProgramTree) (export : ProcedureTree) (image : Fields) → Builds text bytes program export image → Fits program export image
-fits one spell text bytes program export image is =
+same_fields : (bytes : List ℕ) (f g : Fields) → Spells bytes f → Spells bytes g → f ≡ g
+same_fields bytes f g one other =
+    let both = sym one ∙ other in
+    cc
+
+pub fits : OneAnswer → (text bytes : List ℕ) (program : ProgramTree) (export : ProcedureTree) (image : Fields) → Builds text bytes program export image → Fits program export image
+fits one text bytes program export image is =
     let built = is.built in
     let same = one_export one text built.program program built.export export built.judged is.judged in
-    let images : built.image ≡ image = spell built.image image built.allowed is.allowed (sym built.spelled ∙ is.spelled) in
+    let images : built.image ≡ image = same_fields bytes built.image image built.spelled is.spelled in
     let compiled : IsCompiled program export image = subst (λ (f : Fields). IsCompiled program export f) images (subst (λ (p : ProcedureTree). IsCompiled program p built.image) same.1 (subst (λ (p : ProgramTree). IsCompiled p built.export built.image) same.0 built.compiled)) in
     record { compiled = compiled; bases = subst (λ (f : Fields). AreBases f code_base frame_base) images (built.bases 0 (omega arith)) }
 

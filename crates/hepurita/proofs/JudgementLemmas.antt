@@ -6,13 +6,16 @@ use Rattle.word.specs.declared.place.Place.{Place}
 use Rattle.language.specs.declared.rule.Rule.{Rule}
 use Rattle.language.specs.declared.rule.Rule.TheVariants.{InlinedSize, DeclaredBytes}
 use Rattle.language.specs.declared.typing.Violation.{Violation}
+use Rattle.inline.specs.Numbering.{flattened}
+use Rattle.intervals.specs.Ranges.{range_violations}
+use Rattle.intervals.specs.Work.{work_violations}
 use Rattle.language.specs.Meaning.{exported}
 use Rattle.syntax.specs.Reading.{accepted, refused, OneAnswer}
 use Rattle.language.specs.declared.limits.TheConstants.{MOST_NODES, MOST_DECLARED_BYTES}
 use Rattle.language.specs.Size.{nodes_of, declared_bytes, size_violations}
 use Rattle.language.specs.Tree.{ProcedureTree, ProgramTree}
 use Rattle.language.specs.Types.{when}
-use Rattle.hepurita.specs.Built.{Judges, JudgesProgram, accepts, refuses, not_compiled_yet, ill_typed, too_large, fine, unreadable, readable}
+use Rattle.hepurita.specs.Built.{IsWellFormed, IsSmall, Judges, JudgesProgram, accepts, refuses, not_compiled_yet, ill_typed, too_large, out_of_range, too_much_work, fine, unreadable, readable}
 use Rattle.hepurita.proofs.Exports.{Export, export_or}
 
 -- none of no violations is the first
@@ -27,13 +30,24 @@ nowhere all p empty there = absurd (omega (arith, there.1))
 pub exports_agree : (found : Export) (before before' : List ProcedureTree) (p q : ProcedureTree) → found ≡ Some (before, p) → found ≡ Some (before', q) → p ≡ q
 exports_agree found before before' p q is is' = ap (export_or p) (sym is ∙ is')
 
+-- so well-formed programs have one
+pub same_export : (program : ProgramTree) (p q : ProcedureTree) → IsWellFormed program p → IsWellFormed program q → p ≡ q
+same_export program p q is is' = exports_agree (exported [] program.procedures) is.before is'.before p q is.is_export is'.is_export
+
+-- what holds of the one export holds of the other
+pub of_same : {P : ProcedureTree → Type 0} (program : ProgramTree) (p q : ProcedureTree) → IsWellFormed program p → IsWellFormed program q → P p → P q
+of_same {P} program p q is is' h = subst P (same_export program p q is is') h
+
 -- a program is not both
 pub apart : (program of : ProgramTree) (export : ProcedureTree) (rule : Rule) (place : Place) → JudgesProgram program (accepts of export) → JudgesProgram program (refuses rule place) → ⊥
-apart program of export rule place (fine compiled typed is within) (not_compiled_yet first) = nowhere _ _ compiled first.there
-apart program of export rule place (fine compiled typed is within) (ill_typed compiled' first) = none _ _ typed first.there
-apart program of export rule place (fine {before} compiled typed is within) (too_large {before = before'} {export = other} compiled' typed' is' first) =
-    let same = exports_agree (exported [] program.procedures) before before' export other is is' in
-    none (size_violations other) _ (subst (λ (e : ProcedureTree). length (size_violations e) ≡ 0) same within) first.there
+apart program of export rule place (fine small in_range in_time) (not_compiled_yet first) = nowhere _ _ small.well_formed.compiled first.there
+apart program of export rule place (fine small in_range in_time) (ill_typed compiled first) = none _ _ small.well_formed.typed first.there
+apart program of export rule place (fine small in_range in_time) (too_large {export = other} is first) =
+    none _ _ (of_same {P = λ (e : ProcedureTree). length (size_violations e) ≡ 0} program export other small.well_formed is small.sized) first.there
+apart program of export rule place (fine small in_range in_time) (out_of_range {export = other} small' first) =
+    none _ _ (of_same {P = λ (e : ProcedureTree). length (range_violations (flattened e)) ≡ 0} program export other small.well_formed small'.well_formed in_range) first.there
+apart program of export rule place (fine small in_range in_time) (too_much_work {export = other} small' in_range' first) =
+    none _ _ (of_same {P = λ (e : ProcedureTree). length (work_violations (flattened e)) ≡ 0} program export other small.well_formed small'.well_formed in_time) first.there
 
 pub not_both : OneAnswer → (text : List ℕ) (program : ProgramTree) (export : ProcedureTree) (rule : Rule) (place : Place) → Judges text (accepts program export) → Judges text (refuses rule place) → ⊥
 not_both one text of export rule place (readable {program} reads judges) (unreadable reads') =
@@ -46,10 +60,10 @@ not_both one text of export rule place (readable {program} reads judges) (readab
 
 -- an accepted text is one program with one export
 pub one_export : OneAnswer → (text : List ℕ) (program program' : ProgramTree) (export export' : ProcedureTree) → Judges text (accepts program export) → Judges text (accepts program' export') → (program ≡ program') × (export ≡ export')
-one_export one text program program' export export' (readable reads (fine {before} compiled typed is small)) (readable reads' (fine {before = before'} compiled' typed' is' small')) =
+one_export one text program program' export export' (readable reads (fine small in_range in_time)) (readable reads' (fine small' in_range' in_time')) =
     let answer : accepted program ≡ accepted program' = one text (accepted program) (accepted program') reads reads' in
     let same : program ≡ program' = cc in
-    (same, exports_agree (exported [] program'.procedures) before before' export export' (ap (λ (q : ProgramTree). exported [] q.procedures) (sym same) ∙ is) is')
+    (same, same_export program' export export' (subst (λ (q : ProgramTree). IsWellFormed q export) same small.well_formed) small'.well_formed)
 
 not_passed : (b : Bool) (rule : Rule) → length (when b rule) ≡ 0 → b ≡ false
 not_passed true rule h = absurd (omega (arith, h))
@@ -69,5 +83,5 @@ sizes p small =
       within MOST_DECLARED_BYTES (declared_bytes p) (not_passed _ DeclaredBytes (omega (arith, small, m, n))),
     )
 
-pub few_nodes : (text : List ℕ) (program : ProgramTree) (export : ProcedureTree) → Judges text (accepts program export) → nodes_of export ≤ MOST_NODES
-few_nodes text program export (readable reads (fine compiled typed is small)) = (sizes export small).0
+pub few_nodes : (program : ProgramTree) (export : ProcedureTree) → IsSmall program export → nodes_of export ≤ MOST_NODES
+few_nodes program export small = (sizes export small.sized).0

@@ -6,7 +6,9 @@ pub mod FaultLemmas
 pub mod PairedLemmas
 pub mod Exports
 pub mod JudgementLemmas
+pub mod PlaceLemmas
 pub mod RefusalLemmas
+pub mod Existence
 pub mod TheoremLemmas
 pub mod AnswerLemmas
 pub mod BaseLemmas

@@ -1,35 +1,28 @@
 -- Slots inside the frame, and arguments put into them one after another.
-use Rattle.std.proofs.Common.{◌≡◌, ℕ, suc, ◌+◌, ◌<◌, ◌≤◌, List, [], ◌∷◌, length, drop, slice_index_or, refl, sym, ap, ◌∙◌, arith, drop-cons, add-one}
+use Rattle.std.proofs.Common.{◌≡◌, ℕ, zero, suc, ◌+◌, ◌^◌, ◌<◌, ◌≤◌, List, [], ◌∷◌, length, map, drop, slice_index_or, refl, sym, ap, ◌∙◌, arith, drop-cons, add-one}
 use Rattle.std.specs.List.{AllByRecursion}
-use Rattle.arguments.specs.Within.{AreWithin}
-use Rattle.image.specs.Fields.{AreSlots, IsSlot, slot_end, slot_bytes}
+use Rattle.arguments.specs.Within.{AreWithin, HasShape}
+use Rattle.image.specs.Fields.{slot_end}
 use Rattle.image.specs.declared.slot.Slot.{Slot}
 use Rattle.rv_machine.specs.Bytes.{ByteMap, zeros}
+use Rattle.rv_machine.specs.Machine.{State}
 use Rattle.language.specs.declared.signature.Form.TheVariants.{SingleWord}
 use Rattle.language.specs.declared.signature.Kind.TheVariants.{Boolean}
 use Rattle.language.specs.declared.signature.Label.TheVariants.{Public}
 use Rattle.language.specs.declared.signature.Param.{Param}
 use Rattle.language.specs.declared.values.Arg.{Arg}
-use Rattle.codegen.specs.Loaded.{with_argument, with_arguments, HoldsWord}
-use Rattle.hepurita.proofs.DataLemmas.{is_some-zeros}
+use Rattle.codegen.specs.Loaded.{with_argument, with_arguments}
+use Rattle.hepurita.specs.Frames.{HoldsSlot}
+use Rattle.hepurita.proofs.DataLemmas.{zeros_there}
 
--- a word's slot takes four bytes
-end_of_word : (low : ℕ) (slot : Slot) → IsSlot low slot → slot_end slot ≡ slot.offset + 4
-end_of_word low slot is = ap (λ form. slot.offset + slot_bytes form slot.param.kind slot.param.length) is.form
-
-holds : (frame bytes low : ℕ) (slot : Slot) → IsSlot low slot → slot_end slot ≤ bytes → bytes ≤ 65536 → HoldsWord frame (zeros frame bytes) slot
-holds frame bytes low slot is inside small =
-    let end = end_of_word low slot is in
-    record {
-      near = omega arith;
-      data_there = is_some-zeros frame bytes 4 (frame + slot.offset) (omega arith) (omega arith);
-    }
-
--- each slot of an image holds a word of its frame
-pub slots_hold : (frame bytes low : ℕ) (slots : List Slot) → AreSlots low slots → AllByRecursion (λ slot. slot_end slot ≤ bytes) slots → bytes ≤ 65536 → AllByRecursion (HoldsWord frame (zeros frame bytes)) slots
-slots_hold frame bytes low [] are inside small = tt
-slots_hold frame bytes low (slot ∷ slots) are inside small =
-    (holds frame bytes low slot are.0 inside.0 small, slots_hold frame bytes (slot_end slot) slots are.1 inside.1 small)
+-- each slot of an image lies in its frame
+pub slots_hold : (frame bytes : ℕ) (slots : List Slot) → AllByRecursion (λ slot. slot_end slot ≤ bytes) slots → frame + bytes ≤ 2 ^ 32 → AllByRecursion (HoldsSlot frame (zeros frame bytes)) slots
+slots_hold frame bytes [] inside below = tt
+slots_hold frame bytes (slot ∷ slots) inside below =
+    let first : slot_end slot ≤ bytes = inside.0 in (
+      record { below = omega (arith, first); data_there = λ x low high. zeros_there frame bytes x (omega arith) (omega (arith, first)) },
+      slots_hold frame bytes slots inside.1 below,
+    )
 
 -- one argument for each parameter
 pub length-within : (params : List Param) (args : List Arg) → AreWithin params args → length args ≡ length params
@@ -37,6 +30,13 @@ length-within [] [] within = refl
 length-within [] (arg ∷ args) within = absurd within
 length-within (param ∷ params) [] within = absurd within
 length-within (param ∷ params) (arg ∷ args) within = ap suc (length-within params args within.1)
+
+-- each argument has its parameter's shape
+pub shape_at : (slots : List Slot) (args : List Arg) (i : ℕ) (slot : Slot) (arg : Arg) → AreWithin (map (λ (s : Slot). s.param) slots) args → i < length slots → HasShape (slice_index_or slots i slot).param.form (slice_index_or slots i slot).param.length (slice_index_or args i arg)
+shape_at [] args i slot arg within below = absurd (omega arith)
+shape_at (s ∷ slots) [] i slot arg within below = absurd within
+shape_at (s ∷ slots) (a ∷ args) zero slot arg within below = within.0.shape
+shape_at (s ∷ slots) (a ∷ args) (suc i) slot arg within below = shape_at slots args i slot arg within.1 (omega arith)
 
 -- putting what is left begins with the next argument
 pub with_arguments-next : (frame : ℕ) (bytes : ByteMap) (slots : List Slot) (args : List Arg) (i : ℕ) (slot : Slot) (arg : Arg) → i < length slots → i < length args → with_arguments frame bytes (drop i slots) (drop i args) ≡ with_arguments frame (with_argument frame bytes (slice_index_or slots i slot) (slice_index_or args i arg)) (drop (i + 1) slots) (drop (i + 1) args)
@@ -49,3 +49,6 @@ with_arguments-next frame bytes slots args i slot arg below below' =
 -- what stands where there is no slot
 abbrev pub no_slot : Slot
 no_slot = record { param = record { kind = Boolean; label = Public; form = SingleWord; length = 0 }; offset = 0 }
+
+pub same_state : (p p' : ℕ) (r r' : ℕ → ℕ) (b b' : ByteMap) → p ≡ p' → r ≡ r' → b ≡ b' → ◌≡◌ {A = State} (record { pc = p; regs = r; bytes = b }) (record { pc = p'; regs = r'; bytes = b' })
+same_state p p' r r' b b' same_pc same_regs same_bytes = cc

@@ -2,14 +2,16 @@
 use Rattle.std.proofs.Common.{◌≡◌, ℕ, List, Some, Result, Err, refl, sym, subst}
 use Rattle.arguments.specs.declared.fault.ArgumentFault.{ArgumentFault}
 use Rattle.image.specs.Fields.{Fields}
-use Rattle.rv_machine.specs.Entries.{Entry, IsFirstDifference}
+use Rattle.rv_machine.specs.Leakage.{IsShown}
+use Rattle.rv_machine.specs.Machine.{State, Code}
+use Rattle.rv_machine.specs.declared.observation.Observation.{Observation}
 use Rattle.rv_machine.specs.declared.pairing.Pairing.{Pairing}
-use Rattle.rv_machine.specs.declared.pairing.Pairing.TheVariants.{Same, Differ}
 use Rattle.language.specs.declared.values.Arg.{Arg}
 use Rattle.hepurita.specs.declared.fault.RunFault.{RunFault}
 use Rattle.hepurita.specs.declared.fault.RunFault.TheVariants.{Argument, Memory}
-use Rattle.codegen.specs.Loaded.{params_of}
-use Rattle.hepurita.specs.Paired.{Paired, Compares, pair_fault, refused, out_of_memory}
+use Rattle.codegen.specs.Loaded.{params_of, code_at, loaded_at}
+use Rattle.hepurita.specs.Bases.{code_base, frame_base}
+use Rattle.hepurita.specs.Paired.{Observed, Paired, pair_fault, refused, out_of_memory}
 
 pub memory_paired : (image : Fields) (one other : List Arg) (r : Result Pairing RunFault) → r ≡ Err Memory → Paired image one other r
 memory_paired image one other r is = subst (λ (x : Result Pairing RunFault). Paired image one other x) (sym is) out_of_memory
@@ -17,6 +19,11 @@ memory_paired image one other r is = subst (λ (x : Result Pairing RunFault). Pa
 pub refused_paired : (image : Fields) (one other : List Arg) (fault : ArgumentFault) (e : RunFault) → e ≡ Argument fault.rule fault.index → pair_fault (params_of image) one other ≡ Some fault → Paired image one other (Err e)
 refused_paired image one other fault e is first = subst (λ (x : RunFault). Paired image one other (Err x)) (sym is) (refused first)
 
-pub compares_from : (one other : List Entry) (r : Pairing) → (r ≡ Same → one ≡ other) → ((place : ℕ) → r ≡ Differ place → IsFirstDifference one other place) → Compares one other r
-compares_from one other Same same differ = same refl
-compares_from one other (Differ place) same differ = differ place refl
+-- what a run shows as it was loaded
+pub observed_from : (image : Fields) (args : List Arg) (code : Code) (steps : ℕ) (s : State) (seen : List Observation) → code ≡ code_at code_base image → steps ≡ image.max_steps → s ≡ loaded_at code_base frame_base image args → IsShown code steps s seen → Observed image args seen
+observed_from image args code steps s seen code_is steps_is s_is shown =
+    let there =
+    subst (λ (x : State). IsShown (code_at code_base image) image.max_steps x seen) s_is
+    (subst (λ (x : ℕ). IsShown (code_at code_base image) x s seen) steps_is
+    (subst (λ (x : Code). IsShown x steps s seen) code_is shown)) in
+    (there.0, there.1, there.3, (seen, there.2, refl))

@@ -1,4 +1,4 @@
--- A text is refused for one rule at one offset.
+-- A text is refused for one rule at one place.
 use Rattle.std.proofs.Common.{◌≡◌, inl, inr, ℕ, zero, suc, ◌≤◌, List, [], ◌∷◌, refl, ap, sym, subst, ◌∙◌, arith}
 use Rattle.std.proofs.lemmas.List.Elements.{All-contains}
 use Rattle.coverage.specs.Earliest.{IsEarliest}
@@ -11,12 +11,14 @@ use Rattle.language.specs.Meaning.{exported}
 use Rattle.language.specs.Rules.{rank_of}
 use Rattle.language.specs.Size.{size_violations}
 use Rattle.language.specs.Tree.{ProcedureTree, ProgramTree}
-use Rattle.syntax.specs.Reading.{accepted, refused, OneAnswer}
+use Rattle.syntax.specs.Reading.{Reads, accepted, refused, OneAnswer}
 use Rattle.hepurita.specs.Built.{Judges, JudgesProgram, refuses, not_compiled_yet, ill_typed, too_large, unreadable, readable}
+use Rattle.grammar_laws.proofs.HeadPlaces.{one_place}
+use Rattle.hepurita.proofs.PlaceLemmas.{refused_in_place}
 use Rattle.hepurita.proofs.JudgementLemmas.{none, nowhere, exports_agree}
 
 -- one rule, at one offset
-abbrev pub AreAlike : Rule → Place → Rule → Place → Type 0
+abbrev AreAlike : Rule → Place → Rule → Place → Type 0
 AreAlike rule place rule' place' = (rule ≡ rule') × (place.offset ≡ place'.offset)
 
 -- ---- a rule is known by its rank
@@ -87,23 +89,55 @@ one_earliest all p q first first' =
 
 of_program : (program : ProgramTree) (rule rule' : Rule) (place place' : Place) → JudgesProgram program (refuses rule place) → JudgesProgram program (refuses rule' place') → AreAlike rule place rule' place'
 of_program program rule rule' place place' (not_compiled_yet first) (not_compiled_yet first') = (refl, one_earliest _ place place' first first')
-of_program program rule rule' place place' (not_compiled_yet first) (ill_typed compiled first') = absurd (nowhere _ _ compiled first.there)
-of_program program rule rule' place place' (not_compiled_yet first) (too_large compiled typed is first') = absurd (nowhere _ _ compiled first.there)
+of_program program rule rule' place place' (not_compiled_yet first) (ill_typed compiled' first') = absurd (nowhere _ _ compiled' first.there)
+of_program program rule rule' place place' (not_compiled_yet first) (too_large {export = other} is' first') = absurd (nowhere _ _ is'.compiled first.there)
+of_program program rule rule' place place' (not_compiled_yet first) (out_of_range {export = other} small' first') = absurd (nowhere _ _ small'.well_formed.compiled first.there)
+of_program program rule rule' place place' (not_compiled_yet first) (too_much_work {export = other} small' in_range' first') = absurd (nowhere _ _ small'.well_formed.compiled first.there)
 of_program program rule rule' place place' (ill_typed compiled first) (not_compiled_yet first') = absurd (nowhere _ _ compiled first'.there)
 of_program program rule rule' place place' (ill_typed compiled first) (ill_typed compiled' first') = one_first _ _ _ first first'
-of_program program rule rule' place place' (ill_typed compiled first) (too_large compiled' typed is first') = absurd (none _ _ typed first.there)
-of_program program rule rule' place place' (too_large compiled typed is first) (not_compiled_yet first') = absurd (nowhere _ _ compiled first'.there)
-of_program program rule rule' place place' (too_large compiled typed is first) (ill_typed compiled' first') = absurd (none _ _ typed first'.there)
-of_program program rule rule' place place' (too_large {before} {export} {first = v} compiled typed is first) (too_large {before = before'} {export = other} {first = v'} compiled' typed' is' first') =
-    let same = exports_agree (exported [] program.procedures) before' before other export is' is in
-    one_first (size_violations export) v v' first (subst (λ (e : ProcedureTree). IsFirst (size_violations e) v') same first')
+of_program program rule rule' place place' (ill_typed compiled first) (too_large {export = other} is' first') = absurd (none _ _ is'.typed first.there)
+of_program program rule rule' place place' (ill_typed compiled first) (out_of_range {export = other} small' first') = absurd (none _ _ small'.well_formed.typed first.there)
+of_program program rule rule' place place' (ill_typed compiled first) (too_much_work {export = other} small' in_range' first') = absurd (none _ _ small'.well_formed.typed first.there)
+of_program program rule rule' place place' (too_large {export = export} is first) (not_compiled_yet first') = absurd (nowhere _ _ is.compiled first'.there)
+of_program program rule rule' place place' (too_large {export = export} is first) (ill_typed compiled' first') = absurd (none _ _ is.typed first'.there)
+of_program program rule rule' place place' (too_large {export = export} is first) (too_large {export = other} is' first') =
+    one_first _ _ _ first (of_same {P = λ (e : ProcedureTree). IsFirst (size_violations e) _} program other export is' is first')
+of_program program rule rule' place place' (too_large {export = export} is first) (out_of_range {export = other} small' first') =
+    absurd (none _ _ (of_same {P = λ (e : ProcedureTree). length (size_violations e) ≡ 0} program other export small'.well_formed is small'.sized) first.there)
+of_program program rule rule' place place' (too_large {export = export} is first) (too_much_work {export = other} small' in_range' first') =
+    absurd (none _ _ (of_same {P = λ (e : ProcedureTree). length (size_violations e) ≡ 0} program other export small'.well_formed is small'.sized) first.there)
+of_program program rule rule' place place' (out_of_range {export = export} small first) (not_compiled_yet first') = absurd (nowhere _ _ small.well_formed.compiled first'.there)
+of_program program rule rule' place place' (out_of_range {export = export} small first) (ill_typed compiled' first') = absurd (none _ _ small.well_formed.typed first'.there)
+of_program program rule rule' place place' (out_of_range {export = export} small first) (too_large {export = other} is' first') =
+    absurd (none _ _ (of_same {P = λ (e : ProcedureTree). length (size_violations e) ≡ 0} program export other small.well_formed is' small.sized) first'.there)
+of_program program rule rule' place place' (out_of_range {export = export} small first) (out_of_range {export = other} small' first') =
+    one_first _ _ _ first (of_same {P = λ (e : ProcedureTree). IsFirst (range_violations (flattened e)) _} program other export small'.well_formed small.well_formed first')
+of_program program rule rule' place place' (out_of_range {export = export} small first) (too_much_work {export = other} small' in_range' first') =
+    absurd (none _ _ (of_same {P = λ (e : ProcedureTree). length (range_violations (flattened e)) ≡ 0} program other export small'.well_formed small.well_formed in_range') first.there)
+of_program program rule rule' place place' (too_much_work {export = export} small in_range first) (not_compiled_yet first') = absurd (nowhere _ _ small.well_formed.compiled first'.there)
+of_program program rule rule' place place' (too_much_work {export = export} small in_range first) (ill_typed compiled' first') = absurd (none _ _ small.well_formed.typed first'.there)
+of_program program rule rule' place place' (too_much_work {export = export} small in_range first) (too_large {export = other} is' first') =
+    absurd (none _ _ (of_same {P = λ (e : ProcedureTree). length (size_violations e) ≡ 0} program export other small.well_formed is' small.sized) first'.there)
+of_program program rule rule' place place' (too_much_work {export = export} small in_range first) (out_of_range {export = other} small' first') =
+    absurd (none _ _ (of_same {P = λ (e : ProcedureTree). length (range_violations (flattened e)) ≡ 0} program export other small.well_formed small'.well_formed in_range) first'.there)
+of_program program rule rule' place place' (too_much_work {export = export} small in_range first) (too_much_work {export = other} small' in_range' first') =
+    one_first _ _ _ first (of_same {P = λ (e : ProcedureTree). IsFirst (work_violations (flattened e)) _} program other export small'.well_formed small.well_formed first')
 
-pub one_refusal_for : OneAnswer → (text : List ℕ) (rule rule' : Rule) (place place' : Place) → Judges text (refuses rule place) → Judges text (refuses rule' place') → AreAlike rule place rule' place'
+abbrev pub AreOne : Rule → Place → Rule → Place → Type 0
+AreOne rule place rule' place' = (rule ≡ rule') × (place ≡ place')
+
+-- the offset decides the place
+at_one_place : (text : List ℕ) (program : ProgramTree) (rule rule' : Rule) (place place' : Place) → Reads text (accepted program) → JudgesProgram program (refuses rule place) → JudgesProgram program (refuses rule' place') → AreOne rule place rule' place'
+at_one_place text program rule rule' place place' reads judges judges' =
+    let alike = of_program program rule rule' place place' judges judges' in
+    (alike.0, one_place text place place' (refused_in_place text program rule place reads judges) (refused_in_place text program rule' place' reads judges') alike.1)
+
+pub one_refusal_for : OneAnswer → (text : List ℕ) (rule rule' : Rule) (place place' : Place) → Judges text (refuses rule place) → Judges text (refuses rule' place') → AreOne rule place rule' place'
 one_refusal_for one text rule rule' place place' (unreadable reads) (unreadable reads') =
     let answer : refused rule place ≡ refused rule' place' = one text (refused rule place) (refused rule' place') reads reads' in
     let same : rule ≡ rule' = cc in
     let at : place ≡ place' = cc in
-    (same, ap (λ (p : Place). p.offset) at)
+    (same, at)
 one_refusal_for one text rule rule' place place' (unreadable reads) (readable {program} reads' judges') =
     let answer : refused rule place ≡ accepted program = one text (refused rule place) (accepted program) reads reads' in
     cc
@@ -113,4 +147,4 @@ one_refusal_for one text rule rule' place place' (readable {program} reads judge
 one_refusal_for one text rule rule' place place' (readable {program} reads judges) (readable {program = other} reads' judges') =
     let answer : accepted program ≡ accepted other = one text (accepted program) (accepted other) reads reads' in
     let same : program ≡ other = cc in
-    of_program other rule rule' place place' (subst (λ (p : ProgramTree). JudgesProgram p (refuses rule place)) same judges) judges'
+    at_one_place text other rule rule' place place' reads' (subst (λ (p : ProgramTree). JudgesProgram p (refuses rule place)) same judges) judges'

@@ -1,7 +1,7 @@
 -- What `execute` and `pair` are to answer for the image of an accepted text.
 use Rattle.std.specs.Prelude.{◌≡◌, ◌⊎◌, ℕ, List, Result, Ok, Err}
 use Rattle.image.specs.Fields.{Fields, IsImage}
-use Rattle.image.specs.Spelling.{spelling}
+use Rattle.image.specs.Reading.{Spells}
 use Rattle.rv_machine.specs.declared.pairing.Pairing.{Pairing}
 use Rattle.rv_machine.specs.declared.pairing.Pairing.TheVariants.{Same}
 use Rattle.rv_machine.specs.declared.stops.Stop.TheVariants.{RecorderRefused}
@@ -18,7 +18,7 @@ pub record Builds (text bytes : List ℕ) (program : ProgramTree) (export : Proc
   pub built : IsBuilt text bytes
   pub judged : Judges text (accepts program export)
   pub allowed : IsImage image
-  pub spelled : bytes ≡ spelling image
+  pub spelled : Spells bytes image
 
 -- the one outcome that the program gives, which meets no fault; or memory was refused, or the recorder refused
 abbrev pub IsTheOutcome : ProgramTree → List Arg → Result Results RunFault → Type 0

@@ -3,7 +3,7 @@ use Rattle.std.specs.Prelude.{◌≡◌, ◌⊎◌, ℕ, ◌+◌, ◌*◌, ◌<�
 use Rattle.coverage.specs.Earliest.{IsEarliest}
 use Rattle.coverage.specs.NotCompiled.{uncompiled, IsCompiledYet}
 use Rattle.image.specs.Fields.{Fields, IsImage}
-use Rattle.image.specs.Spelling.{spelling}
+use Rattle.image.specs.Reading.{Spells}
 use Rattle.codegen.specs.Bases.{AreBases}
 use Rattle.hepurita.specs.Bases.{code_base, frame_base, most_images, code_distance, frame_distance}
 use Rattle.hepurita.specs.Compiled.{IsCompiled}
@@ -73,7 +73,7 @@ pub record IsBuilt (text bytes : List ℕ) : Type 0 where
   pub image : Fields
   pub judged : Judges text (accepts program export)
   pub allowed : IsImage image
-  pub spelled : bytes ≡ spelling image
+  pub spelled : Spells bytes image
   pub compiled : IsCompiled program export image
   -- code and frame may lie at the standard bases, and those of several images side by side
   pub bases : (k : ℕ) → k < most_images → AreBases image (code_base + code_distance * k) (frame_base + frame_distance * k)

@@ -6,6 +6,7 @@ use Rattle.arguments.specs.Within.{AreWithin}
 use Rattle.inline.specs.Numbering.{flattened, param_of}
 use Rattle.intervals.specs.Work.{work_of}
 use Rattle.image.specs.Fields.{Fields}
+use Rattle.image.specs.declared.limits.TheConstants.{MOST_FRAME_BYTES}
 use Rattle.rv_machine.specs.Leakage.{Halts}
 use Rattle.rv_machine.specs.Machine.{State}
 use Rattle.rv_machine.specs.declared.observation.Observation.{Observation}
@@ -40,7 +41,7 @@ pub record IsCompiled (program : ProgramTree) (p : ProcedureTree) (image : Field
   pub params : params_of image ≡ map param_of p.parameters
   pub result : option_map type_in image.returned ≡ p.result
   pub max_steps : image.max_steps ≡ 32 * work_of (flattened p) + 64
-  pub frame_size : image.frame_bytes ≤ 65536
+  pub frame_size : image.frame_bytes ≤ MOST_FRAME_BYTES
   pub word_count : length image.words ≤ 32 * nodes_of p + 64
   -- results: on all arguments within the parameter types
   pub results : (code frame : ℕ) (args : List Arg) → AreBases image code frame → AreWithin (params_of image) args → RunsTo program image code frame args

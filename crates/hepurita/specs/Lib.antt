@@ -1,4 +1,5 @@
 pub mod Bases
+pub mod Frames
 pub mod Compiled
 pub mod Executed
 pub mod Paired

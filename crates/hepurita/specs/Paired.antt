@@ -4,9 +4,8 @@ use Rattle.std.specs.Option.{option_map}
 use Rattle.arguments.specs.Faults.{fault_of, count_fault}
 use Rattle.arguments.specs.declared.fault.ArgumentFault.{ArgumentFault}
 use Rattle.image.specs.Fields.{Fields}
-use Rattle.rv_machine.specs.Entries.{Entry, entries_of, IsFirstDifference}
+use Rattle.rv_machine.specs.Entries.{entries_of, Compares}
 use Rattle.rv_machine.specs.declared.pairing.Pairing.{Pairing}
-use Rattle.rv_machine.specs.declared.pairing.Pairing.TheVariants.{Same, Differ}
 use Rattle.rv_machine.specs.Leakage.{Ran}
 use Rattle.rv_machine.specs.Machine.{State}
 use Rattle.rv_machine.specs.declared.observation.Observation.{Observation}
@@ -39,11 +38,6 @@ abbrev pub Observed : Fields → List Arg → List Observation → Type 0
 Observed image args list =
     (stop : Stop) × (end : State) × (stop ≢ RecorderRefused)
     × Ran (code_at code_base image) true image.max_steps (loaded_at code_base frame_base image args) [] stop end list
-
--- two lists of entries are one, or differ first at a place
-abbrev pub Compares : List Entry → List Entry → Pairing → Type 0
-Compares one other Same = one ≡ other
-Compares one other (Differ place) = IsFirstDifference one other place
 
 -- what is answered for two lists of arguments
 pub data Paired (image : Fields) (one other : List Arg) : Result Pairing RunFault → Type 0 where

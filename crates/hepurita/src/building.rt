@@ -12,7 +12,7 @@ ghost use Rattle.language.specs.Meaning.{exported};
 ghost use Rattle.language.specs.Tree.{ProcedureTree, ProgramTree, program_tree};
 ghost use Rattle.word.specs.declared.place.Place.{Place};
 ghost use Rattle.language.specs.declared.rule.Rule.{Rule};
-ghost use Rattle.hepurita.specs.Built.{Judges, JudgesProgram, IsRefusal, IsBuilt, accepts, refuses};
+ghost use Rattle.hepurita.specs.Built.{Judgement, Judges, JudgesProgram, IsRefusal, IsBuilt, accepts, refuses};
 
 use crate::judging::flat_of;
 use branch_removal::remove;
@@ -60,9 +60,14 @@ pub fn accepted_or_refused()
     one_answer_for_a_text();
 }
 
-/// A text is refused for one rule at one offset.
+/// A text is refused for one rule at one place.
 pub fn one_refusal()
-    ensures { (text : List ℕ) (rule rule' : Rule) (place place' : Place) → Judges text (refuses rule place) → Judges text (refuses rule' place') → (rule ≡ rule') × (place.offset ≡ place'.offset) }
+    ensures { (text : List ℕ) (rule rule' : Rule) (place place' : Place) → Judges text (refuses rule place) → Judges text (refuses rule' place') → (rule ≡ rule') × (place ≡ place') }
 {
     one_answer_for_a_text();
 }
+
+/// Each text is accepted or refused: with the laws above it has exactly one judgement.
+pub fn each_text_is_judged()
+    ensures { (text : List ℕ) → (judgement : Judgement) × Judges text judgement }
+{}

@@ -1,26 +1,32 @@
 // A run of an image on arguments.
 
-ghost use Rattle.std.specs.Prelude.{◌≡◌, ◌≢◌, Err};
+ghost use Rattle.std.specs.Prelude.{◌≡◌, ◌≢◌, ◌+◌, ◌^◌, ◌≤◌, Err};
 ghost use Rattle.hepurita.specs.Executed.{Executed, answer_at, refusals_after};
 ghost use Rattle.rv_machine.specs.Recording.{HasRefused};
-ghost use Rattle.rv_machine.specs.Flat.{flat_bytes};
+ghost use Rattle.rv_machine.specs.Paged.{paged_bytes};
 ghost use Rattle.hepurita.specs.Bases.{frame_base};
 
 use crate::fault::RunFault;
-use crate::loading::{load, outcome, params};
+use crate::loading::{FRAME_BASE, code, load, outcome, params};
 use arguments::first_fault;
 use image::Image;
 use language::{Args, Outcome};
 use rv_machine::recording::Recorder;
-use rv_machine::{FlatMemory, Stop, run};
+use rv_machine::{PagedMemory, Stop, run};
 use std::alloc::Global;
 
 /// What is answered where the machine stops so.
-fn answer(alloc: Global, image: &Image, stop: Stop, frame: &FlatMemory) -> Result<Outcome, RunFault>
-    ensures { result ≡ answer_at frame_base image.now stop (flat_bytes frame.now) }
+fn answer(
+    alloc: Global,
+    image: &Image,
+    stop: Stop,
+    memory: &PagedMemory,
+) -> Result<Outcome, RunFault>
+    requires { frame_base + image.now.frame_bytes ≤ 2 ^ 32 }
+    ensures { result ≡ answer_at frame_base image.now stop (paged_bytes memory.now) }
 {
     match stop {
-        Stop::Ecall => Ok(outcome(alloc, image, frame)),
+        Stop::Ecall => Ok(outcome(alloc, image, memory, FRAME_BASE)),
         Stop::Break => Err(RunFault::Stopped(Stop::Break)),
         Stop::Illegal => Err(RunFault::Stopped(Stop::Illegal)),
         Stop::AccessFault => Err(RunFault::Stopped(Stop::AccessFault)),
@@ -48,13 +54,14 @@ pub fn execute<R: Recorder>(
     if let Some(fault) = first_fault(params.as_slice(), args) {
         return Err(RunFault::from(fault));
     }
-    let mut machine = load(alloc, image, args)?;
+    let code = code(alloc, image)?;
+    let mut loaded = load(alloc, image, args)?;
     let stop = run(
-        &mut machine.hart,
-        &machine.code,
-        &mut machine.frame,
+        &mut loaded.hart,
+        &code,
+        &mut loaded.memory,
         recorder,
-        image.max_steps(),
+        loaded.turns_left,
     );
-    answer(alloc, image, stop, &machine.frame)
+    answer(alloc, image, stop, &loaded.memory)
 }

@@ -1,29 +1,17 @@
 // What a text is judged to be: what is refused first, and the program and parameters of an accepted text.
 
-ghost use Rattle.std.specs.Prelude.{◌≡◌, [], map, IfOk, IfErr};
-ghost use Rattle.std.specs.Option.{option_map};
+ghost use Rattle.std.specs.Prelude.{◌≡◌, map, IfOk, IfErr};
 ghost use Rattle.inline.specs.Numbering.{flattened, param_of};
-ghost use Rattle.language.specs.Meaning.{exported};
-ghost use Rattle.language.specs.Tree.{ProcedureTree, procedure_tree, program_tree};
+ghost use Rattle.language.specs.Tree.{ProcedureTree, program_tree};
 ghost use Rattle.hepurita.specs.Built.{IsSmall, Judges, JudgesProgram, IsRefusal, accepts};
 
 use coverage::first_uncompiled;
 use inline::{Flat, inline};
 use intervals::check_ranges;
 use labels::check;
-use language::{Param, Procedure, Program, Refusal, Rule};
+use language::{Param, Program, Refusal, Rule};
 use std::alloc::Global;
 use syntax::parse;
-
-/// The exported procedure, where there is one.
-fn exported_of<'p, 'a>(program: &'p Program<'a>) -> Option<&'p Procedure<'a>>
-    ensures { option_map (λ p. procedure_tree p.now) result ≡ option_map (λ found. found.1) (exported [] (program_tree program.now).procedures) }
-{
-    match program.exported() {
-        Some((_, export)) => Some(export),
-        None => None,
-    }
-}
 
 /// The export of a program that violates no rule on names, types and labels, as one body within the
 /// limits on size; or the first refusal. What is not compiled yet is asked first.
@@ -35,9 +23,7 @@ pub(crate) fn flat_of(alloc: Global, program: &Program<'_>) -> Result<Flat, Refu
         return Err(Refusal::at(Rule::NotCompiledYet, place));
     }
     let checked = check(alloc, program)?;
-    let Some(export) = exported_of(checked.program()) else {
-        unreachable!()
-    };
+    let (_, export) = checked.export();
     inline(alloc, export)
 }
 

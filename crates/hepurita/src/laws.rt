@@ -29,7 +29,6 @@ ghost use Rattle.hepurita.specs.Executed.{Executed};
 ghost use Rattle.hepurita.specs.Paired.{Paired};
 
 use arguments::faultless_arguments;
-use image::one_spelling;
 use syntax::one_answer_for_a_text;
 
 /// What the passes promise, put together. Where a text is a program that is accepted with an export, the image for
@@ -67,6 +66,5 @@ pub fn images_do_what_texts_mean()
         → Executed image one keeps list (Ok a) after → Executed image other keeps list (Ok b) after' → AgreeInPublic (params_of image) export.result a b }
 {
     one_answer_for_a_text();
-    one_spelling();
     faultless_arguments();
 }

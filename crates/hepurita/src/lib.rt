@@ -12,7 +12,7 @@ mod laws;
 mod loading;
 mod reading;
 
-pub use building::{accepted_or_refused, build, one_refusal};
+pub use building::{accepted_or_refused, build, each_text_is_judged, one_refusal};
 pub use comparing::pair;
 pub use executing::execute;
 pub use fault::RunFault;

@@ -1,21 +1,22 @@
-// An image and its arguments, loaded into a machine of their own.
+// Images and their arguments, loaded into a machine.
 
-ghost use Rattle.std.specs.Prelude.{◌≡◌, ◌+◌, ◌≤◌, ℕ, true, is_some, length, map, All, IfOk, IfErr};
+ghost use Rattle.std.specs.Prelude.{◌≡◌, ◌+◌, ◌^◌, ◌≤◌, length, map, All, IfOk};
+ghost use Rattle.arguments.specs.Within.{AreWithin, HasShape};
+ghost use Rattle.codegen.specs.Loaded.{params_of, with_argument, with_arguments, code_at, loaded_at, results_in};
 ghost use Rattle.image.specs.Fields.{IsImage};
-ghost use Rattle.arguments.specs.Within.{AreWithin};
-ghost use Rattle.rv_machine.specs.Bytes.{number_at};
-ghost use Rattle.rv_machine.specs.Flat.{flat_bytes};
+ghost use Rattle.image.specs.declared.limits.TheConstants.{MOST_PARAMETERS};
 ghost use Rattle.rv_machine.specs.Harts.{state_of};
+ghost use Rattle.rv_machine.specs.Bytes.{zeros};
+ghost use Rattle.rv_machine.specs.Paged.{paged_bytes};
 ghost use Rattle.rv_machine.specs.Regions.{code_of};
-ghost use Rattle.language.specs.Results.{Results};
 ghost use Rattle.hepurita.specs.Bases.{code_base, frame_base};
-ghost use Rattle.codegen.specs.Loaded.{params_of, with_argument, with_arguments, code_at, loaded_at, results_in, HoldsWord};
+ghost use Rattle.hepurita.specs.Frames.{HoldsSlot};
 
 use image::{Image, Slot};
 use language::{Arg, Args, Outcome, Param};
 use rv_machine::hart::Hart;
 use rv_machine::memory::{Memory, Size};
-use rv_machine::{CodeRegion, FlatMemory};
+use rv_machine::{AddressRange, CodeRegion, PagedMemory, Running};
 use std::alloc::{AllocError, Global};
 
 /// Where an image's code begins.
@@ -27,66 +28,74 @@ pub const FRAME_BASE: u32 = 0x1000_0000;
 /// The parameters of an image, in their order.
 pub fn params(alloc: Global, image: &Image) -> Result<Vec<Param>, AllocError>
     ensures params { IfOk result (λ params. params.items ≡ params_of image.now) }
-    ensures few { IfOk result (λ params. length params.items ≤ 8192) }
+    ensures few { IfOk result (λ params. length params.items ≤ MOST_PARAMETERS) }
+    ensures allowed { IsImage image.now }
 {
     image.slots().iter().map(|slot| slot.param).collect(alloc)
 }
 
-/// Puts an argument into its slot.
-fn put_argument<M: Memory>(memory: &mut M, slot: &Slot, arg: &Arg)
-    requires { HoldsWord frame_base (M.bytes memory.old) slot.now }
-    ensures { M.bytes memory.new ≡ with_argument frame_base (M.bytes memory.old) slot.now arg.now }
+/// Puts an argument into its slot of the frame that begins at this address.
+fn put_argument<M: Memory>(memory: &mut M, frame: u32, slot: &Slot, arg: &Arg)
+    requires shape { HasShape slot.now.param.form slot.now.param.length arg.now }
+    requires data { HoldsSlot frame (M.bytes memory.old) slot.now }
+    ensures { M.bytes memory.new ≡ with_argument frame (M.bytes memory.old) slot.now arg.now }
 {
     if let Arg::Word(word) = arg {
-        memory.store(FRAME_BASE + slot.offset, Size::Word, *word);
+        memory.store(frame + slot.offset, Size::Word, *word);
     }
 }
 
-/// Puts each argument into its parameter's slot.
-fn put_arguments<M: Memory>(memory: &mut M, slots: &[Slot], args: &[Arg])
+/// Puts each argument into its parameter's slot of the frame that begins at this address.
+pub fn put_arguments<M: Memory>(memory: &mut M, frame: u32, slots: &[Slot], args: &[Arg])
     requires count { length args.now ≡ length slots.now }
-    requires data { All (HoldsWord frame_base (M.bytes memory.old)) slots.now }
-    ensures { M.bytes memory.new ≡ with_arguments frame_base (M.bytes memory.old) slots.now args.now }
+    requires within { AreWithin (map (λ slot. slot.param) slots.now) args.now }
+    requires data { All (HoldsSlot frame (M.bytes memory.old)) slots.now }
+    ensures { M.bytes memory.new ≡ with_arguments frame (M.bytes memory.old) slots.now args.now }
 {
     for (index, slot) in slots.iter().enumerate() {
-        put_argument(memory, slot, &args[index]);
+        put_argument(memory, frame, slot, &args[index]);
     }
 }
 
-/// A hart at an image's first instruction, its code, and its frame.
-#[derive(Drop)]
-pub struct Machine {
-    pub hart: Hart,
-    pub code: CodeRegion,
-    pub frame: FlatMemory,
+/// An image's code at the standard base.
+pub fn code(alloc: Global, image: &Image) -> Result<CodeRegion, AllocError>
+    ensures { IfOk result (λ code. code_of code ≡ code_at code_base image.now) }
+{
+    CodeRegion::new(alloc, CODE_BASE, image.words())
 }
 
-/// An image loaded with arguments that are within its parameters' types.
-pub fn load(alloc: Global, image: &Image, args: &Args) -> Result<Machine, AllocError>
-    requires { AreWithin (params_of image.now) args.now }
-    ensures state { IfOk result (λ machine. state_of machine.hart (flat_bytes machine.frame) ≡ loaded_at code_base frame_base image.now args.now) }
-    ensures code { IfOk result (λ machine. code_of machine.code ≡ code_at code_base image.now) }
+/// An image's frame at the standard base: zeros, and no other data.
+fn frame(alloc: Global, image: &Image) -> Result<PagedMemory, AllocError>
+    ensures { IfOk result (λ frame. paged_bytes frame ≡ zeros frame_base image.now.frame_bytes) }
 {
-    let code = CodeRegion::new(alloc, CODE_BASE, image.words())?;
-    let mut frame = FlatMemory::new(alloc, FRAME_BASE, image.frame_bytes())?;
-    put_arguments(&mut frame, image.slots(), args.as_slice());
-    Ok(Machine {
+    let begin = u64::from(FRAME_BASE);
+    let end = begin + u64::from(image.frame_bytes());
+    PagedMemory::new(alloc, &[AddressRange { begin, end }])
+}
+
+/// A run of an image, at the standard bases, on arguments that are within its parameters' types. It has
+/// not begun yet.
+pub fn load(alloc: Global, image: &Image, args: &Args) -> Result<Running<PagedMemory>, AllocError>
+    requires { AreWithin (params_of image.now) args.now }
+    ensures state { IfOk result (λ run. state_of run.hart (paged_bytes run.memory) ≡ loaded_at code_base frame_base image.now args.now) }
+    ensures steps { IfOk result (λ run. run.turns_left ≡ image.now.max_steps) }
+{
+    let mut memory = frame(alloc, image)?;
+    put_arguments(&mut memory, FRAME_BASE, image.slots(), args.as_slice());
+    Ok(Running {
         hart: Hart::new(CODE_BASE, FRAME_BASE),
-        code,
-        frame,
+        memory,
+        turns_left: image.max_steps(),
     })
 }
 
-/// The outcome that the slots hold.
-pub fn outcome(alloc: Global, image: &Image, frame: &FlatMemory) -> Outcome
-    ensures { result ≡ results_in frame_base image.now (flat_bytes frame.now) }
+/// The outcome that the slots hold of the frame that begins at this address.
+pub fn outcome<M: Memory>(alloc: Global, image: &Image, memory: &M, frame: u32) -> Outcome
+    requires { frame + image.now.frame_bytes ≤ 2 ^ 32 }
+    ensures { result ≡ results_in frame image.now (M.bytes memory.now) }
 {
     let returned = match image.returned() {
-        Some(slot) => Some(
-            frame
-                .load(FRAME_BASE + slot.offset, Size::Word)
-                .unwrap_or(0),
-        ),
+        Some(slot) => Some(memory.load(frame + slot.offset, Size::Word).unwrap_or(0)),
         None => None,
     };
     Outcome::new(returned, Vec::new(alloc))

@@ -1,5 +1,6 @@
-mod SoonerLemmas
+pub mod SoonerLemmas
 mod TypeLemmas
 mod RuleLemmas
 mod ClashLemmas
 mod TreeLemmas
+pub mod ExportLemmas

@@ -1,6 +1,7 @@
 -- The first violation kept as they come is the first of all.
-use Rattle.std.proofs.Common.{◌≡◌, ◌≢◌, ◌<◌, ◌≤◌, ◌⊎◌, inr, ℕ, suc, zero, Bool, true, false, ◌==◌, ◌&&◌, ◌||◌, nat_lt, List, [], ◌∷◌, length, None, Some, cond, fold, Contains, refl, subst, arith}
+use Rattle.std.proofs.Common.{◌≡◌, ◌≢◌, ◌<◌, ◌≤◌, ◌⊎◌, inl, inr, ℕ, suc, zero, Bool, true, false, ◌==◌, ◌&&◌, ◌||◌, nat_lt, List, [], ◌∷◌, ◌++◌, length, Option, None, Some, cond, fold, Contains, refl, ap, sym, ◌∙◌, subst, arith}
 use Rattle.std.proofs.lemmas.Bool.Decides.{nat_tests}
+use Rattle.std.proofs.lemmas.List.Sums.{fold-append}
 use Rattle.std.proofs.lemmas.List.Elements.{All-cons, All-nil, All-head, All-tail, Contains-append_right}
 use Rattle.language.specs.declared.typing.Violation.{Violation}
 use Rattle.language.specs.Rules.{rank_of}
@@ -71,3 +72,15 @@ kept_some w (v ∷ vs) h = by (comes_before v w) h (kept_some v vs) (kept_some w
 pub found_none : (vs : List Violation) → fold sooner None vs ≡ None → length vs ≡ 0
 found_none [] h = refl
 found_none (v ∷ vs) h = absurd (kept_some v vs h)
+
+-- what is kept over two lists, one after the other
+pub kept_over : (a b : Option Violation) (us vs : List Violation) → a ≡ fold sooner None us → b ≡ fold sooner a vs → b ≡ fold sooner None (us ++ vs)
+kept_over a b us vs h k = k ∙ ap (λ (seen : Option Violation). fold sooner seen vs) h ∙ sym (fold-append sooner None us vs)
+
+-- violations have a first, where there is one
+pub first_of : (all : List Violation) → (length all ≡ 0) ⊎ ((v : Violation) × IsFirst all v)
+first_of all = by (fold sooner None all) refl
+  where
+    by : (found : Option Violation) → fold sooner None all ≡ found → (length all ≡ 0) ⊎ ((v : Violation) × IsFirst all v)
+    by None is = inl (found_none all is)
+    by (Some v) is = inr (v, found_first all v is)

@@ -1,2 +1,3 @@
 pub mod Sooner
 pub mod Written
+pub mod Exports

@@ -1,9 +1,11 @@
-ghost use Rattle.std.specs.Prelude.{◌≡◌, None, Some, [], fold, length, map, IsOk, IfOk, IfErr, OnOk};
+ghost use Rattle.std.specs.Prelude.{◌≡◌, ◌<◌, None, Some, [], fold, length, map, IsOk, IfOk, IfErr, OnOk};
 ghost use Rattle.word.specs.Places.{origin};
 ghost use Rattle.language.specs.declared.rule.Rule.TheVariants.{NotExactlyOneExport};
 ghost use Rattle.language.specs.FirstViolation.{IsRefusedFor};
+ghost use Rattle.language.specs.Signature.{exported};
 ghost use Rattle.language.specs.Tree.{procedure_tree, program_tree};
 ghost use Rattle.language.specs.Typing.{export_violations, exports, procedures_violations, violations};
+ghost use Rattle.labels.specs.Exports.{export_index};
 ghost use Rattle.labels.specs.Sooner.{sooner};
 
 use crate::first::First;
@@ -12,11 +14,15 @@ use language::{Place, Procedure, Program, Refusal, Rule, Violation};
 use names::Names;
 use std::alloc::{AllocError, Global};
 
-/// A program whose every node is well typed.
+/// A program that violates no rule on names, types and labels, so one of its procedures is exported.
 #[derive(Drop)]
 pub struct Checked<'p, 'a> {
     program: &'p Program<'a>,
+    /// How many procedures stand before the exported one.
+    export: usize,
     pub ghost well_typed: { length (violations (program_tree program.now)) ≡ 0 },
+    pub ghost inside: { export < length program.now.procedures.items },
+    pub ghost exported: { export_index (exported [] (program_tree program.now).procedures) ≡ Some export },
 }
 
 impl<'p, 'a> Checked<'p, 'a> {
@@ -27,20 +33,30 @@ impl<'p, 'a> Checked<'p, 'a> {
     {
         self.program
     }
+
+    /// The exported procedure, and those before it.
+    pub fn export(&self) -> (&'p [Procedure<'a>], &'p Procedure<'a>)
+        ensures { exported [] (program_tree self.now.program.now).procedures ≡ Some (map procedure_tree result.0.now, procedure_tree result.1.now) }
+    {
+        let procedures = self.program.procedures.as_slice();
+        (&procedures[..self.export], &procedures[self.export])
+    }
 }
 
-/// Notes that no procedure is exported, or which further ones are.
-fn note_exports(first: &mut First, procedures: &[Procedure<'_>])
-    ensures { first.new.seen ≡ fold sooner first.old.seen (export_violations (exports (map procedure_tree procedures.now))) }
+/// Notes that no procedure is exported, or which further ones are; and counts those before the first.
+fn note_exports(first: &mut First, procedures: &[Procedure<'_>]) -> Option<usize>
+    ensures first { first.new.seen ≡ fold sooner first.old.seen (export_violations (exports (map procedure_tree procedures.now))) }
+    ensures export { result ≡ export_index (exported [] (map procedure_tree procedures.now)) }
 {
-    let mut exported = false;
-    for procedure in procedures {
+    let mut export = None;
+    for (index, procedure) in procedures.iter().enumerate() {
         if let Some(place) = procedure.export {
-            first.note_if(exported, place, Rule::NotExactlyOneExport);
-            exported = true;
+            first.note_if(export.is_some(), place, Rule::NotExactlyOneExport);
+            export = export.or(Some(index));
         }
     }
-    first.note_if(!exported, Place::ORIGIN, Rule::NotExactlyOneExport);
+    first.note_if(export.is_none(), Place::ORIGIN, Rule::NotExactlyOneExport);
+    export
 }
 
 /// Notes what the procedures violate.
@@ -59,27 +75,23 @@ fn note_procedures(
     Ok(())
 }
 
-/// The first violation in a program, where there is one.
-fn first_violation(alloc: Global, program: &Program<'_>) -> Result<Option<Violation>, AllocError>
-    ensures first { IfOk result (λ first. first ≡ fold sooner None (violations (program_tree program.now))) }
-    ensures memory { program.now.procedures.items ≡ [] → IsOk result }
-{
-    let mut first = First { seen: None };
-    let procedures = program.procedures.as_slice();
-    note_exports(&mut first, procedures);
-    note_procedures(alloc, &mut first, procedures)?;
-    Ok(first.seen)
-}
-
 /// The program, where it is well typed; else its first violation. Memory is asked for the names of
 /// procedures and of what they declare, so not for an empty program.
 pub fn check<'p, 'a>(alloc: Global, program: &'p Program<'a>) -> Result<Checked<'p, 'a>, Refusal>
-    ensures accepted { IfOk result (λ checked. checked.program.now ≡ program.now) }
+    ensures program { IfOk result (λ checked. checked.program.now ≡ program.now) }
+    ensures well_typed { IfOk result (λ _. length (violations (program_tree program.now)) ≡ 0) }
     ensures empty { program.now.procedures.items ≡ [] → IfErr result (λ refusal. (refusal.rule ≡ NotExactlyOneExport) × (refusal.place ≡ Some origin)) }
     ensures refused { IfErr result (λ refusal. IsRefusedFor (violations (program_tree program.now)) refusal.rule refusal.place) }
 {
-    match first_violation(alloc, program)? {
-        None => Ok(Checked { program }),
-        Some(first) => Err(Refusal::at(first.rule, first.place)),
+    let mut first = First { seen: None };
+    let procedures = program.procedures.as_slice();
+    let export = note_exports(&mut first, procedures);
+    note_procedures(alloc, &mut first, procedures)?;
+    if let Some(violation) = first.seen {
+        return Err(Refusal::at(violation.rule, violation.place));
+    }
+    match export {
+        Some(export) => Ok(Checked { program, export }),
+        None => unreachable!(),
     }
 }

@@ -1,81 +1,114 @@
-// Short lists of observations. Their entries are counted by hand.
+// Two turns, and two runs in step, compared. Their entries are counted by hand.
 
+ghost use Rattle.std.specs.Prelude.{◌≡◌, ◌≤◌, length, IfOk};
+
+use rv_machine::hart::Hart;
 use rv_machine::laws::{entries_tell_observations_apart, one_first_difference};
-use rv_machine::{Event, Observation, Pairing, Size, first_difference};
+use rv_machine::{
+    CodeRegion, Event, FlatMemory, Observation, Pairing, Running, Size, compare, first_difference,
+};
+use std::alloc::{AllocError, Global};
 use std::test::Fail;
 
-const FIRST: Observation = Observation {
-    pc: 0x1_0000,
-    event: None,
-};
+const CODE: u32 = 0x0001_0000;
+
+const DATA: u32 = 0x1000_0000;
 
 const LOADS: Observation = Observation {
     pc: 0x1_0004,
     event: Some(Event::Load(0x1000_0000, Size::Word)),
 };
 
-const LAST: Observation = Observation {
-    pc: 0x1_0008,
-    event: None,
-};
-
-#[test]
-fn finds_equal_lists_the_same(rt: HostRuntime) {
-    assert_eq!(rt; first_difference(&[], &[]), Pairing::Same);
-    let list = [FIRST, LOADS, LAST];
-    assert_eq!(rt; first_difference(&list, &list), Pairing::Same);
-}
-
 #[test]
 fn finds_another_program_counter(rt: HostRuntime) {
-    assert_eq!(rt; first_difference(&[FIRST], &[LAST]), Pairing::Differ(0));
-    let one = [FIRST, LOADS, FIRST];
-    let other = [FIRST, LOADS, LAST];
-    assert_eq!(rt; first_difference(&one, &other), Pairing::Differ(3));
+    let elsewhere = Observation {
+        pc: 0x1_0008,
+        event: None,
+    };
+    assert_eq!(rt; first_difference(&LOADS, &LOADS), None);
+    assert_eq!(rt; first_difference(&LOADS, &elsewhere), Some(0));
 }
 
 #[test]
 fn finds_another_event(rt: HostRuntime) {
-    let divides = Observation {
-        pc: LOADS.pc,
-        event: Some(Event::Div(7, 2)),
-    };
-    let farther = Observation {
-        pc: LOADS.pc,
-        event: Some(Event::Load(0x1000_0004, Size::Word)),
-    };
-    let narrower = Observation {
-        pc: LOADS.pc,
-        event: Some(Event::Load(0x1000_0000, Size::Byte)),
-    };
-    for other in [divides, farther, narrower] {
-        assert_eq!(rt; first_difference(&[LOADS], &[other]), Pairing::Differ(1));
-        assert_eq!(rt;
-            first_difference(&[LOADS, LOADS], &[LOADS, other]),
-            Pairing::Differ(3)
-        );
+    let divides = Some(Event::Div(7, 2));
+    let farther = Some(Event::Load(0x1000_0004, Size::Word));
+    let narrower = Some(Event::Load(0x1000_0000, Size::Byte));
+    for event in [None, divides, farther, narrower] {
+        let other = Observation {
+            pc: LOADS.pc,
+            event,
+        };
+        assert_eq!(rt; first_difference(&LOADS, &other), Some(1));
+        assert_eq!(rt; first_difference(&other, &LOADS), Some(1));
     }
 }
 
-#[test]
-fn finds_an_event_against_none(rt: HostRuntime) {
-    let silent = Observation {
-        pc: LOADS.pc,
-        event: None,
-    };
-    assert_eq!(rt;
-        first_difference(&[LOADS, LAST], &[silent, LAST]),
-        Pairing::Differ(1)
-    );
-    assert_eq!(rt; first_difference(&[silent], &[LOADS]), Pairing::Differ(1));
+// A run from the code's base, with this number in x2 and four bytes of data.
+fn run_from(alloc: Global, x2: u32, budget: u64) -> Result<Running<FlatMemory>, AllocError>
+    ensures { IfOk result (λ run. run.turns_left ≡ budget) }
+{
+    Ok(Running {
+        hart: Hart::new(CODE, x2),
+        memory: FlatMemory::new(alloc, DATA, 4)?,
+        turns_left: budget,
+    })
 }
 
+// How the runs from these words compare that have these numbers in x2.
+fn pairing(
+    alloc: Global,
+    words: &[u32],
+    numbers: (u32, u32),
+    budget: u64,
+) -> Result<Pairing, AllocError>
+    requires few_words { length words.now ≤ 100 }
+    requires few_turns { budget ≤ 100 }
+{
+    let code = CodeRegion::new(alloc, CODE, words)?;
+    let mut one = run_from(alloc, numbers.0, budget)?;
+    let mut other = run_from(alloc, numbers.1, budget)?;
+    Ok(compare(alloc, &code, &mut one, &mut other))
+}
+
+// lw x5, 0(x2); ecall
 #[test]
-fn finds_the_end_of_the_shorter_list(rt: HostRuntime) {
-    let list = [FIRST, LOADS, LAST];
-    assert_eq!(rt; first_difference(&[], &list), Pairing::Differ(0));
-    assert_eq!(rt; first_difference(&list, &list[..1]), Pairing::Differ(1));
-    assert_eq!(rt; first_difference(&list[..2], &list), Pairing::Differ(3));
+fn compares_runs_that_load(rt: HostRuntime) -> Result<(), Fail> {
+    let words = [0x0001_2283, 0x0000_0073];
+    let same = pairing(rt.alloc(), &words, (DATA, DATA), 10)?;
+    assert_eq!(rt; same, Pairing::Same);
+    // one of them loads, the other stops there
+    let apart = pairing(rt.alloc(), &words, (DATA, 0), 10)?;
+    assert_eq!(rt; apart, Pairing::Differ(1));
+    // both stop there
+    let neither = pairing(rt.alloc(), &words, (0, 4), 10)?;
+    assert_eq!(rt; neither, Pairing::Same);
+    Ok(())
+}
+
+// addi x1, x0, 1; jalr x0, 0(x2); jal x0, 0
+#[test]
+fn compares_runs_of_which_one_ends(rt: HostRuntime) -> Result<(), Fail> {
+    let words = [0x0010_0093, 0x0001_0067, 0x0000_006f];
+    // the second one goes where no code is, and shows nothing more
+    let second = pairing(rt.alloc(), &words, (CODE + 8, 0), 10)?;
+    assert_eq!(rt; second, Pairing::Differ(2));
+    let first = pairing(rt.alloc(), &words, (0, CODE + 8), 10)?;
+    assert_eq!(rt; first, Pairing::Differ(2));
+    // the budget is used up before
+    let short = pairing(rt.alloc(), &words, (0, CODE + 8), 2)?;
+    assert_eq!(rt; short, Pairing::Same);
+    let none = pairing(rt.alloc(), &words, (0, CODE + 8), 0)?;
+    assert_eq!(rt; none, Pairing::Same);
+    Ok(())
+}
+
+// jal x0, 0
+#[test]
+fn compares_runs_that_use_up_their_budget(rt: HostRuntime) -> Result<(), Fail> {
+    let endless = pairing(rt.alloc(), &[0x0000_006f], (0, DATA), 100)?;
+    assert_eq!(rt; endless, Pairing::Same);
+    Ok(())
 }
 
 #[test]

@@ -2,8 +2,7 @@ ghost use Rattle.std.specs.Prelude.{◌≡◌, ◌<◌, ℕ, List, [], ◌∷◌
 ghost use Rattle.hepurita.specs.Built.{IsBuilt, IsRefusal, Judges};
 ghost use Rattle.hepurita.specs.Executed.{Executed};
 ghost use Rattle.hepurita.specs.Paired.{Paired};
-ghost use Rattle.image.specs.Reading.{IsUnlessMemory, reading};
-ghost use Rattle.image.specs.Spelling.{spelling};
+ghost use Rattle.image.specs.Reading.{IsUnlessMemory, Spells, reading};
 ghost use Rattle.image.specs.declared.fault.ImageFault.{ImageFault};
 ghost use Rattle.rv_machine.specs.ListRecording.{recorded};
 ghost use Rattle.rv_machine.specs.declared.observation.Observation.{Observation};
@@ -31,7 +30,7 @@ pub fn bytes_of(alloc: Global, text: &str) -> Result<Vec<u8>, Fault>
 
 /// The image that bytes spell.
 pub fn image_of(alloc: Global, bytes: &[u8]) -> Result<Image, Fault>
-    ensures found { IfOk result (λ image. bytes.now ≡ spelling image) }
+    ensures found { IfOk result (λ image. Spells bytes.now image) }
     ensures fault { IfErr result (λ given. (fault : ImageFault)
         × (given ≡ Fault.Read fault) × IsUnlessMemory (Err fault) (reading bytes.now)) }
 {

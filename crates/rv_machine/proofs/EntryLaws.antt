@@ -18,7 +18,8 @@ events_apart None (Some e) one other same = absurd (no_event_first e _ one (sym 
 events_apart (Some e) None one other same = absurd (no_event_first e _ other same)
 events_apart (Some d) (Some e) one other same = (cc, cc)
 
-same_turn : (o p : Observation) → o.pc ≡ p.pc → o.event ≡ p.event → o ≡ p
+-- two turns that show the same
+pub same_turn : (o p : Observation) → o.pc ≡ p.pc → o.event ≡ p.event → o ≡ p
 same_turn o p pcs events =
     let at : ℕ → Option Event → Observation = λ n e. record { pc = n; event = e } in
     ap (λ n. at n o.event) pcs ∙ ap (λ e. at p.pc e) events

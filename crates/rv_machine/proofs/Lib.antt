@@ -5,7 +5,9 @@ pub mod EntryLaws
 pub mod Fresh
 pub mod Pages
 pub mod Pairs
+pub mod PlanLaws
 pub mod RunLaws
+pub mod Shown
 pub mod SizedNumbers
 pub mod Stretch
 pub mod TotalLaws

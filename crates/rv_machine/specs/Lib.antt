@@ -9,6 +9,7 @@ pub mod ListRecording
 pub mod Machine
 pub mod Paged
 pub mod PairingText
+pub mod Plans
 pub mod Recording
 pub mod Regions
 pub mod Registers

@@ -40,6 +40,7 @@ pub enum Effect {
 }
 
 /// What an instruction at the hart's program counter does.
+#[inline(always)]
 pub fn effect_of(hart: &Hart, instr: Instr) -> Effect
     ensures { result ≡ effect_of instr (pc_of hart.now) (regs_of hart.now) }
 {

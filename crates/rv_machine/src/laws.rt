@@ -1,6 +1,6 @@
 // Laws of the machine, which hold of the definitions alone.
 
-ghost use Rattle.std.specs.Prelude.{◌≡◌, ◌≢◌, ◌↔◌, ℕ, ◌+◌, ◌%◌, ◌^◌, ◌≤◌, ◌⊎◌, Bool, true, false, List, ◌∷◌, [], ◌++◌, Some, is_some};
+ghost use Rattle.std.specs.Prelude.{◌≡◌, ◌≢◌, ◌↔◌, ℕ, ◌+◌, ◌%◌, ◌^◌, ◌≤◌, ◌⊎◌, Bool, true, false, List, ◌∷◌, [], ◌++◌, length, Some, is_some};
 ghost use Rattle.rv_code.specs.declared.instructions.Instr.{Instr};
 ghost use Rattle.rv_code.specs.declared.operations.UpperOperation.{UpperOperation};
 ghost use Rattle.rv_code.specs.declared.operations.BranchTest.{BranchTest};
@@ -31,9 +31,12 @@ pub fn one_turn()
     ensures { (code : Code) (s : State) (e f : Ending) → Turn code s e → Turn code s f → e ≡ f }
 {}
 
-/// Every state has a turn, and a run of at most so many turns that no recorder cuts short.
+/// Every state has a turn, and a run of at most so many turns that no recorder cuts short. A turn that stops is no
+/// recorder's refusal, and shows one observation at most.
 pub fn every_state_has_a_run()
     ensures turn { (code : Code) (s : State) → (ending : Ending) × Turn code s ending }
+    ensures stop { (code : Code) (s : State) (seen : List Observation) (stop : Stop)
+        → Turn code s (Ending.stops seen stop) → (stop ≢ Stop.RecorderRefused) × (length seen ≤ 1) }
     ensures run { (code : Code) (budget : ℕ) (s : State)
         → (seen : List Observation) × (stop : Stop) × (t : State) × Runs code budget s seen stop t × (stop ≢ Stop.RecorderRefused) }
 {}
@@ -44,6 +47,8 @@ pub fn runs_compose()
         → Leads code m s a t → Leads code n t b u → Leads code (m + n) s (a ++ b) u }
     ensures halts { (code : Code) (m n : ℕ) (s t u : State) (a b : List Observation) (stop : Stop)
         → Leads code m s a t → Halts code n t b stop u → Halts code (m + n) s (a ++ b) stop u }
+    ensures runs { (code : Code) (budget : ℕ) (s t u : State) (o : Observation) (seen : List Observation) (stop : Stop)
+        → Turn code s (Ending.goes_on o t) → Runs code budget t seen stop u → Runs code (budget + 1) s (o ∷ seen) stop u }
 {}
 
 /// The runs from one state agree.

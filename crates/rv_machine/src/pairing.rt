@@ -1,13 +1,21 @@
-// The first place at which what two runs showed differs.
+// Two runs in step, and the first place at which what they show differs.
 
-ghost use Rattle.std.specs.Prelude.{◌≡◌, ◌↔◌, ℕ, ◌∷◌, [], length, IsTrue};
-ghost use Rattle.rv_machine.specs.Entries.{entries_of, IsFirstDifference};
+ghost use Rattle.std.specs.Prelude.{◌≡◌, ◌↔◌, ℕ, ◌<◌, ◌^◌, List, ◌∷◌, [], None, length, IsTrue, IfSome};
+ghost use Rattle.rv_machine.specs.Entries.{entries_of, IsFirstDifference, Compares};
+ghost use Rattle.rv_machine.specs.Harts.{state_of};
+ghost use Rattle.rv_machine.specs.Leakage.{IsShown};
 ghost use Rattle.rv_machine.specs.PairingText.{pairing_text};
+ghost use Rattle.rv_machine.specs.Regions.{code_of};
+ghost use Rattle.rv_machine.specs.declared.observation.Observation.{Observation};
 
+use crate::code::CodeRegion;
+use crate::memory::Memory;
 use crate::observation::{Event, Observation};
+use crate::running::Running;
+use std::alloc::Global;
 use std::fmt;
 
-/// What two observers' lists are to each other.
+/// What the lists that an observer sees of two runs are to each other.
 #[derive(Clone, Copy, Debug, PartialEq, Eq)]
 pub enum Pairing {
     /// They have the same entries.
@@ -44,30 +52,49 @@ fn entry_count(seen: &Observation) -> u64
     if seen.event.is_some() { 2 } else { 1 }
 }
 
-/// Where two observers' lists differ first. Each observation has an entry for its program counter
-/// and, after it, one for its event where it has one.
-pub fn first_difference(mut one: &[Observation], mut other: &[Observation]) -> Pairing
-    ensures same { (result ≡ Pairing.Same) ↔ (entries_of one.now ≡ entries_of other.now) }
-    ensures differ { (place : ℕ) → (result ≡ Pairing.Differ place)
-        ↔ IsFirstDifference (entries_of one.now) (entries_of other.now) place }
+/// At which of their entries two observations differ first, `None` where they are equal. The entry
+/// for the program counter is 0, the one for the event 1.
+pub fn first_difference(one: &Observation, other: &Observation) -> Option<u64>
+    ensures equal { result ≡ None → one.now ≡ other.now }
+    ensures differ { IfSome result (λ entry. (ones others : List Observation)
+        → IsFirstDifference (entries_of (one.now ∷ ones)) (entries_of (other.now ∷ others)) entry) }
+    ensures early { IfSome result (λ entry. entry < 2) }
+{
+    if one.pc != other.pc {
+        Some(0)
+    } else if is_same_event(one.event, other.event) {
+        None
+    } else {
+        Some(1)
+    }
+}
+
+/// Makes turns of two runs of the same code, one of each after the other, and compares what they show.
+/// It answers at the first difference, or where both have ended. No list is kept.
+pub fn compare<M: Memory>(
+    alloc: Global,
+    code: &CodeRegion,
+    one: &mut Running<M>,
+    other: &mut Running<M>,
+) -> Pairing
+    requires { one.old.turns_left < 2 ^ 63 }
+    ensures { (seen seen' : List Observation)
+        × IsShown (code_of code.now) one.old.turns_left (state_of one.old.hart (M.bytes one.old.memory)) seen
+        × IsShown (code_of code.now) other.old.turns_left (state_of other.old.hart (M.bytes other.old.memory)) seen'
+        × Compares (entries_of seen) (entries_of seen') result }
 {
     let mut place = 0;
-    'turns: while let Some((a, ones)) = one.split_first() {
-        let Some((b, others)) = other.split_first() else {
+    'turns: while let Some(seen) = one.turn(alloc, code) {
+        let Some(seen_other) = other.turn(alloc, code) else {
             return Pairing::Differ(place);
         };
-        if a.pc != b.pc {
-            return Pairing::Differ(place);
+        if let Some(entry) = first_difference(&seen, &seen_other) {
+            return Pairing::Differ(place + entry);
         }
-        if !is_same_event(a.event, b.event) {
-            return Pairing::Differ(place + 1);
-        }
-        place += entry_count(a);
-        (one, other) = (ones, others);
+        place += entry_count(&seen);
     }
-    if other.is_empty() {
-        Pairing::Same
-    } else {
-        Pairing::Differ(place)
+    match other.turn(alloc, code) {
+        Some(_) => Pairing::Differ(place),
+        None => Pairing::Same,
     }
 }

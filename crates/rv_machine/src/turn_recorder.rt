@@ -1,6 +1,6 @@
 // The recorder of one turn.
 
-ghost use Rattle.std.specs.Prelude.{◌≡◌, []};
+ghost use Rattle.std.specs.Prelude.{◌≡◌, [], slice_get};
 ghost use Rattle.rv_machine.specs.ListRecording.{recorded, refused, has_room};
 ghost use Rattle.word.specs.Counts.{one_more};
 
@@ -51,6 +51,13 @@ impl TurnRecorder {
     {
         self.seen.as_slice()
     }
+
+    /// The first of what has been kept.
+    pub fn first(&self) -> Option<Observation>
+        ensures { result ≡ slice_get (recorded self.now) 0 }
+    {
+        self.seen.as_slice().first().copied()
+    }
 }
 
 impl Recorder for TurnRecorder {
@@ -67,6 +74,7 @@ impl Recorder for TurnRecorder {
 
     const KEEPS: bool = true;
 
+    #[inline(always)]
     fn note(&mut self, o: Observation) -> Result<(), AllocError> {
         match self.seen.push(o) {
             Ok(()) => Ok(()),

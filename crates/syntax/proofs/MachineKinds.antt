@@ -1,5 +1,12 @@
 -- What the machine's tables say of a token's kind.
-use Rattle.std.proofs.Common.{◌≡◌, ◌≤◌, ◌<◌, true, false, Option, Some, None, refl, subst, ap, ◌∙◌, arith}
+use Rattle.std.proofs.Common.{◌≡◌, ◌≤◌, ◌<◌, ◌↔◌, ◌&&◌, nat_eq, ℕ, Bool, true, false, List, [], ◌∷◌, find, Option, Some, None, refl, sym, subst, ap, ap₂, ◌∙◌, arith, eqb-true, eq-eqb}
+use Rattle.std.specs.Str.{bytes_eq}
+use Rattle.std.proofs.lemmas.Slice.Eq.{bytes_eq-Decides}
+use Rattle.syntax.specs.declared.token.Suffix.{Suffix}
+use Rattle.syntax.specs.declared.token.Suffix.TheVariants.{U8, U16, U32}
+use Rattle.syntax.specs.Spelling.{keyword_text, sign_text, suffix_text}
+use Rattle.syntax.proofs.TokenLaws.{keyword_unique, sign_unique}
+use Rattle.syntax.proofs.TokenRuns.{and_true}
 use Rattle.std.specs.Option.{option_map}
 use Rattle.syntax.specs.declared.parser.operator.Begins.{Begins}
 use Rattle.syntax.specs.declared.parser.operator.Begins.TheVariants.{Number as by_number, Truth as by_truth, Name as by_name, Bracket as by_bracket, Prefix as by_prefix, Conversion as by_conversion, Select as by_select}
@@ -7,8 +14,6 @@ use Rattle.syntax.specs.declared.parser.operator.Link.{Link}
 use Rattle.syntax.specs.declared.parser.operator.Link.TheVariants.{Operator as by_operator, Rotation as by_rotation}
 use Rattle.syntax.specs.declared.parser.statement.Start.{Start}
 use Rattle.syntax.specs.declared.parser.statement.Start.TheVariants.{Declaration as by_label, Target as by_target, Conditional as by_if, Loop as by_for}
-use Rattle.syntax.specs.declared.parser.wanted.Wanted.{Wanted}
-use Rattle.syntax.specs.declared.parser.wanted.Wanted.TheVariants as wanted
 use Rattle.language.specs.declared.signature.Kind.{Kind}
 use Rattle.language.specs.declared.signature.Label.{Label}
 use Rattle.syntax.specs.declared.token.TokenKind.{TokenKind}
@@ -19,72 +24,52 @@ use Rattle.language.specs.declared.tree.BinaryOperator.{BinaryOperator}
 use Rattle.language.specs.declared.tree.BinaryOperator.TheVariants as operator
 use Rattle.language.specs.declared.tree.PrefixOperator.{PrefixOperator}
 use Rattle.syntax.specs.Grammar.{prefix_of, operator_of, level_of, left_level_of, label_of, word_of, conversion_of}
-use Rattle.syntax.specs.private.Machine.{kind_of, fits, begins_of, link_of, link_level, starts_with}
+use Rattle.syntax.specs.private.Machine.{fits, begins_of, link_of, link_level, starts_with}
+use Rattle.syntax.specs.declared.token.Keyword.TheVariants as keyword
+use Rattle.syntax.specs.declared.token.Sign.TheVariants as sign
 
--- a token that fits is of the wanted kind
-pub kind-fits : (what : Wanted) (kind : TokenKind) → fits what kind ≡ true → kind ≡ kind_of what
-kind-fits wanted.Name token.Name e = refl
-kind-fits wanted.Name _ e = cc
-kind-fits wanted.Export (token.Keyword Export) e = refl
-kind-fits wanted.Export _ e = cc
-kind-fits wanted.Void (token.Keyword Void) e = refl
-kind-fits wanted.Void _ e = cc
-kind-fits wanted.Mut (token.Keyword Mut) e = refl
-kind-fits wanted.Mut _ e = cc
-kind-fits wanted.Uint32 (token.Keyword Uint32) e = refl
-kind-fits wanted.Uint32 _ e = cc
-kind-fits wanted.If (token.Keyword If) e = refl
-kind-fits wanted.If _ e = cc
-kind-fits wanted.Else (token.Keyword Else) e = refl
-kind-fits wanted.Else _ e = cc
-kind-fits wanted.From (token.Keyword From) e = refl
-kind-fits wanted.From _ e = cc
-kind-fits wanted.To (token.Keyword To) e = refl
-kind-fits wanted.To _ e = cc
-kind-fits wanted.Return (token.Keyword Return) e = refl
-kind-fits wanted.Return _ e = cc
-kind-fits wanted.OpenRound (token.Sign OpenRound) e = refl
-kind-fits wanted.OpenRound _ e = cc
-kind-fits wanted.CloseRound (token.Sign CloseRound) e = refl
-kind-fits wanted.CloseRound _ e = cc
-kind-fits wanted.OpenCurly (token.Sign OpenCurly) e = refl
-kind-fits wanted.OpenCurly _ e = cc
-kind-fits wanted.CloseCurly (token.Sign CloseCurly) e = refl
-kind-fits wanted.CloseCurly _ e = cc
-kind-fits wanted.OpenSquare (token.Sign OpenSquare) e = refl
-kind-fits wanted.OpenSquare _ e = cc
-kind-fits wanted.CloseSquare (token.Sign CloseSquare) e = refl
-kind-fits wanted.CloseSquare _ e = cc
-kind-fits wanted.Comma (token.Sign Comma) e = refl
-kind-fits wanted.Comma _ e = cc
-kind-fits wanted.Semicolon (token.Sign Semicolon) e = refl
-kind-fits wanted.Semicolon _ e = cc
-kind-fits wanted.Assign (token.Sign Assign) e = refl
-kind-fits wanted.Assign _ e = cc
+-- ---- two kinds fit exactly where they are one
 
-fits-kind_of : (what : Wanted) → fits what (kind_of what) ≡ true
-fits-kind_of wanted.Name = refl
-fits-kind_of wanted.Export = refl
-fits-kind_of wanted.Void = refl
-fits-kind_of wanted.Mut = refl
-fits-kind_of wanted.Uint32 = refl
-fits-kind_of wanted.If = refl
-fits-kind_of wanted.Else = refl
-fits-kind_of wanted.From = refl
-fits-kind_of wanted.To = refl
-fits-kind_of wanted.Return = refl
-fits-kind_of wanted.OpenRound = refl
-fits-kind_of wanted.CloseRound = refl
-fits-kind_of wanted.OpenCurly = refl
-fits-kind_of wanted.CloseCurly = refl
-fits-kind_of wanted.OpenSquare = refl
-fits-kind_of wanted.CloseSquare = refl
-fits-kind_of wanted.Comma = refl
-fits-kind_of wanted.Semicolon = refl
-fits-kind_of wanted.Assign = refl
+abbrev suffix_named : List ℕ → Option (Option Suffix)
+suffix_named text = find (λ suffix. bytes_eq text (suffix_text suffix)) (None ∷ Some U8 ∷ Some U16 ∷ Some U32 ∷ [])
 
-pub fits-kind : (what : Wanted) (kind : TokenKind) → kind ≡ kind_of what → fits what kind ≡ true
-fits-kind what kind e = ap (fits what) e ∙ fits-kind_of what
+suffix_found : (suffix : Option Suffix) → suffix_named (suffix_text suffix) ≡ Some suffix
+suffix_found None = refl
+suffix_found (Some U8) = refl
+suffix_found (Some U16) = refl
+suffix_found (Some U32) = refl
+
+suffix_unique : (a b : Option Suffix) → suffix_text a ≡ suffix_text b → a ≡ b
+suffix_unique a b e =
+    let same : Some a ≡ Some b = sym (suffix_found a) ∙ ap suffix_named e ∙ suffix_found b in
+    cc
+
+pub kind-fits : (what kind : TokenKind) → fits what kind ≡ true → kind ≡ what
+kind-fits token.Name token.Name e = refl
+kind-fits (token.Keyword a) (token.Keyword b) e = ap token.Keyword (sym (keyword_unique a b ((bytes_eq-Decides (keyword_text a) (keyword_text b)).0 e)))
+kind-fits (token.Sign a) (token.Sign b) e = ap token.Sign (sym (sign_unique a b ((bytes_eq-Decides (sign_text a) (sign_text b)).0 e)))
+kind-fits (token.Number m a) (token.Number n b) e =
+    let both = and_true (nat_eq m n) (bytes_eq (suffix_text a) (suffix_text b)) e in
+    sym (ap₂ token.Number (eqb-true m n both.0) (suffix_unique a b ((bytes_eq-Decides (suffix_text a) (suffix_text b)).0 both.1)))
+kind-fits _ _ e = cc
+
+fits-itself : (kind : TokenKind) → fits kind kind ≡ true
+fits-itself token.Name = refl
+fits-itself (token.Keyword a) = (bytes_eq-Decides (keyword_text a) (keyword_text a)).1 refl
+fits-itself (token.Sign a) = (bytes_eq-Decides (sign_text a) (sign_text a)).1 refl
+fits-itself (token.Number n a) = ap₂ (λ x y. x && y) (eq-eqb n n refl) ((bytes_eq-Decides (suffix_text a) (suffix_text a)).1 refl)
+
+pub fits-kind : (what kind : TokenKind) → kind ≡ what → fits what kind ≡ true
+fits-kind what kind e = ap (fits what) e ∙ fits-itself what
+
+-- what `==` answers
+pub fits-equal : (what kind : TokenKind) (b : Bool) → (b ≡ true) ↔ (what ≡ kind) → b ≡ fits what kind
+fits-equal what kind true h = sym (fits-kind what kind (sym (h.0 refl)))
+fits-equal what kind false h = by (fits what kind) refl
+  where
+    by : (b : Bool) → fits what kind ≡ b → false ≡ b
+    by false e = refl
+    by true e = h.1 (sym (kind-fits what kind e))
 
 -- what holds of a value that is there
 abbrev pub Holds : {A : Type 0} → (A → Type 0) → Option A → Type 0
@@ -219,7 +204,7 @@ left_levels operator.Remainder = (omega arith, omega arith)
 
 -- no opening bracket, such as stands after a name
 abbrev pub Bars : TokenKind → Type 0
-Bars kind = (fits wanted.OpenSquare kind ≡ false) × (fits wanted.OpenRound kind ≡ false)
+Bars kind = (fits (token.Sign sign.OpenSquare) kind ≡ false) × (fits (token.Sign sign.OpenRound) kind ≡ false)
 
 pub operator-bars : (kind : TokenKind) (o : BinaryOperator) → operator_of kind ≡ Some o → Bars kind
 operator-bars (token.Sign OpenSquare) o e = cc
@@ -230,7 +215,7 @@ operator-bars token.Name o e = cc
 operator-bars (token.Number _ _) o e = cc
 
 -- what a keyword of a type is not
-pub label-no : (kind : TokenKind) (label : Label) → label_of kind ≡ Some label → (fits wanted.Else kind ≡ false) × (fits wanted.CloseRound kind ≡ false) × (fits wanted.Void kind ≡ false) × (fits wanted.Export kind ≡ false)
+pub label-no : (kind : TokenKind) (label : Label) → label_of kind ≡ Some label → (fits (token.Keyword keyword.Else) kind ≡ false) × (fits (token.Sign sign.CloseRound) kind ≡ false) × (fits (token.Keyword keyword.Void) kind ≡ false) × (fits (token.Keyword keyword.Export) kind ≡ false)
 label-no (token.Keyword Public) label e = (refl, refl, refl, refl)
 label-no (token.Keyword Secret) label e = (refl, refl, refl, refl)
 label-no (token.Keyword _) label e = cc
@@ -238,7 +223,7 @@ label-no (token.Sign _) label e = cc
 label-no token.Name label e = cc
 label-no (token.Number _ _) label e = cc
 
-pub word-no-mut : (which : TokenKind) (kind : Kind) → word_of which ≡ Some kind → fits wanted.Mut which ≡ false
+pub word-no-mut : (which : TokenKind) (kind : Kind) → word_of which ≡ Some kind → fits (token.Keyword keyword.Mut) which ≡ false
 word-no-mut (token.Keyword Mut) kind e = cc
 word-no-mut (token.Keyword _) kind e = refl
 word-no-mut (token.Sign _) kind e = cc

@@ -27,11 +27,11 @@ use Rattle.syntax.specs.declared.parser.operator.Link.{Link}
 use Rattle.syntax.specs.declared.parser.operator.Link.TheVariants.{Operator as by_operator, Rotation as by_rotation}
 use Rattle.syntax.specs.declared.parser.statement.Start.{Start}
 use Rattle.syntax.specs.declared.parser.statement.Start.TheVariants.{Declaration as by_label, Target as by_target, Conditional as by_if, Loop as by_for}
-use Rattle.syntax.specs.declared.parser.wanted.Wanted.{Wanted}
-use Rattle.syntax.specs.declared.parser.wanted.Wanted.TheVariants as wanted
-use Rattle.syntax.specs.private.Machine.{State, procedures, one, either, a_label, a_kind, a_length, an_amount, more_parameters, expr, more, more_exprs, statements, otherwise, kind_of, fits, begins_of, link_of, link_level, link_left_level, starts_with, some_exprs, call_of, named, operand, linked, right_from, right, right_end, first_values, declared_array, declared_word, declared_as, declared, targeted, block, conditioned, after_else, statement, labelled, parameter, parameters, returned, procedure_from, result_type, procedure, program, started, within, joined, step_result, step, at_end, run}
+use Rattle.syntax.specs.private.Machine.{State, procedures, one, either, a_label, a_kind, a_length, an_amount, more_parameters, expr, more, more_exprs, statements, otherwise, fits, begins_of, link_of, link_level, link_left_level, starts_with, some_exprs, call_of, named, operand, linked, right_from, right, right_end, first_values, declared_array, declared_word, declared_as, declared, targeted, block, conditioned, after_else, statement, labelled, parameter, parameters, returned, procedure_from, result_type, procedure, program, started, within, joined, step_result, step, at_end, run}
 use Rattle.syntax.proofs.MachineKinds.{kind-fits, begins-by, links-by, starts-by}
 use Rattle.syntax.proofs.MachineMeaning.{Grows, Finishes}
+use Rattle.syntax.specs.declared.token.Keyword.TheVariants as keyword
+use Rattle.syntax.specs.declared.token.Sign.TheVariants as sign
 
 if_some : {A : Type 0} (b : Bool) (x y : A) → (if b then Some x else None) ≡ Some y → (b ≡ true) × (x ≡ y)
 if_some true x y e = (refl, cc)
@@ -75,13 +75,13 @@ operand-finishes by_select t is k ts p (opening, ts', cut, opens, (a, r, in_a, (
     (tree.select t.place a b c, u', λ level. rw cut (a_select level t opening comma comma' closing ts' r' s' u' a b c (begins-by t.kind by_select is) opens (subst (λ x. ExprAt 1 ts' a x) cut' in_a) is_comma (subst (λ x. ExprAt 1 r' b x) cut'' in_b) is_comma' (subst (λ x. ExprAt 1 s' c x) cut''' in_c) closes), done)
 
 -- expressions and the token that ends them
-some-finishes : (end : Wanted) (k : List ExprTree → State) (ts : List Lexeme) (p : ProgramTree) → Finishes (some_exprs end k) ts p → (es : List ExprTree) × (rest : List Lexeme) × SomeExprs (kind_of end) ts es rest × Finishes (k es) rest p
+some-finishes : (end : TokenKind) (k : List ExprTree → State) (ts : List Lexeme) (p : ProgramTree) → Finishes (some_exprs end k) ts p → (es : List ExprTree) × (rest : List Lexeme) × SomeExprs end ts es rest × Finishes (k es) rest p
 some-finishes end k ts p (e, r, in_e, (es, rest, in_more, done)) = (e ∷ es, rest, some_exprs_rule ts r rest e es in_e in_more, done)
 
 -- a call, read after its opening bracket
-call-finishes : (t opening : Lexeme) → t.kind ≡ token.Name → opening.kind ≡ kind_of wanted.OpenRound → (k : CallTree → State) (ts : List Lexeme) (p : ProgramTree) → Finishes (call_of t k) ts p → (c : CallTree) × (rest : List Lexeme) × Call (t ∷ opening ∷ ts) c rest × Finishes (k c) rest p
+call-finishes : (t opening : Lexeme) → t.kind ≡ token.Name → opening.kind ≡ (token.Sign sign.OpenRound) → (k : CallTree → State) (ts : List Lexeme) (p : ProgramTree) → Finishes (call_of t k) ts p → (c : CallTree) × (rest : List Lexeme) × Call (t ∷ opening ∷ ts) c rest × Finishes (k c) rest p
 call-finishes t opening is opens k ts p (inl h) =
-    let w = some-finishes wanted.CloseRound (λ es. k (record { place = t.place; name = t.text; arguments = es })) ts p h in
+    let w = some-finishes (token.Sign sign.CloseRound) (λ es. k (record { place = t.place; name = t.text; arguments = es })) ts p h in
     (record { place = t.place; name = t.text; arguments = w.0 }, w.1, a_call t opening ts w.1 w.0 is opens (some_arguments ts w.1 w.0 w.2), w.3)
 call-finishes t opening is opens k ts p (inr (closing, rest, cut, closes, done)) =
     (record { place = t.place; name = t.text; arguments = [] }, rest, rw cut (a_call t opening (closing ∷ rest) rest [] is opens (no_arguments closing rest closes)), done)
@@ -101,15 +101,15 @@ right-finishes k ts p (inr (t, r, cut, is, h)) =
     (w.0, w.1, rw cut w.2, w.3)
 
 -- a right side and the semicolon
-right-end-finishes : (k : RightTree → State) (ts : List Lexeme) (p : ProgramTree) → Finishes (right_end k) ts p → (r : RightTree) × (semicolon : Lexeme) × (rest : List Lexeme) × RightSide ts r (semicolon ∷ rest) × (semicolon.kind ≡ kind_of wanted.Semicolon) × Finishes (k r) rest p
+right-end-finishes : (k : RightTree → State) (ts : List Lexeme) (p : ProgramTree) → Finishes (right_end k) ts p → (r : RightTree) × (semicolon : Lexeme) × (rest : List Lexeme) × RightSide ts r (semicolon ∷ rest) × (semicolon.kind ≡ (token.Sign sign.Semicolon)) × Finishes (k r) rest p
 right-end-finishes k ts p h =
-    let w = right-finishes (λ r. one wanted.Semicolon (λ _. k r)) ts p h in
+    let w = right-finishes (λ r. one (token.Sign sign.Semicolon) (λ _. k r)) ts p h in
     (w.0, w.3.0, w.3.1, subst (λ x. RightSide ts w.0 x) w.3.2 w.2, w.3.3, w.3.4)
 
 first-values-finishes : (k : Option (List ExprTree) → State) (ts : List Lexeme) (p : ProgramTree) → Finishes (first_values k) ts p → (vs : Option (List ExprTree)) × (rest : List Lexeme) × FirstValues ts vs rest × Finishes (k vs) rest p
 first-values-finishes k ts p (inl done) = (None, ts, no_values ts, done)
 first-values-finishes k ts p (inr (equals, r, cut, is, (opening, r', cut', opens, h))) =
-    let w = some-finishes wanted.CloseCurly (λ es. k (Some es)) r' p h in
+    let w = some-finishes (token.Sign sign.CloseCurly) (λ es. k (Some es)) r' p h in
     (Some w.0, w.1, rw cut (rw cut' (some_values equals opening r' w.1 w.0 is opens w.2)), w.3)
 
 -- a declaration, read after its type
@@ -122,9 +122,9 @@ declared-word-finishes start second label kind is is_kind mutable list ts is_mut
       w.5,
     )
 
-declared-array-finishes : (start second opening number closing : Lexeme) (label : Label) (kind : Kind) (n : ℕ) → label_of start.kind ≡ Some label → word_of second.kind ≡ Some kind → opening.kind ≡ kind_of wanted.OpenSquare → length_of number.kind ≡ Some n → closing.kind ≡ kind_of wanted.CloseSquare → (mutable : Bool) (list ts : List Lexeme) → Mutable list mutable (second ∷ opening ∷ number ∷ closing ∷ ts) → (k : StatementTree → State) (p : ProgramTree) → Finishes (declared_array label mutable kind n k) ts p → (s : StatementTree) × (rest : List Lexeme) × Statement (start ∷ list) s rest × Finishes (k s) rest p
+declared-array-finishes : (start second opening number closing : Lexeme) (label : Label) (kind : Kind) (n : ℕ) → label_of start.kind ≡ Some label → word_of second.kind ≡ Some kind → opening.kind ≡ (token.Sign sign.OpenSquare) → length_of number.kind ≡ Some n → closing.kind ≡ (token.Sign sign.CloseSquare) → (mutable : Bool) (list ts : List Lexeme) → Mutable list mutable (second ∷ opening ∷ number ∷ closing ∷ ts) → (k : StatementTree → State) (p : ProgramTree) → Finishes (declared_array label mutable kind n k) ts p → (s : StatementTree) × (rest : List Lexeme) × Statement (start ∷ list) s rest × Finishes (k s) rest p
 declared-array-finishes start second opening number closing label kind n is is_kind opens is_length closes mutable list ts is_mutable k p (t, r, cut, is_name, h) =
-    let w = first-values-finishes (λ vs. one wanted.Semicolon (λ _. k (tree.array t.place label mutable kind n t.text vs))) r p h in (
+    let w = first-values-finishes (λ vs. one (token.Sign sign.Semicolon) (λ _. k (tree.array t.place label mutable kind n t.text vs))) r p h in (
       tree.array t.place label mutable kind n t.text w.0,
       w.3.1,
       an_array start t w.3.0 list (second ∷ opening ∷ number ∷ closing ∷ ts) r w.3.1 label mutable kind n w.0 is is_mutable (rw cut (an_array_type second opening number closing (t ∷ r) kind n is_kind opens is_length closes)) is_name (subst (λ x. FirstValues r w.0 x) w.3.2 w.2) w.3.3,
@@ -156,7 +156,7 @@ targeted-finishes t is k ts p (inl (inr (opening, r, cut, opens, (i, r₁, in_i,
       w.5,
     )
 targeted-finishes t is k ts p (inl (inl (opening, r, cut, opens, h))) =
-    let w = call-finishes t opening is opens (λ c. one wanted.Semicolon (λ _. k (tree.call c))) r p h in
+    let w = call-finishes t opening is opens (λ c. one (token.Sign sign.Semicolon) (λ _. k (tree.call c))) r p h in
     (tree.call w.0, w.3.1, rw cut (a_call_statement w.3.0 (t ∷ opening ∷ r) w.3.1 w.0 (subst (λ x. Call (t ∷ opening ∷ r) w.0 x) w.3.2 w.2) w.3.3), w.3.4)
 
 block-finishes : (k : BlockTree → State) (ts : List Lexeme) (p : ProgramTree) → Finishes (block k) ts p → (b : BlockTree) × (rest : List Lexeme) × Block ts b rest × Finishes (k b) rest p
@@ -242,7 +242,7 @@ result-finishes k ts p (inr (t, rest, cut, is, done)) = (None, rest, rw cut (a_v
 procedure-from-finishes : (export : Option Place) (result : Option WordType) (list signature ts : List Lexeme) → Exported list export signature → ResultType signature result ts → (k : ProcedureTree → State) (p : ProgramTree) → Finishes (procedure_from export result k) ts p → (q : ProcedureTree) × (rest : List Lexeme) × Procedure list q rest × Finishes (k q) rest p
 procedure-from-finishes export result list signature ts is_export is_result k p (t, r₁, cut₁, is_name, (opening, r₂, cut₂, opens, h)) =
     let made = λ (ps : List ParameterTree) (b : BlockTree) (r : Option ReturnTree). k (record { export = export; result = result; place = t.place; name = t.text; parameters = ps; body = b; returned = r }) in
-    let ps = parameters-finishes (λ ps. one wanted.OpenCurly (λ _. statements (λ b. returned (made ps b)))) r₂ p h in
+    let ps = parameters-finishes (λ ps. one (token.Sign sign.OpenCurly) (λ _. statements (λ b. returned (made ps b)))) r₂ p h in
     let bs = ps.3.4 in
     let r = returned-finishes (made ps.0 bs.0) bs.1 p bs.3 in (
       record { export = export; result = result; place = t.place; name = t.text; parameters = ps.0; body = bs.0; returned = r.0 },
@@ -259,8 +259,8 @@ if_or false x o y e = inr e
 result-step : (k : Option WordType → State) (t : Lexeme) (next : State) → step_result t.kind k ≡ Some next → (ts : List Lexeme) (p : ProgramTree) → Finishes next ts p → Finishes (result_type k) (t ∷ ts) p
 result-step k t next e ts p h =
     let f = λ (label : Label). a_kind (λ kind. k (Some (record { kind = kind; label = label }))) in
-    elim (if_or (fits wanted.Void t.kind) (k None) (option_map f (label_of t.kind)) next e) [
-      | inl w ↦ inr (t, ts, refl, kind-fits wanted.Void t.kind w.0, subst (λ s. Finishes s ts p) (sym w.1) h)
+    elim (if_or (fits (token.Keyword keyword.Void) t.kind) (k None) (option_map f (label_of t.kind)) next e) [
+      | inl w ↦ inr (t, ts, refl, kind-fits (token.Keyword keyword.Void) t.kind w.0, subst (λ s. Finishes s ts p) (sym w.1) h)
       | inr w ↦ let v = map_some f (label_of t.kind) next w in inl (t, ts, v.0, refl, v.1, subst (λ s. Finishes s ts p) (sym v.2) h)
     ]
 
@@ -268,10 +268,10 @@ result-step k t next e ts p h =
 procedure-step : (k : ProcedureTree → State) (t : Lexeme) (next : State) → step (procedure k) t ≡ Some next → (ts : List Lexeme) (p : ProgramTree) → Finishes next ts p → (q : ProcedureTree) × (rest : List Lexeme) × Procedure (t ∷ ts) q rest × Finishes (k q) rest p
 procedure-step k t next e ts p h =
     let k' = λ (export : Option Place) (result : Option WordType). procedure_from export result k in
-    elim (if_or (fits wanted.Export t.kind) (result_type (k' (Some t.place))) (step_result t.kind (k' None)) next e) [
+    elim (if_or (fits (token.Keyword keyword.Export) t.kind) (result_type (k' (Some t.place))) (step_result t.kind (k' None)) next e) [
       | inl w ↦
           let r = result-finishes (k' (Some t.place)) ts p (subst (λ s. Finishes s ts p) (sym w.1) h) in
-          procedure-from-finishes (Some t.place) r.0 (t ∷ ts) ts r.1 (an_export t ts (kind-fits wanted.Export t.kind w.0)) r.2 k p r.3
+          procedure-from-finishes (Some t.place) r.0 (t ∷ ts) ts r.1 (an_export t ts (kind-fits (token.Keyword keyword.Export) t.kind w.0)) r.2 k p r.3
       | inr w ↦
           let r = result-finishes (k' None) (t ∷ ts) p (result-step (k' None) t next w ts p h) in
           procedure-from-finishes None r.0 (t ∷ ts) (t ∷ ts) r.1 (not_exported (t ∷ ts)) r.2 k p r.3
@@ -336,13 +336,13 @@ step-finishes (a_kind k) t next e ts p h = let w = map_some k (word_of t.kind) n
 step-finishes (a_length k) t next e ts p h = let w = map_some k (length_of t.kind) next e in (t, ts, w.0, refl, w.1, subst (λ s. Finishes s ts p) (sym w.2) h)
 step-finishes (an_amount k) t next e ts p h = let w = map_some k (amount_of t.kind) next e in (t, ts, w.0, refl, w.1, subst (λ s. Finishes s ts p) (sym w.2) h)
 step-finishes (more_parameters ps k) t next e ts p h =
-    elim (if_or (fits wanted.Comma t.kind) (parameter (λ q. more_parameters (ps ++ q ∷ []) k)) (if fits wanted.CloseRound t.kind then Some (k ps) else None) next e) [
+    elim (if_or (fits (token.Sign sign.Comma) t.kind) (parameter (λ q. more_parameters (ps ++ q ∷ []) k)) (if fits (token.Sign sign.CloseRound) t.kind then Some (k ps) else None) next e) [
       | inl w ↦
           let u = parameter-finishes (λ q. more_parameters (ps ++ q ∷ []) k) ts p (subst (λ s. Finishes s ts p) (sym w.1) h) in
-          (u.0 ∷ u.3.0, u.3.1, one_more_parameter t ts u.1 u.3.1 u.0 u.3.0 (kind-fits wanted.Comma t.kind w.0) u.2 u.3.2, subst (λ qs. Finishes (k qs) u.3.1 p) (append_assoc ps (u.0 ∷ []) u.3.0) u.3.3)
+          (u.0 ∷ u.3.0, u.3.1, one_more_parameter t ts u.1 u.3.1 u.0 u.3.0 (kind-fits (token.Sign sign.Comma) t.kind w.0) u.2 u.3.2, subst (λ qs. Finishes (k qs) u.3.1 p) (append_assoc ps (u.0 ∷ []) u.3.0) u.3.3)
       | inr w ↦
-          let v = if_some (fits wanted.CloseRound t.kind) (k ps) next w in
-          ([], ts, no_more_parameters t ts (kind-fits wanted.CloseRound t.kind v.0), rw append-nil (subst (λ s. Finishes s ts p) (sym v.1) h))
+          let v = if_some (fits (token.Sign sign.CloseRound) t.kind) (k ps) next w in
+          ([], ts, no_more_parameters t ts (kind-fits (token.Sign sign.CloseRound) t.kind v.0), rw append-nil (subst (λ s. Finishes s ts p) (sym v.1) h))
     ]
 step-finishes (expr level k) t next e ts p h =
     let f = λ (b : Begins). operand b t (λ x. more level 11 x k) in
@@ -357,10 +357,10 @@ step-finishes (more level top left k) t next e ts p h =
       | inr w ↦ (left, t ∷ ts, λ start above here. here, step-finishes (k left) t next w ts p h)
     ]
 step-finishes (more_exprs end es k) t next e ts p h =
-    elim (if_or (fits wanted.Comma t.kind) (expr 1 (λ x. more_exprs end (es ++ x ∷ []) k)) (if fits end t.kind then Some (k es) else None) next e) [
+    elim (if_or (fits (token.Sign sign.Comma) t.kind) (expr 1 (λ x. more_exprs end (es ++ x ∷ []) k)) (if fits end t.kind then Some (k es) else None) next e) [
       | inl w ↦
           let d = subst (λ s. Finishes s ts p) (sym w.1) h in
-          (d.0 ∷ d.3.0, d.3.1, one_more t ts d.1 d.3.1 d.0 d.3.0 (kind-fits wanted.Comma t.kind w.0) d.2 d.3.2, subst (λ xs. Finishes (k xs) d.3.1 p) (append_assoc es (d.0 ∷ []) d.3.0) d.3.3)
+          (d.0 ∷ d.3.0, d.3.1, one_more t ts d.1 d.3.1 d.0 d.3.0 (kind-fits (token.Sign sign.Comma) t.kind w.0) d.2 d.3.2, subst (λ xs. Finishes (k xs) d.3.1 p) (append_assoc es (d.0 ∷ []) d.3.0) d.3.3)
       | inr w ↦
           let v = if_some (fits end t.kind) (k es) next w in
           ([], ts, no_more t ts (kind-fits end t.kind v.0), rw append-nil (subst (λ s. Finishes s ts p) (sym v.1) h))
@@ -374,8 +374,8 @@ step-finishes (statements k) t next e ts p h =
       | inr w ↦ (nothing, t ∷ ts, no_statement (t ∷ ts), step-finishes (k nothing) t next w ts p h)
     ]
 step-finishes (otherwise k) t next e ts p h =
-    elim (if_or (fits wanted.Else t.kind) (after_else k) (step (k nothing) t) next e) [
-      | inl w ↦ after-else-finishes t (kind-fits wanted.Else t.kind w.0) k ts p (subst (λ s. Finishes s ts p) (sym w.1) h)
+    elim (if_or (fits (token.Keyword keyword.Else) t.kind) (after_else k) (step (k nothing) t) next e) [
+      | inl w ↦ after-else-finishes t (kind-fits (token.Keyword keyword.Else) t.kind w.0) k ts p (subst (λ s. Finishes s ts p) (sym w.1) h)
       | inr w ↦ (nothing, t ∷ ts, no_else (t ∷ ts), step-finishes (k nothing) t next w ts p h)
     ]
 
@@ -394,9 +394,9 @@ made-kind kind = refl
 pub finish : (s : State) → (ts : List Lexeme) × (p : ProgramTree) × Finishes s ts p
 finish (procedures ps) = ([], record { procedures = ps ++ [] }, ([], no_procedure, refl))
 finish (one what k) =
-    let t = made (kind_of what) in
+    let t = made what in
     let f = finish (k t) in
-    (t ∷ f.0, f.1, (t, f.0, refl, made-kind (kind_of what), f.2))
+    (t ∷ f.0, f.1, (t, f.0, refl, made-kind what, f.2))
 finish (either what next other) = let f = finish other in (f.0, f.1, inl f.2)
 finish (a_label k) =
     let f = finish (k PublicLabel) in
@@ -427,8 +427,8 @@ finish (more level top left k) =
     (f.0, f.1, (left, f.0, λ start above here. here, f.2))
 finish (more_exprs end es k) =
     let f = finish (k (es ++ [])) in
-    let t = made (kind_of end) in
-    (t ∷ f.0, f.1, ([], f.0, no_more t f.0 (made-kind (kind_of end)), f.2))
+    let t = made end in
+    (t ∷ f.0, f.1, ([], f.0, no_more t f.0 (made-kind end), f.2))
 finish (statements k) =
     let f = finish (k nothing) in
     (f.0, f.1, (nothing, f.0, no_statement f.0, f.2))

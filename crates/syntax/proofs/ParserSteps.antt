@@ -11,8 +11,6 @@ use Rattle.syntax.specs.declared.parser.Parser.{Parser}
 use Rattle.syntax.specs.declared.parser.operator.Begins.{Begins}
 use Rattle.syntax.specs.declared.parser.operator.Link.{Link}
 use Rattle.syntax.specs.declared.parser.statement.Start.{Start}
-use Rattle.syntax.specs.declared.parser.wanted.Wanted.{Wanted}
-use Rattle.syntax.specs.declared.parser.wanted.Wanted.TheVariants as wanted
 use Rattle.syntax.specs.declared.token.Token.{Token}
 use Rattle.language.specs.declared.tree.Expr.{Expr}
 use Rattle.syntax.specs.Grammar.{label_of, word_of, amount_of, length_of}
@@ -24,6 +22,10 @@ use Rattle.syntax.specs.private.ParserViews.{Leads, FaultIs, ahead, nest, taken}
 use Rattle.syntax.specs.Reading.{Answer}
 use Rattle.language.specs.Tree.{ExprTree, StatementTree, BlockTree, nothing, first, ParameterTree, ProcedureTree, expr_tree}
 use Rattle.syntax.proofs.MachineExpressions.{within_level}
+use Rattle.syntax.specs.declared.token.TokenKind.TheVariants as token
+use Rattle.syntax.specs.declared.token.TokenKind.{TokenKind}
+use Rattle.syntax.specs.declared.token.Keyword.TheVariants as keyword
+use Rattle.syntax.specs.declared.token.Sign.TheVariants as sign
 
 -- a fault of one answer is one of an equal answer
 pub fault-back : (f : Fault) (a b : Answer) → a ≡ b → FaultIs f b → FaultIs f a
@@ -65,10 +67,10 @@ none-taken s n other (Some t) old new e is = cc
 none-taken s n other None old new e is = e
 
 -- single steps
-pub one-step : (what : Wanted) (k : Lexeme → State) (t : Lexeme) → fits what t.kind ≡ true → step (one what k) t ≡ Some (k t)
+pub one-step : (what : TokenKind) (k : Lexeme → State) (t : Lexeme) → fits what t.kind ≡ true → step (one what k) t ≡ Some (k t)
 one-step what k t is = ap (λ b. if b then Some (k t) else None) is
 
-pub either-step : (what : Wanted) (next : Lexeme → State) (other : State) (t : Lexeme) → fits what t.kind ≡ true → step (either what next other) t ≡ Some (next t)
+pub either-step : (what : TokenKind) (next : Lexeme → State) (other : State) (t : Lexeme) → fits what t.kind ≡ true → step (either what next other) t ≡ Some (next t)
 either-step what next other t is = ap (λ b. if b then Some (next t) else step other t) is
 
 pub label-step : (k : Label → State) (t : Lexeme) (label : Label) → label_of t.kind ≡ Some label → step (a_label k) t ≡ Some (k label)
@@ -104,14 +106,14 @@ same-verdict s s' n (t ∷ ts) e last h =
     ap (λ o. token_answer o t n' (λ next. verdict next n' ts e)) (h t)
 
 -- a further expression of the list
-abbrev pub further : Wanted → List ExprTree → (List ExprTree → State) → State
+abbrev pub further : TokenKind → List ExprTree → (List ExprTree → State) → State
 further end es k = expr 1 (λ e. more_exprs end (es ++ e ∷ []) k)
 
 -- expressions of a list: a comma and a further one, or the end
-abbrev pub after_exprs : Wanted → List ExprTree → (List ExprTree → State) → State
-after_exprs end es k = either wanted.Comma (λ _. further end es k) (one end (λ _. k es))
+abbrev pub after_exprs : TokenKind → List ExprTree → (List ExprTree → State) → State
+after_exprs end es k = either (token.Sign sign.Comma) (λ _. further end es k) (one end (λ _. k es))
 
-pub ahead-exprs : (end : Wanted) (es : List ExprTree) (k : List ExprTree → State) (p : Parser) → ahead (more_exprs end es k) p ≡ ahead (after_exprs end es k) p
+pub ahead-exprs : (end : TokenKind) (es : List ExprTree) (k : List ExprTree → State) (p : Parser) → ahead (more_exprs end es k) p ≡ ahead (after_exprs end es k) p
 ahead-exprs end es k p = same-verdict (more_exprs end es k) (after_exprs end es k) (nest p.nesting) (lexemes p.rest.now) (ending p.end) refl (λ t. refl)
 
 -- parameters: a comma and a further one, or the end
@@ -119,13 +121,13 @@ abbrev pub further_parameter : List ParameterTree → (List ParameterTree → St
 further_parameter ps k = parameter (λ p. more_parameters (ps ++ p ∷ []) k)
 
 abbrev pub after_parameters : List ParameterTree → (List ParameterTree → State) → State
-after_parameters ps k = either wanted.Comma (λ _. further_parameter ps k) (one wanted.CloseRound (λ _. k ps))
+after_parameters ps k = either (token.Sign sign.Comma) (λ _. further_parameter ps k) (one (token.Sign sign.CloseRound) (λ _. k ps))
 
 pub ahead-parameters : (ps : List ParameterTree) (k : List ParameterTree → State) (p : Parser) → ahead (more_parameters ps k) p ≡ ahead (after_parameters ps k) p
 ahead-parameters ps k p = same-verdict (more_parameters ps k) (after_parameters ps k) (nest p.nesting) (lexemes p.rest.now) (ending p.end) refl (λ t. refl)
 
-pub ahead-otherwise : (k : BlockTree → State) (p : Parser) → ahead (otherwise k) p ≡ ahead (either wanted.Else (λ _. after_else k) (k nothing)) p
-ahead-otherwise k p = same-verdict (otherwise k) (either wanted.Else (λ _. after_else k) (k nothing)) (nest p.nesting) (lexemes p.rest.now) (ending p.end) refl (λ t. refl)
+pub ahead-otherwise : (k : BlockTree → State) (p : Parser) → ahead (otherwise k) p ≡ ahead (either (token.Keyword keyword.Else) (λ _. after_else k) (k nothing)) p
+ahead-otherwise k p = same-verdict (otherwise k) (either (token.Keyword keyword.Else) (λ _. after_else k) (k nothing)) (nest p.nesting) (lexemes p.rest.now) (ending p.end) refl (λ t. refl)
 
 -- procedures: where a token is left, a further one
 ahead-procedure-at : (ps : List ProcedureTree) (n : Nest) (xs : List Token) (e : Ending) → nat_eq (length xs) 0 ≡ false → verdict (procedures ps) n (lexemes xs) e ≡ verdict (procedure (λ q. procedures (ps ++ q ∷ []))) n (lexemes xs) e

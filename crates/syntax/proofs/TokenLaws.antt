@@ -31,7 +31,7 @@ keyword_named text = find (λ word. bytes_eq text (keyword_text word)) keywords
 keyword_found : (word : Keyword) → keyword_named (keyword_text word) ≡ Some word
 keyword_found word = elim word as (λ w. keyword_named (keyword_text w) ≡ Some w) [ Export ↦ refl | _ ↦ refl ]
 
-keyword_unique : (v w : Keyword) → keyword_text v ≡ keyword_text w → v ≡ w
+pub keyword_unique : (v w : Keyword) → keyword_text v ≡ keyword_text w → v ≡ w
 keyword_unique v w e =
     let same : Some v ≡ Some w = sym (keyword_found v) ∙ ap keyword_named e ∙ keyword_found w in
     cc
@@ -39,7 +39,7 @@ keyword_unique v w e =
 sign_found : (mark : Sign) → find (begins (sign_text mark)) SIGNS ≡ Some mark
 sign_found mark = elim mark as (λ m. find (begins (sign_text m)) SIGNS ≡ Some m) [ RotateLeft ↦ refl | _ ↦ refl ]
 
-sign_unique : (m n : Sign) → sign_text m ≡ sign_text n → m ≡ n
+pub sign_unique : (m n : Sign) → sign_text m ≡ sign_text n → m ≡ n
 sign_unique m n e =
     let same : Some m ≡ Some n = sym (sign_found m) ∙ ap (λ l. find (begins l) SIGNS) e ∙ sign_found n in
     cc

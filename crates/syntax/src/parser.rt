@@ -16,7 +16,6 @@ mod procedure;
 mod right_side;
 mod statement;
 mod step;
-mod wanted;
 
 use crate::lexer::lex;
 use crate::nesting::Nesting;

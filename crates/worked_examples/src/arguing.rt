@@ -1,4 +1,4 @@
-// Arguments that are arrays, which no image takes yet.
+// Arguments that are arrays, for which no text is compiled yet.
 
 use arguments::read;
 use language::{Form, Kind, Label, Param};

@@ -319,6 +319,38 @@ const REFUSALS: &[(&str, &str)] = &[
         "export void f(secret uint32 n) { for (uint32 i from 0 to n) { } }",
         "L4 at 1:34: secret bound",
     ),
+    (
+        "export void f(secret uint32 n) { for (uint32 i from n to 4) { } }",
+        "L4 at 1:34: secret bound",
+    ),
+    (
+        "export void f(secret uint32 n, public mut uint32[2] a) { a[n] = 1; }",
+        "L3 at 1:59: secret index",
+    ),
+    (
+        "export void f(secret uint32 n, public mut uint32[2] a) { a[0] = n; }",
+        "L1 at 1:63: secret to public",
+    ),
+    (
+        "export void f(secret bool s, public mut uint32[2] a) { if (s) { a[0] = 1; } }",
+        "L2 at 1:70: public assigned under secret control",
+    ),
+    (
+        "export void f(secret bool s, public mut uint32[2] a) { if (s) { for (uint32 i from 0 to 2) { a[i] = 1; } } }",
+        "L2 at 1:99: public assigned under secret control",
+    ),
+    (
+        "export void f() { secret uint32[2] b = {1, 2, 3}; }",
+        "T9 at 1:36: initialiser count",
+    ),
+    (
+        "export void f() { public uint32[2] b; b[0] = 1; }",
+        "T6 at 1:44: not mutable",
+    ),
+    (
+        "export void f(secret uint32 n) { if (n / 2 == 0) { } }",
+        "L5 at 1:40: secret division operand",
+    ),
     ("export void f() { return 1; }", "T7 at 1:19: return"),
     (
         "export public uint8 f() { return 1; }",

@@ -5,11 +5,10 @@ ghost use Rattle.syntax.specs.private.Machine.{State, first_values, declared_arr
 ghost use Rattle.syntax.specs.private.ParserViews.{Leads};
 ghost use Rattle.language.specs.Tree.{ExprTree, StatementTree, expr_tree, statement_tree};
 
-use super::wanted::Wanted;
 use super::{Fault, Parser};
 use crate::{
-    ArrayDeclaration, Assignment, Declaration, ElementAssignment, Expr, Kind, Label, Place,
-    Statement, Token,
+    ArrayDeclaration, Assignment, Declaration, ElementAssignment, Expr, Keyword, Kind, Label,
+    Place, Sign, Statement, Token, TokenKind,
 };
 
 impl<'t, 'a> Parser<'t, 'a> {
@@ -19,11 +18,11 @@ impl<'t, 'a> Parser<'t, 'a> {
             → Leads (first_values k) (λ vs. k (option_map (λ values. map expr_tree values.items) vs)) result self.old self.new }
         ensures shorter { OnOk result (length self.new.rest.now ≤ length self.old.rest.now) }
     {
-        if self.takes(Wanted::Assign)?.is_none() {
+        if self.takes(TokenKind::Sign(Sign::Assign))?.is_none() {
             return Ok(None);
         }
-        self.expect(Wanted::OpenCurly)?;
-        let values = self.expressions(Wanted::CloseCurly)?;
+        self.expect(TokenKind::Sign(Sign::OpenCurly))?;
+        let values = self.expressions(TokenKind::Sign(Sign::CloseCurly))?;
         Ok(Some(values))
     }
 
@@ -39,9 +38,9 @@ impl<'t, 'a> Parser<'t, 'a> {
             → Leads (declared_array label mutable kind words k) (λ s. k (statement_tree s)) result self.old self.new }
         ensures shorter { OnOk result (length self.new.rest.now ≤ length self.old.rest.now) }
     {
-        let name = self.expect(Wanted::Name)?;
+        let name = self.expect(TokenKind::Name)?;
         let values = self.first_values()?;
-        self.expect(Wanted::Semicolon)?;
+        self.expect(TokenKind::Sign(Sign::Semicolon))?;
         Ok(Statement::DeclareArray(ArrayDeclaration {
             label,
             mutable,
@@ -64,8 +63,8 @@ impl<'t, 'a> Parser<'t, 'a> {
             → Leads (declared_word label mutable kind k) (λ s. k (statement_tree s)) result self.old self.new }
         ensures shorter { OnOk result (length self.new.rest.now ≤ length self.old.rest.now) }
     {
-        let name = self.expect(Wanted::Name)?;
-        self.expect(Wanted::Assign)?;
+        let name = self.expect(TokenKind::Name)?;
+        self.expect(TokenKind::Sign(Sign::Assign))?;
         let value = self.right_end()?;
         Ok(Statement::Declare(Declaration {
             label,
@@ -84,7 +83,7 @@ impl<'t, 'a> Parser<'t, 'a> {
         ensures shorter { OnOk result (length self.new.rest.now ≤ length self.old.rest.now) }
     {
         let kind = self.kind()?;
-        match self.takes(Wanted::OpenSquare)? {
+        match self.takes(TokenKind::Sign(Sign::OpenSquare))? {
             Some(_) => {
                 let length = self.length()?;
                 self.declared_array(label, mutable, kind, length)
@@ -99,7 +98,7 @@ impl<'t, 'a> Parser<'t, 'a> {
             → Leads (declared_state label k) (λ s. k (statement_tree s)) result self.old self.new }
         ensures shorter { OnOk result (length self.new.rest.now ≤ length self.old.rest.now) }
     {
-        match self.takes(Wanted::Mut)? {
+        match self.takes(TokenKind::Keyword(Keyword::Mut))? {
             Some(_) => self.declared_as(label, true),
             None => self.declared_as(label, false),
         }
@@ -126,8 +125,8 @@ impl<'t, 'a> Parser<'t, 'a> {
             → Leads (element_assigned (lexeme name.entry) bracket k) (λ s. k (statement_tree s)) result self.old self.new }
         ensures shorter { OnOk result (length self.new.rest.now ≤ length self.old.rest.now) }
     {
-        let index = self.expression_to(Wanted::CloseSquare)?;
-        let sign = self.expect(Wanted::Assign)?;
+        let index = self.expression_to(TokenKind::Sign(Sign::CloseSquare))?;
+        let sign = self.expect(TokenKind::Sign(Sign::Assign))?;
         let value = self.right_end()?;
         Ok(Statement::AssignElement(ElementAssignment {
             place: sign.place,
@@ -145,9 +144,9 @@ impl<'t, 'a> Parser<'t, 'a> {
             → Leads (called_alone (lexeme name.entry) k) (λ s. k (statement_tree s)) result self.old self.new }
         ensures shorter { OnOk result (length self.new.rest.now ≤ length self.old.rest.now) }
     {
-        self.expect(Wanted::OpenRound)?;
+        self.expect(TokenKind::Sign(Sign::OpenRound))?;
         let call = self.call(name)?;
-        self.expect(Wanted::Semicolon)?;
+        self.expect(TokenKind::Sign(Sign::Semicolon))?;
         Ok(Statement::Call(call))
     }
 
@@ -157,10 +156,10 @@ impl<'t, 'a> Parser<'t, 'a> {
             → Leads (targeted_state (lexeme name.entry) k) (λ s. k (statement_tree s)) result self.old self.new }
         ensures shorter { OnOk result (length self.new.rest.now ≤ length self.old.rest.now) }
     {
-        if let Some(sign) = self.takes(Wanted::Assign)? {
+        if let Some(sign) = self.takes(TokenKind::Sign(Sign::Assign))? {
             return self.assigned(name, sign.place);
         }
-        match self.takes(Wanted::OpenSquare)? {
+        match self.takes(TokenKind::Sign(Sign::OpenSquare))? {
             Some(opening) => self.element_assigned(name, opening.place),
             None => self.called_alone(name),
         }

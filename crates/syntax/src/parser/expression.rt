@@ -8,9 +8,8 @@ use super::operator::{
     Begins, Link, OPERAND_LEVEL, PREFIX_LEVEL, begins_of, level_of, link_of, suffix_kind,
 };
 use super::step::unexpected;
-use super::wanted::Wanted;
 use super::{Fault, Parser};
-use crate::{BinaryOperator, Expr, Kind, Place, PrefixOperator, Token};
+use crate::{BinaryOperator, Expr, Kind, Place, PrefixOperator, Sign, Token, TokenKind};
 use std::alloc::Global;
 
 /// A sign between operands, and where it stands.
@@ -207,7 +206,7 @@ impl<'t, 'a> Parser<'t, 'a> {
             )),
             Begins::Truth(value) => Ok(Expr::Truth(token.place, value)),
             Begins::Name => self.named(token),
-            Begins::Bracket => self.expression_to(Wanted::CloseRound),
+            Begins::Bracket => self.expression_to(TokenKind::Sign(Sign::CloseRound)),
             Begins::Prefix(operator) => {
                 let operand = self.expression(PREFIX_LEVEL)?;
                 prefix(self.alloc, token.place, operator, operand)
@@ -224,10 +223,10 @@ impl<'t, 'a> Parser<'t, 'a> {
             → Leads (named_state (lexeme name.entry) k) (λ e. k (expr_tree e)) result self.old self.new }
         ensures shorter { OnOk result (length self.new.rest.now ≤ length self.old.rest.now) }
     {
-        match self.takes(Wanted::OpenSquare)? {
+        match self.takes(TokenKind::Sign(Sign::OpenSquare))? {
             None => Ok(Expr::Name(name.place, name.text)),
             Some(opening) => {
-                let index = self.expression_to(Wanted::CloseSquare)?;
+                let index = self.expression_to(TokenKind::Sign(Sign::CloseSquare))?;
                 element(self.alloc, opening.place, name, index)
             }
         }
@@ -235,7 +234,7 @@ impl<'t, 'a> Parser<'t, 'a> {
 
     /// An expression, and the token that ends it.
     #[cycle(expression)]
-    pub fn expression_to(&mut self, end: Wanted) -> Result<Expr<'a>, Fault>
+    pub fn expression_to(&mut self, end: TokenKind) -> Result<Expr<'a>, Fault>
         ensures leads { (k : ExprTree → State)
             → Leads (ended end k) (λ e. k (expr_tree e)) result self.old self.new }
         ensures shorter { OnOk result (length self.new.rest.now < length self.old.rest.now) }
@@ -252,8 +251,8 @@ impl<'t, 'a> Parser<'t, 'a> {
             → Leads (converted place kind k) (λ e. k (expr_tree e)) result self.old self.new }
         ensures shorter { OnOk result (length self.new.rest.now ≤ length self.old.rest.now) }
     {
-        self.expect(Wanted::OpenRound)?;
-        let operand = self.expression_to(Wanted::CloseRound)?;
+        self.expect(TokenKind::Sign(Sign::OpenRound))?;
+        let operand = self.expression_to(TokenKind::Sign(Sign::CloseRound))?;
         convert(self.alloc, place, kind, operand)
     }
 
@@ -264,10 +263,10 @@ impl<'t, 'a> Parser<'t, 'a> {
             → Leads (after_select place k) (λ e. k (expr_tree e)) result self.old self.new }
         ensures shorter { OnOk result (length self.new.rest.now ≤ length self.old.rest.now) }
     {
-        self.expect(Wanted::OpenRound)?;
-        let condition = self.expression_to(Wanted::Comma)?;
-        let accepted = self.expression_to(Wanted::Comma)?;
-        let otherwise = self.expression_to(Wanted::CloseRound)?;
+        self.expect(TokenKind::Sign(Sign::OpenRound))?;
+        let condition = self.expression_to(TokenKind::Sign(Sign::Comma))?;
+        let accepted = self.expression_to(TokenKind::Sign(Sign::Comma))?;
+        let otherwise = self.expression_to(TokenKind::Sign(Sign::CloseRound))?;
         select(self.alloc, place, condition, accepted, otherwise)
     }
 }

@@ -6,9 +6,10 @@ ghost use Rattle.language.specs.Tree.{ParameterTree, ReturnTree, ProcedureTree, 
 ghost use Rattle.word.specs.declared.place.Place.{Place as PlaceOf};
 ghost use Rattle.language.specs.declared.typing.WordType.{WordType as WordTypeOf};
 
-use super::wanted::Wanted;
 use super::{Fault, Parser};
-use crate::{Form, Kind, Label, Parameter, Place, Procedure, Return, WordType};
+use crate::{
+    Form, Keyword, Kind, Label, Parameter, Place, Procedure, Return, Sign, TokenKind, WordType,
+};
 
 impl<'t, 'a> Parser<'t, 'a> {
     pub fn procedure(&mut self) -> Result<Procedure<'a>, Fault>
@@ -18,10 +19,10 @@ impl<'t, 'a> Parser<'t, 'a> {
     {
         let export = self.exported()?;
         let result = self.result_type()?;
-        let name = self.expect(Wanted::Name)?;
-        self.expect(Wanted::OpenRound)?;
+        let name = self.expect(TokenKind::Name)?;
+        self.expect(TokenKind::Sign(Sign::OpenRound))?;
         let parameters = self.parameters()?;
-        self.expect(Wanted::OpenCurly)?;
+        self.expect(TokenKind::Sign(Sign::OpenCurly))?;
         let body = self.statements()?;
         let returned = self.returned()?;
         Ok(Procedure {
@@ -40,7 +41,7 @@ impl<'t, 'a> Parser<'t, 'a> {
         ensures leads { (k : Option PlaceOf → State) → Leads (exported k) k result self.old self.new }
         ensures shorter { OnOk result (length self.new.rest.now ≤ length self.old.rest.now) }
     {
-        match self.takes(Wanted::Export)? {
+        match self.takes(TokenKind::Keyword(Keyword::Export))? {
             Some(word) => Ok(Some(word.place)),
             None => Ok(None),
         }
@@ -51,7 +52,7 @@ impl<'t, 'a> Parser<'t, 'a> {
         ensures leads { (k : Option WordTypeOf → State) → Leads (result_type_state k) k result self.old self.new }
         ensures shorter { OnOk result (length self.new.rest.now < length self.old.rest.now) }
     {
-        if self.takes(Wanted::Void)?.is_some() {
+        if self.takes(TokenKind::Keyword(Keyword::Void))?.is_some() {
             return Ok(None);
         }
         let label = self.label()?;
@@ -66,16 +67,16 @@ impl<'t, 'a> Parser<'t, 'a> {
         ensures shorter { OnOk result (length self.new.rest.now ≤ length self.old.rest.now) }
     {
         let mut parameters = Vec::new(self.alloc);
-        if self.takes(Wanted::CloseRound)?.is_some() {
+        if self.takes(TokenKind::Sign(Sign::CloseRound))?.is_some() {
             return Ok(parameters);
         }
         'list: loop {
             parameters.push(self.parameter()?)?;
-            if self.takes(Wanted::Comma)?.is_none() {
+            if self.takes(TokenKind::Sign(Sign::Comma))?.is_none() {
                 break 'list;
             }
         }
-        self.expect(Wanted::CloseRound)?;
+        self.expect(TokenKind::Sign(Sign::CloseRound))?;
         Ok(parameters)
     }
 
@@ -94,14 +95,14 @@ impl<'t, 'a> Parser<'t, 'a> {
             → Leads (labelled label k) (λ p. k (parameter_tree p)) result self.old self.new }
         ensures shorter { OnOk result (length self.new.rest.now ≤ length self.old.rest.now) }
     {
-        if self.takes(Wanted::Mut)?.is_some() {
+        if self.takes(TokenKind::Keyword(Keyword::Mut))?.is_some() {
             let kind = self.kind()?;
-            self.expect(Wanted::OpenSquare)?;
+            self.expect(TokenKind::Sign(Sign::OpenSquare))?;
             let length = self.length()?;
             return self.parameter_name(label, kind, Form::MutableArray, length);
         }
         let kind = self.kind()?;
-        if self.takes(Wanted::OpenSquare)?.is_some() {
+        if self.takes(TokenKind::Sign(Sign::OpenSquare))?.is_some() {
             let length = self.length()?;
             return self.parameter_name(label, kind, Form::FixedArray, length);
         }
@@ -120,7 +121,7 @@ impl<'t, 'a> Parser<'t, 'a> {
             → Leads (parameter_name label kind form words k) (λ p. k (parameter_tree p)) result self.old self.new }
         ensures shorter { OnOk result (length self.new.rest.now ≤ length self.old.rest.now) }
     {
-        let name = self.expect(Wanted::Name)?;
+        let name = self.expect(TokenKind::Name)?;
         Ok(Parameter {
             label,
             kind,
@@ -137,12 +138,12 @@ impl<'t, 'a> Parser<'t, 'a> {
             → Leads (returned_state k) (λ r. k (option_map return_tree r)) result self.old self.new }
         ensures shorter { OnOk result (length self.new.rest.now ≤ length self.old.rest.now) }
     {
-        let Some(word) = self.takes(Wanted::Return)? else {
-            self.expect(Wanted::CloseCurly)?;
+        let Some(word) = self.takes(TokenKind::Keyword(Keyword::Return))? else {
+            self.expect(TokenKind::Sign(Sign::CloseCurly))?;
             return Ok(None);
         };
-        let value = self.expression_to(Wanted::Semicolon)?;
-        self.expect(Wanted::CloseCurly)?;
+        let value = self.expression_to(TokenKind::Sign(Sign::Semicolon))?;
+        self.expect(TokenKind::Sign(Sign::CloseCurly))?;
         Ok(Some(Return {
             place: word.place,
             value,

@@ -4,13 +4,12 @@ ghost use Rattle.syntax.specs.private.Machine.{State, some_exprs, arguments as a
 ghost use Rattle.syntax.specs.private.ParserViews.{Leads};
 ghost use Rattle.language.specs.Tree.{ExprTree, CallTree, RightTree, expr_tree, call_tree, right_tree};
 
-use super::wanted::Wanted;
 use super::{Fault, Parser};
-use crate::{Call, Expr, RightSide, Token};
+use crate::{Call, Expr, RightSide, Sign, Token, TokenKind};
 
 impl<'t, 'a> Parser<'t, 'a> {
     /// Expressions, each but the first after a comma, and the token that ends them.
-    pub fn expressions(&mut self, end: Wanted) -> Result<Vec<Expr<'a>>, Fault>
+    pub fn expressions(&mut self, end: TokenKind) -> Result<Vec<Expr<'a>>, Fault>
         ensures leads { (k : List ExprTree → State)
             → Leads (some_exprs end k) (λ es. k (map expr_tree es.items)) result self.old self.new }
         ensures shorter { OnOk result (length self.new.rest.now < length self.old.rest.now) }
@@ -18,7 +17,7 @@ impl<'t, 'a> Parser<'t, 'a> {
         let mut expressions = Vec::new(self.alloc);
         'list: loop {
             expressions.push(self.expression(1)?)?;
-            if self.takes(Wanted::Comma)?.is_none() {
+            if self.takes(TokenKind::Sign(Sign::Comma))?.is_none() {
                 break 'list;
             }
         }
@@ -32,9 +31,9 @@ impl<'t, 'a> Parser<'t, 'a> {
             → Leads (arguments_state k) (λ es. k (map expr_tree es.items)) result self.old self.new }
         ensures shorter { OnOk result (length self.new.rest.now < length self.old.rest.now) }
     {
-        match self.takes(Wanted::CloseRound)? {
+        match self.takes(TokenKind::Sign(Sign::CloseRound))? {
             Some(_) => Ok(Vec::new(self.alloc)),
-            None => self.expressions(Wanted::CloseRound),
+            None => self.expressions(TokenKind::Sign(Sign::CloseRound)),
         }
     }
 
@@ -58,7 +57,7 @@ impl<'t, 'a> Parser<'t, 'a> {
             → Leads (right_from (lexeme name.entry) k) (λ r. k (right_tree r)) result self.old self.new }
         ensures shorter { OnOk result (length self.new.rest.now ≤ length self.old.rest.now) }
     {
-        match self.takes(Wanted::OpenRound)? {
+        match self.takes(TokenKind::Sign(Sign::OpenRound))? {
             Some(_) => Ok(RightSide::Call(self.call(name)?)),
             None => {
                 let first = self.named(name)?;
@@ -72,7 +71,7 @@ impl<'t, 'a> Parser<'t, 'a> {
             → Leads (right_state k) (λ r. k (right_tree r)) result self.old self.new }
         ensures shorter { OnOk result (length self.new.rest.now < length self.old.rest.now) }
     {
-        match self.takes(Wanted::Name)? {
+        match self.takes(TokenKind::Name)? {
             Some(name) => self.right_side_from(name),
             None => Ok(RightSide::Value(self.expression(1)?)),
         }
@@ -85,7 +84,7 @@ impl<'t, 'a> Parser<'t, 'a> {
         ensures shorter { OnOk result (length self.new.rest.now < length self.old.rest.now) }
     {
         let right_side = self.right_side()?;
-        self.expect(Wanted::Semicolon)?;
+        self.expect(TokenKind::Sign(Sign::Semicolon))?;
         Ok(right_side)
     }
 }

@@ -5,9 +5,8 @@ ghost use Rattle.syntax.specs.private.ParserViews.{Leads, after_start};
 ghost use Rattle.language.specs.Tree.{StatementTree, BlockTree, statement_tree, block_tree};
 
 use super::step::label_of;
-use super::wanted::Wanted;
 use super::{Fault, Parser};
-use crate::{Counter, Keyword, Label, Place, Statement, Token, TokenKind};
+use crate::{Counter, Keyword, Label, Place, Sign, Statement, Token, TokenKind};
 
 /// How a statement begins.
 #[derive(Clone, Copy)]
@@ -91,8 +90,8 @@ impl<'t, 'a> Parser<'t, 'a> {
             → Leads (conditioned place k) (λ s. k (statement_tree s)) result self.old self.new }
         ensures shorter { OnOk result (length self.new.rest.now ≤ length self.old.rest.now) }
     {
-        self.expect(Wanted::OpenRound)?;
-        let condition = self.expression_to(Wanted::CloseRound)?;
+        self.expect(TokenKind::Sign(Sign::OpenRound))?;
+        let condition = self.expression_to(TokenKind::Sign(Sign::CloseRound))?;
         let accepted = self.block()?;
         let otherwise = self.otherwise()?;
         Ok(Statement::If(place, condition, accepted, otherwise))
@@ -104,10 +103,10 @@ impl<'t, 'a> Parser<'t, 'a> {
             → Leads (counter_state k) (λ t. k (lexeme t)) result self.old self.new }
         ensures shorter { OnOk result (length self.new.rest.now < length self.old.rest.now) }
     {
-        self.expect(Wanted::OpenRound)?;
-        self.expect(Wanted::Uint32)?;
-        let name = self.expect(Wanted::Name)?;
-        self.expect(Wanted::From)?;
+        self.expect(TokenKind::Sign(Sign::OpenRound))?;
+        self.expect(TokenKind::Keyword(Keyword::Uint32))?;
+        let name = self.expect(TokenKind::Name)?;
+        self.expect(TokenKind::Keyword(Keyword::From))?;
         Ok(name)
     }
 
@@ -119,8 +118,8 @@ impl<'t, 'a> Parser<'t, 'a> {
         ensures shorter { OnOk result (length self.new.rest.now ≤ length self.old.rest.now) }
     {
         let name = self.counter()?;
-        let low = self.expression_to(Wanted::To)?;
-        let high = self.expression_to(Wanted::CloseRound)?;
+        let low = self.expression_to(TokenKind::Keyword(Keyword::To))?;
+        let high = self.expression_to(TokenKind::Sign(Sign::CloseRound))?;
         let body = self.block()?;
         let counter = Counter {
             place: name.place,
@@ -136,9 +135,9 @@ impl<'t, 'a> Parser<'t, 'a> {
             → Leads (block_state k) (λ ss. k (block_tree ss.items)) result self.old self.new }
         ensures shorter { OnOk result (length self.new.rest.now < length self.old.rest.now) }
     {
-        self.expect(Wanted::OpenCurly)?;
+        self.expect(TokenKind::Sign(Sign::OpenCurly))?;
         let statements = self.statements()?;
-        self.expect(Wanted::CloseCurly)?;
+        self.expect(TokenKind::Sign(Sign::CloseCurly))?;
         Ok(statements)
     }
 
@@ -149,7 +148,7 @@ impl<'t, 'a> Parser<'t, 'a> {
             → Leads (otherwise_state k) (λ ss. k (block_tree ss.items)) result self.old self.new }
         ensures shorter { OnOk result (length self.new.rest.now ≤ length self.old.rest.now) }
     {
-        match self.takes(Wanted::Else)? {
+        match self.takes(TokenKind::Keyword(Keyword::Else))? {
             Some(_) => self.after_else(),
             None => Ok(Vec::new(self.alloc)),
         }
@@ -162,7 +161,7 @@ impl<'t, 'a> Parser<'t, 'a> {
             → Leads (after_else k) (λ ss. k (block_tree ss.items)) result self.old self.new }
         ensures shorter { OnOk result (length self.new.rest.now ≤ length self.old.rest.now) }
     {
-        match self.takes(Wanted::If)? {
+        match self.takes(TokenKind::Keyword(Keyword::If))? {
             Some(word) => {
                 let conditional = self.conditional(word.place)?;
                 let mut statements = Vec::new(self.alloc);

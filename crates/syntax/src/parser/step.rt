@@ -1,16 +1,15 @@
 ghost use Rattle.std.specs.Prelude.{◌≡◌, ◌≤◌, ◌<◌, IfOk, IfErr, OnOk, OnSome, Some, None, [], ◌∷◌, length, ℕ};
 ghost use Rattle.syntax.specs.Grammar.{label_of as label_that, word_of as word_that, amount_of as amount_that, length_of as length_that};
 ghost use Rattle.syntax.specs.Lexeme.{Lexeme, lexeme};
-ghost use Rattle.syntax.specs.private.Machine.{State, one, either, a_label, a_kind, a_length, an_amount, sized, step, ending_answer};
+ghost use Rattle.syntax.specs.private.Machine.{State, one, either, a_label, a_kind, a_length, an_amount, fits as fits_that, sized, step, ending_answer};
 ghost use Rattle.syntax.specs.private.ParserViews.{Leads, FaultIs, taken};
 ghost use Rattle.syntax.specs.Tokens.{ending};
 ghost use Rattle.language.specs.declared.signature.Label.{Label as LabelOf};
 ghost use Rattle.language.specs.declared.signature.Kind.{Kind as KindOf};
 
-use super::wanted::Wanted;
 use super::{Fault, Parser};
 use crate::nesting::NESTING_LIMIT;
-use crate::{Keyword, Kind, Label, ListEnd, Rule, Token, TokenKind};
+use crate::{Keyword, Kind, Label, ListEnd, Rule, Sign, Token, TokenKind};
 use language::MOST_ELEMENTS;
 
 /// The label that a keyword names.
@@ -62,6 +61,13 @@ fn length_of(kind: TokenKind) -> Option<u16>
     }
 }
 
+/// Whether a token of a kind is of the wanted one.
+fn fits(wanted: TokenKind, kind: TokenKind) -> bool
+    ensures { result ≡ fits_that wanted kind }
+{
+    wanted == kind
+}
+
 /// No program begins with the tokens up to this one.
 pub fn unexpected(token: Token<'_>) -> Fault
     ensures { result ≡ Fault.Refused Rule.UnexpectedToken token.entry.place }
@@ -108,13 +114,13 @@ impl<'t, 'a> Parser<'t, 'a> {
     }
 
     /// Takes a token of this kind.
-    pub fn expect(&mut self, wanted: Wanted) -> Result<Token<'a>, Fault>
+    pub fn expect(&mut self, wanted: TokenKind) -> Result<Token<'a>, Fault>
         ensures leads { (k : Lexeme → State)
             → Leads (one wanted k) (λ t. k (lexeme t)) result self.old self.new }
         ensures shorter { OnOk result (length self.new.rest.now < length self.old.rest.now) }
     {
         let (token, rest) = self.first()?;
-        if !wanted.fits(token.kind) {
+        if !fits(wanted, token.kind) {
             return Err(unexpected(token));
         }
         self.advance(token, rest)?;
@@ -122,7 +128,7 @@ impl<'t, 'a> Parser<'t, 'a> {
     }
 
     /// Takes the token that stands next, where it is of this kind.
-    pub fn takes(&mut self, wanted: Wanted) -> Result<Option<Token<'a>>, Fault>
+    pub fn takes(&mut self, wanted: TokenKind) -> Result<Option<Token<'a>>, Fault>
         ensures leads { (next : Lexeme → State) (other : State)
             → Leads (either wanted next other) (taken next other) result self.old self.new }
         ensures shorter { IfOk result (λ t. OnSome t (length self.new.rest.now < length self.old.rest.now)) }
@@ -131,7 +137,7 @@ impl<'t, 'a> Parser<'t, 'a> {
         let Ok((token, rest)) = self.first() else {
             return Ok(None);
         };
-        if !wanted.fits(token.kind) {
+        if !fits(wanted, token.kind) {
             return Ok(None);
         }
         self.advance(token, rest)?;
@@ -194,7 +200,7 @@ impl<'t, 'a> Parser<'t, 'a> {
         ensures shorter { OnOk result (length self.new.rest.now < length self.old.rest.now) }
     {
         let length = self.bare_length()?;
-        self.expect(Wanted::CloseSquare)?;
+        self.expect(TokenKind::Sign(Sign::CloseSquare))?;
         Ok(length)
     }
 }

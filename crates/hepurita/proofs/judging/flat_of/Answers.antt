@@ -1,12 +1,10 @@
-use Rattle.std.proofs.Common.{◌≡◌, [], length, ap, sym, ◌∙◌}
+use Rattle.std.proofs.Common.{[], map, ap, sym, ◌∙◌}
 use Rattle.std.proofs.lemmas.Result.{err_from_is_err_and, IfErr-weaker}
 use Rattle.language.specs.declared.tree.Program.{Program}
 use Rattle.language.specs.Meaning.{exported}
 use Rattle.language.specs.Tree.{procedure_tree, program_tree}
-use Rattle.language.specs.Typing.{violations}
 use Rattle.coverage.proofs.CompiledLemmas.{compiled_export}
 use Rattle.hepurita.proofs.BuiltLemmas.{refusal_of_coverage, refusal_of_types, refusal_of_sizes, judged_flat}
-use Rattle.hepurita.proofs.Exports.{has_export, nothing_exported, export_in}
 use Rattle.hepurita.proofs.judging.flat_of.Goals as goal
 
 pub returns-in-Some-clause-refused : goal.returns-in-Some-clause-refused
@@ -18,27 +16,17 @@ returns-in_err-checked-clause-refused c =
     let p = err_from_is_err_and c.from_residual.result c.from_residual.ensures.1 in
     rw (p.1, p.2) (refusal_of_types (program_tree c.args.program.now) c.in_err-checked.field-0.0 c.in_default.ensures c.in_err-checked.ensures.refused)
 
-pub unreachable-requires : goal.unreachable-requires
-unreachable-requires c =
-    let program = program_tree c.program.result.now in
-    has_export program c.program.ensures.well_typed (nothing_exported (exported [] program.procedures) c.in_default-exported_of.ensures)
-
 pub inline-requires : goal.inline-requires
 inline-requires c =
-    let same : c.program.result.now ≡ c.args.program.now = ap (λ b. b.now) c.program.ensures.program ∙ c.in_ok-checked.ensures.accepted in
-    let (before, is) = export_in c.args.program.now c.program.result.now (procedure_tree c.in-Some-exported_of.export.now) same c.in-Some-exported_of.ensures in
-    record { compiled = compiled_export (program_tree c.args.program.now) before (procedure_tree c.in-Some-exported_of.export.now) c.in_default.ensures is }
+    let is = ap (λ (q : Program). exported [] (program_tree q).procedures) (sym c.in_ok-checked.ensures.program) ∙ c.export.ensures in
+    record { compiled = compiled_export (program_tree c.args.program.now) (map procedure_tree c.export.result.0.now) (procedure_tree c.export.result.1.now) c.in_default.ensures is }
 
 pub returns-clause-accepted : goal.returns-clause-accepted
 returns-clause-accepted c =
-    let same : c.program.result.now ≡ c.args.program.now = ap (λ b. b.now) c.program.ensures.program ∙ c.in_ok-checked.ensures.accepted in
-    let typed = ap (λ (q : Program). length (violations (program_tree q))) (sym same) ∙ c.program.ensures.well_typed in
-    let (before, is) = export_in c.args.program.now c.program.result.now (procedure_tree c.in-Some-exported_of.export.now) same c.in-Some-exported_of.ensures in
-    judged_flat (program_tree c.args.program.now) before (procedure_tree c.in-Some-exported_of.export.now) c.inline.result c.in_default.ensures typed is c.inline.ensures.accepted c.inline.ensures.within
+    let is = ap (λ (q : Program). exported [] (program_tree q).procedures) (sym c.in_ok-checked.ensures.program) ∙ c.export.ensures in
+    judged_flat (program_tree c.args.program.now) (map procedure_tree c.export.result.0.now) (procedure_tree c.export.result.1.now) c.inline.result c.in_default.ensures c.in_ok-checked.ensures.well_typed is c.inline.ensures.accepted c.inline.ensures.within
 
 pub returns-clause-refused : goal.returns-clause-refused
 returns-clause-refused c =
-    let same : c.program.result.now ≡ c.args.program.now = ap (λ b. b.now) c.program.ensures.program ∙ c.in_ok-checked.ensures.accepted in
-    let typed = ap (λ (q : Program). length (violations (program_tree q))) (sym same) ∙ c.program.ensures.well_typed in
-    let (before, is) = export_in c.args.program.now c.program.result.now (procedure_tree c.in-Some-exported_of.export.now) same c.in-Some-exported_of.ensures in
-    IfErr-weaker c.inline.result _ _ (λ refusal. refusal_of_sizes (program_tree c.args.program.now) before (procedure_tree c.in-Some-exported_of.export.now) refusal c.in_default.ensures typed is) c.inline.ensures.refused
+    let is = ap (λ (q : Program). exported [] (program_tree q).procedures) (sym c.in_ok-checked.ensures.program) ∙ c.export.ensures in
+    IfErr-weaker c.inline.result _ _ (λ refusal. refusal_of_sizes (program_tree c.args.program.now) (map procedure_tree c.export.result.0.now) (procedure_tree c.export.result.1.now) refusal c.in_default.ensures c.in_ok-checked.ensures.well_typed is) c.inline.ensures.refused

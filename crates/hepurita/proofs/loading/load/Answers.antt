@@ -1,12 +1,16 @@
-use Rattle.std.proofs.Common.{List, length, All, ap, sym, subst, ◌∙◌}
+use Rattle.std.proofs.Common.{List, length, All, ap, sym, subst, ◌∙◌, arith}
 use Rattle.std.proofs.lemmas.List.{length-map}
 use Rattle.std.proofs.lemmas.List.Elements.{All-from_recursion}
 use Rattle.image.specs.declared.slot.Slot.{Slot}
 use Rattle.rv_machine.specs.Bytes.{ByteMap, zeros}
-use Rattle.rv_machine.specs.Flat.{flat_bytes}
-use Rattle.hepurita.specs.Bases.{frame_base}
-use Rattle.codegen.specs.Loaded.{params_of, HoldsWord}
-use Rattle.hepurita.proofs.LoadLemmas.{slots_hold, length-within}
+use Rattle.rv_machine.specs.Paged.{paged_bytes}
+use Rattle.rv_machine.specs.Harts.{pc_of, regs_of}
+use Rattle.rv_machine.specs.Registers.{initial_registers}
+use Rattle.language.specs.declared.values.Arg.{Arg}
+use Rattle.codegen.specs.Loaded.{params_of, with_arguments}
+use Rattle.hepurita.specs.Bases.{code_base, frame_base}
+use Rattle.hepurita.specs.Frames.{HoldsSlot}
+use Rattle.hepurita.proofs.LoadLemmas.{slots_hold, length-within, same_state}
 use Rattle.hepurita.proofs.loading.load.Goals as goal
 
 pub put_arguments-requires-clause-count : goal.put_arguments-requires-clause-count
@@ -19,8 +23,17 @@ pub put_arguments-requires-clause-data : goal.put_arguments-requires-clause-data
 put_arguments-requires-clause-data c =
     let image = c.args.image.now in
     let allowed = c.slots.ensures.allowed in
-    let held = All-from_recursion (HoldsWord frame_base (zeros frame_base image.frame_bytes)) image.slots
-    (slots_hold frame_base image.frame_bytes 0 image.slots allowed.slots allowed.slots_inside allowed.frame_size) in
-    let bytes = c.in_ok-frame.ensures ∙ ap (zeros frame_base) c.frame_bytes.ensures.bytes in
-    subst (λ (xs : List Slot). All (HoldsWord frame_base (flat_bytes c.in_ok-frame.frame)) xs) (sym c.slots.ensures.slots)
-    (subst (λ (b : ByteMap). All (HoldsWord frame_base b) image.slots) (sym bytes) held)
+    let held = All-from_recursion (HoldsSlot frame_base (zeros frame_base image.frame_bytes)) image.slots
+    (slots_hold frame_base image.frame_bytes image.slots allowed.slots_inside (omega (arith, allowed.frame_size))) in
+    subst (λ (xs : List Slot). All (HoldsSlot frame_base (paged_bytes c.in_ok-memory.memory)) xs) (sym c.slots.ensures.slots)
+    (subst (λ (b : ByteMap). All (HoldsSlot frame_base b) image.slots) (sym c.in_ok-memory.ensures) held)
+
+pub returns-clause-state : goal.returns-clause-state
+returns-clause-state c =
+    let image = c.args.image.now in
+    let bytes =
+    c.put_arguments.ensures
+    ∙ (ap (λ (b : ByteMap). with_arguments frame_base b c.slots.result.now c.as_slice.result.now) c.in_ok-memory.ensures
+    ∙ (ap (λ (xs : List Slot). with_arguments frame_base (zeros frame_base image.frame_bytes) xs c.as_slice.result.now) c.slots.ensures.slots
+    ∙ ap (λ (xs : List Arg). with_arguments frame_base (zeros frame_base image.frame_bytes) image.slots xs) c.as_slice.ensures)) in
+    same_state (pc_of c.new.result) code_base (regs_of c.new.result) (initial_registers frame_base) (paged_bytes c.put_arguments.new.memory) _ c.new.ensures.pc c.new.ensures.registers bytes

@@ -1,5 +1,4 @@
 use Rattle.std.proofs.Common.{◌≡◌, ℕ, drop, is_some}
-use Rattle.hepurita.specs.Bases.{frame_base}
 use Rattle.codegen.specs.Loaded.{with_arguments}
 use Rattle.hepurita.proofs.loading.put_arguments.Given as goal
 
@@ -8,6 +7,6 @@ abbrev pub invariant-loop-index : goal.invariant-loop-index
 invariant-loop-index g l =
     let bytes = g.M.Memory.bytes in
     record {
-      rest : with_arguments frame_base (bytes l.memory) (drop l.index l.slots) (drop l.index l.args) ≡ with_arguments frame_base (bytes l.fn.memory) l.slots l.args;
+      rest : with_arguments l.frame (bytes l.memory) (drop l.index l.slots) (drop l.index l.args) ≡ with_arguments l.frame (bytes l.fn.memory) l.slots l.args;
       data_there : (x : ℕ) → is_some (bytes l.memory x) ≡ is_some (bytes l.fn.memory x);
     }

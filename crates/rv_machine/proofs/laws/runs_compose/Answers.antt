@@ -1,4 +1,7 @@
+use Rattle.std.proofs.Common.{◌∷◌, subst, sym, add-one}
+use Rattle.rv_machine.specs.Leakage.{Runs}
 use Rattle.rv_machine.proofs.RunLaws.{Leads-append, Halts-after}
+use Rattle.rv_machine.proofs.TotalLaws.{Runs-more}
 use Rattle.rv_machine.proofs.laws.runs_compose.Goals as goal
 
 pub returns-clause-leads : goal.returns-clause-leads
@@ -6,3 +9,7 @@ returns-clause-leads c = λ code m n s t u a b. Leads-append
 
 pub returns-clause-halts : goal.returns-clause-halts
 returns-clause-halts c = λ code m n s t u a b stop. Halts-after
+
+pub returns-clause-runs : goal.returns-clause-runs
+returns-clause-runs c = λ code budget s t u o seen stop turn run.
+    subst (λ n. Runs code n s (o ∷ seen) stop u) (sym (add-one budget)) (Runs-more turn run)

@@ -1,5 +1,4 @@
 use Rattle.std.proofs.Common.{◌≡◌, ◌∙◌, None, arith, rules, ap, sym, subst}
-use Rattle.syntax.specs.declared.parser.wanted.Wanted.TheVariants as wanted
 use Rattle.syntax.specs.Lexeme.{Lexeme, lexeme}
 use Rattle.syntax.specs.private.Machine.{statements, block, otherwise, after_else, conditioned, ended, either}
 use Rattle.syntax.specs.private.ParserViews.{ahead, after_start}
@@ -8,6 +7,9 @@ use Rattle.syntax.proofs.ParserSteps.{passed-after, leads-after, after-taken, af
 use Rattle.syntax.proofs.StatementSteps.{followed_by, followed-nothing, ahead-push}
 use Rattle.language.proofs.BlockLemmas.{row_trees}
 use Rattle.syntax.proofs.parser.Parser.+statement.Goals as goal
+use Rattle.syntax.specs.declared.token.TokenKind.TheVariants as token
+use Rattle.syntax.specs.declared.token.Keyword.TheVariants as keyword
+use Rattle.syntax.specs.declared.token.Sign.TheVariants as sign
 
 pub after_else-returns-in-None-clause-leads : goal.after_else-returns-in-None-clause-leads
 after_else-returns-in-None-clause-leads t c = λ k.
@@ -20,7 +22,7 @@ conditional-returns-clause-leads t c = λ k.
     let k₁ = λ (e : ExprTree). block (λ a. otherwise (λ b. k (conditional c.args.place e a b))) in
     let k₂ = λ (a : BlockTree). otherwise (λ b. k (conditional c.args.place (expr_tree c.in_ok-condition.condition) a b)) in
     let k₃ = λ (b : BlockTree). k (conditional c.args.place (expr_tree c.in_ok-condition.condition) (block_tree c.in_ok-accepted.accepted.items) b) in
-    c.in_ok-expect.ensures.leads (λ _. ended wanted.CloseRound k₁)
+    c.in_ok-expect.ensures.leads (λ _. ended (token.Sign sign.CloseRound) k₁)
     ∙ c.in_ok-condition.ensures.leads k₁
     ∙ c.in_ok-accepted.ensures.leads k₂
     ∙ c.in_ok-otherwise.ensures.leads k₃
@@ -29,11 +31,11 @@ conditional-returns-clause-leads t c = λ k.
 pub counted-returns-clause-leads : goal.counted-returns-clause-leads
 counted-returns-clause-leads t c = λ k.
     let made = λ (t : Lexeme) (low high : ExprTree) (b : BlockTree). k (loop c.args.place t.place t.text low high b) in
-    let k₂ = λ (t : Lexeme) (low : ExprTree). ended wanted.CloseRound (λ high. block (made t low high)) in
+    let k₂ = λ (t : Lexeme) (low : ExprTree). ended (token.Sign sign.CloseRound) (λ high. block (made t low high)) in
     let name = lexeme c.in_ok-name.name in
     let low = expr_tree c.in_ok-low.low in
     let high = expr_tree c.in_ok-high.high in
-    c.in_ok-name.ensures.leads (λ t. ended wanted.To (k₂ t))
+    c.in_ok-name.ensures.leads (λ t. ended (token.Keyword keyword.To) (k₂ t))
     ∙ c.in_ok-low.ensures.leads (k₂ name)
     ∙ c.in_ok-high.ensures.leads (λ high. block (made name low high))
     ∙ c.in_ok-body.ensures.leads (made name low high)
@@ -42,7 +44,7 @@ counted-returns-clause-leads t c = λ k.
 pub otherwise-returns-in_err-takes-clause-leads : goal.otherwise-returns-in_err-takes-clause-leads
 otherwise-returns-in_err-takes-clause-leads t c = λ k.
     let h = c.in_err-takes.ensures.leads (λ _. after_else k) (k nothing) in
-    passed-after (otherwise k) (either wanted.Else (λ _. after_else k) (k nothing)) (λ ss. k (block_tree ss.items)) c.from_residual.result c.in_err-takes.field-0.0 c.args.self.now c.args.self.now c.takes.new.self c.from_residual.ensures.1 (ahead-otherwise k c.args.self.now) h
+    passed-after (otherwise k) (either (token.Keyword keyword.Else) (λ _. after_else k) (k nothing)) (λ ss. k (block_tree ss.items)) c.from_residual.result c.in_err-takes.field-0.0 c.args.self.now c.args.self.now c.takes.new.self c.from_residual.ensures.1 (ahead-otherwise k c.args.self.now) h
 
 pub otherwise-returns-in-Some-clause-leads : goal.otherwise-returns-in-Some-clause-leads
 otherwise-returns-in-Some-clause-leads t c = λ k.

@@ -1,15 +1,15 @@
 use Rattle.std.proofs.Common.{◌≡◌, ◌∙◌, ◌++◌, ◌∷◌, [], List, map, ap, not, sym, arith}
 use Rattle.syntax.specs.declared.parser.Parser.{Parser}
-use Rattle.syntax.specs.declared.parser.wanted.Wanted.{Wanted}
 use Rattle.language.specs.declared.tree.Expr.{Expr}
 use Rattle.syntax.specs.private.Machine.{State, some_exprs, more_exprs, one}
 use Rattle.syntax.specs.private.ParserViews.{ahead}
 use Rattle.language.specs.Tree.{ExprTree, expr_tree}
 use Rattle.syntax.proofs.ParserSteps.{passed-after, some-taken, none-taken, ahead-exprs, further, after_exprs, map-push}
 use Rattle.syntax.proofs.parser.Parser.expressions.Goals as goal
+use Rattle.syntax.specs.declared.token.TokenKind.{TokenKind}
 
 -- one expression more
-more : (end : Wanted) (old now next : Parser) (items new : List Expr) (e : Expr) (k : List ExprTree → State)
+more : (end : TokenKind) (old now next : Parser) (items new : List Expr) (e : Expr) (k : List ExprTree → State)
     → ahead (some_exprs end k) old ≡ ahead (further end (map expr_tree items) k) now
     → ahead (further end (map expr_tree items) k) now ≡ ahead (more_exprs end (map expr_tree items ++ expr_tree e ∷ []) k) next
     → new ≡ items ++ e ∷ [] → ahead (some_exprs end k) old ≡ ahead (after_exprs end (map expr_tree new) k) next

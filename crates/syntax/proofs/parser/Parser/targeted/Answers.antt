@@ -1,14 +1,15 @@
 use Rattle.std.proofs.Common.{◌≡◌, ◌∙◌, None, rules}
-use Rattle.syntax.specs.declared.parser.wanted.Wanted.TheVariants as wanted
 use Rattle.syntax.specs.Lexeme.{Lexeme, lexeme}
 use Rattle.syntax.specs.private.Machine.{State, targeted, assigned, element_assigned, called_alone, either}
 use Rattle.language.specs.Tree.{StatementTree, statement_tree}
 use Rattle.syntax.proofs.ParserSteps.{leads-after, after-taken, after-none}
 use Rattle.syntax.proofs.parser.Parser.targeted.Goals as goal
+use Rattle.syntax.specs.declared.token.TokenKind.TheVariants as token
+use Rattle.syntax.specs.declared.token.Sign.TheVariants as sign
 
 -- what may follow a name but `=`
 abbrev others : Lexeme → (StatementTree → State) → State
-others t k = either wanted.OpenSquare (λ opening. element_assigned t opening.place k) (called_alone t k)
+others t k = either (token.Sign sign.OpenSquare) (λ opening. element_assigned t opening.place k) (called_alone t k)
 
 pub returns-in-Some-clause-leads : goal.returns-in-Some-clause-leads
 returns-in-Some-clause-leads c = λ k.

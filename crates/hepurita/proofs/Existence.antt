@@ -1,0 +1,46 @@
+-- Each text has a judgement.
+use Rattle.std.proofs.Common.{◌≡◌, ℕ, List, [], length, Option, None, Some, fold, ⊎_elim, refl}
+use Rattle.coverage.specs.Earliest.{sooner}
+use Rattle.coverage.specs.NotCompiled.{IsCompiledYet, uncompiled}
+use Rattle.coverage.proofs.EarliestLemmas.{IsKept, earliest_kept}
+use Rattle.grammar_laws.proofs.Existence.{answer_to}
+use Rattle.labels.proofs.ExportLemmas.{Export, has_export}
+use Rattle.labels.proofs.SoonerLemmas.{first_of}
+use Rattle.word.specs.declared.place.Place.{Place}
+use Rattle.language.specs.declared.rule.Rule.TheVariants.{NotCompiledYet}
+use Rattle.language.specs.Meaning.{exported}
+use Rattle.language.specs.Size.{size_violations}
+use Rattle.language.specs.Tree.{ProgramTree}
+use Rattle.language.specs.Typing.{violations}
+use Rattle.syntax.specs.Reading.{Answer, Reads, accepted, refused}
+use Rattle.hepurita.specs.Built.{Judgement, Judges, JudgesProgram, accepts, refuses, not_compiled_yet, ill_typed, too_large, fine, unreadable, readable}
+
+module _ (program : ProgramTree) where
+  abbrev Judged : Type 0
+  Judged = (judgement : Judgement) × JudgesProgram program judgement
+
+  by_export : IsCompiledYet program → length (violations program) ≡ 0 → (found : Export) → exported [] program.procedures ≡ found → Judged
+  by_export compiled typed None is = absurd (has_export program typed is)
+  by_export compiled typed (Some (before, export)) is =
+      ⊎_elim
+      (λ small. (accepts program export, fine compiled typed is small))
+      (λ first. (refuses first.0.rule first.0.place, too_large compiled typed is first.1))
+      (first_of (size_violations export))
+
+  by_place : (found : Option Place) → IsKept (uncompiled program) found → Judged
+  by_place (Some place) earliest = (refuses NotCompiledYet place, not_compiled_yet earliest)
+  by_place None compiled =
+      ⊎_elim
+      (λ typed. by_export compiled typed (exported [] program.procedures) refl)
+      (λ first. (refuses first.0.rule first.0.place, ill_typed compiled first.1))
+      (first_of (violations program))
+
+  judged_program : Judged
+  judged_program = by_place (fold sooner None (uncompiled program)) (earliest_kept (uncompiled program) (fold sooner None (uncompiled program)) refl)
+
+by_answer : (text : List ℕ) (answer : Answer) → Reads text answer → (judgement : Judgement) × Judges text judgement
+by_answer text (accepted program) reads = let judged = judged_program program in (judged.0, readable reads judged.1)
+by_answer text (refused rule place) reads = (refuses rule place, unreadable reads)
+
+pub each_judged : (text : List ℕ) → (judgement : Judgement) × Judges text judgement
+each_judged text = let answer = answer_to text in by_answer text answer.0 answer.1

@@ -1,0 +1,21 @@
+-- A turn is an instruction's, or that of a word that is none.
+use Rattle.std.proofs.Common.{Some, ap, subst, ◌∙◌}
+use Rattle.rv_machine.specs.declared.code.CodeWord.TheVariants.{Instruction, Other}
+use Rattle.rv_machine.specs.Decoded.{spelled, IsDecoded}
+use Rattle.rv_machine.specs.Effects.{effect_of}
+use Rattle.rv_machine.specs.Harts.{state_of}
+use Rattle.rv_machine.specs.Machine.{ending_of, no_instruction, executes}
+use Rattle.rv_machine.proofs.plans.plan_of.Goals as goal
+
+pub returns-in-Instruction-clause-turn : goal.returns-in-Instruction-clause-turn
+returns-in-Instruction-clause-turn g c = λ code even there decoded.
+    let s = state_of c.args.hart.now (g.M.Memory.bytes c.args.memory.now) in
+    let i = c.in-Instruction.instr in
+    let ok : IsDecoded (Instruction i) = subst IsDecoded c.in-Instruction.is decoded in
+    executes i even (there ∙ ap (λ w. Some (spelled w)) c.in-Instruction.is) ok
+    (c.effect_plan.ensures.ends ∙ ap (λ e. ending_of e s) {y = effect_of i s.pc s.regs} c.effect_of.ensures)
+
+pub returns-in-Other-clause-turn : goal.returns-in-Other-clause-turn
+returns-in-Other-clause-turn g c = λ code even there decoded.
+    let none : IsDecoded (Other c.in-Other.field-0) = subst IsDecoded c.in-Other.is decoded in
+    no_instruction even (there ∙ ap (λ w. Some (spelled w)) c.in-Other.is) none

@@ -1,0 +1,32 @@
+-- What is shown after a turn follows what the turn shows.
+use Rattle.std.proofs.Common.{◌≡◌, ◌-◌, suc, true, is_some, cond, List, sym, ap, subst, ◌∙◌, arith}
+use Rattle.std.specs.Prelude.{slice_get}
+use Rattle.rv_machine.specs.declared.observation.Observation.{Observation}
+use Rattle.rv_machine.specs.Harts.{state_of}
+use Rattle.rv_machine.specs.Leakage.{IsShown, followed_by}
+use Rattle.rv_machine.specs.Recording.{kept}
+use Rattle.rv_machine.specs.Regions.{code_of}
+use Rattle.rv_machine.proofs.Shown.{turn_shows}
+use Rattle.rv_machine.proofs.running.Running.turn.Goals.{then-is_some, else-is_some}
+use Rattle.rv_machine.proofs.running.Running.turn.Goals as goal
+
+pub returns-clause-shown : goal.returns-clause-shown
+returns-clause-shown g c = λ rest shown.
+    let code = code_of c.args.code.now in
+    let begun = c.args.self.now in
+    let s = state_of begun.hart (g.M.Memory.bytes begun.memory) in
+    let t = state_of c.step-stop.new.hart (g.M.Memory.bytes c.step-stop.new.memory) in
+    let left = begun.turns_left - 1 in
+    let more : suc left ≡ begun.turns_left = omega arith in
+    let turn = c.step-stop.ensures.turn in
+    let seen = turn.2.0 in
+    let list = turn.2.2 ∙ ap (λ (xs : List Observation). kept true xs seen) c.new-recorder.ensures.empty in
+    let first = c.first.ensures ∙ ap (λ (xs : List Observation). slice_get xs 0) list in
+    let is : c.if-is_some.self ≡ cond (is_some c.step-stop.result) 0 left =
+    elim c.if-is_some.branch [
+      | then-is_some w ↦ w.self-is ∙ sym (ap (λ b. cond b 0 left) (sym c.is_some.ensures ∙ w.if-is_some.true))
+      | else-is_some w ↦ w.self-is ∙ sym (ap (λ b. cond b 0 left) (sym c.is_some.ensures ∙ w.if-is_some.false))
+    ] in
+    subst (λ n. IsShown code n s (followed_by c.first.result rest)) more
+    (subst (λ o. IsShown code (suc left) s (followed_by o rest)) (sym first)
+    (turn_shows code left c.if-is_some.self s t turn.0 c.step-stop.result seen turn.1 turn.2.1 (c.step-stop.ensures.ready 0 c.new-recorder.ensures.ready) is rest shown))

@@ -1,0 +1,167 @@
+// What a turn shows and changes, before the recorder has its say.
+
+ghost use Rattle.std.specs.Prelude.{◌≡◌, ◌≢◌, ℕ, ◌%◌, Some, None};
+ghost use Rattle.rv_machine.specs.Bytes.{ByteMap};
+ghost use Rattle.rv_machine.specs.Decoded.{spelled, IsDecoded};
+ghost use Rattle.rv_machine.specs.Harts.{state_of};
+ghost use Rattle.rv_machine.specs.Machine.{State, Code, Turn, word_at, ending_of};
+ghost use Rattle.rv_machine.specs.Plans.{ends_as, stop_of, IsPossible};
+
+use crate::code::CodeWord;
+use crate::effects::{Effect, effect_of};
+use crate::hart::Hart;
+use crate::memory::{Memory, Size};
+use crate::observation::Event;
+use crate::stops::Stop;
+use crate::values::{load_size, loaded_value, store_size};
+use rv_code::{LoadOperation, Reg, StoreOperation};
+
+/// What a turn changes, where the recorder takes what it shows.
+#[derive(Clone, Copy, Debug, PartialEq, Eq)]
+pub enum Change {
+    /// The register gets this value, and the hart goes on to the next instruction.
+    Writes(Reg, u32),
+    /// The register gets the next address, and the program counter this target.
+    Links(Reg, u32),
+    /// The program counter gets this target.
+    Goes(u32),
+    /// So many bytes of the last number go to this address, and the hart goes on to the next
+    /// instruction.
+    Stores(Size, u32, u32),
+    /// Nothing, and the run stops so.
+    Stops(Stop),
+}
+
+/// What a turn shows besides its program counter, and what it changes.
+#[derive(Clone, Copy, Debug, PartialEq, Eq)]
+pub struct Plan {
+    pub event: Option<Event>,
+    pub change: Change,
+}
+
+/// The plan of a load.
+fn load_plan<M: Memory>(memory: &M, operation: LoadOperation, rd: Reg, a: u32) -> Plan
+    ensures ends { (pc : ℕ) (regs : ℕ → ℕ) → let s : State = record { pc = pc; regs = regs; bytes = M.bytes memory.now } in
+        ends_as result.event result.change s ≡ ending_of (Effect.Loads operation rd a) s }
+    ensures possible { IsPossible (M.bytes memory.now) result.change }
+    ensures calm { stop_of result.change ≢ Some Stop.RecorderRefused }
+{
+    let size = load_size(operation);
+    if a % size.bytes() != 0 {
+        return Plan {
+            event: None,
+            change: Change::Stops(Stop::Misaligned),
+        };
+    }
+    let Some(value) = memory.load(a, size) else {
+        return Plan {
+            event: None,
+            change: Change::Stops(Stop::AccessFault),
+        };
+    };
+    Plan {
+        event: Some(Event::Load(a, size)),
+        change: Change::Writes(rd, loaded_value(operation, value)),
+    }
+}
+
+/// The plan of a store.
+fn store_plan<M: Memory>(memory: &M, operation: StoreOperation, a: u32, value: u32) -> Plan
+    ensures ends { (pc : ℕ) (regs : ℕ → ℕ) → let s : State = record { pc = pc; regs = regs; bytes = M.bytes memory.now } in
+        ends_as result.event result.change s ≡ ending_of (Effect.Stores operation a value) s }
+    ensures possible { IsPossible (M.bytes memory.now) result.change }
+    ensures calm { stop_of result.change ≢ Some Stop.RecorderRefused }
+{
+    let size = store_size(operation);
+    if a % size.bytes() != 0 {
+        return Plan {
+            event: None,
+            change: Change::Stops(Stop::Misaligned),
+        };
+    }
+    if memory.load(a, size).is_none() {
+        return Plan {
+            event: None,
+            change: Change::Stops(Stop::AccessFault),
+        };
+    }
+    Plan {
+        event: Some(Event::Store(a, size)),
+        change: Change::Stores(size, a, value),
+    }
+}
+
+/// The plan of a jump or a taken branch, whose target has to be a multiple of 4.
+fn arriving(target: u32, change: Change) -> Plan
+    requires { stop_of change ≡ None }
+    ensures arrives { target % 4 ≡ 0 → result ≡ record { event = None; change = change } }
+    ensures misaligned { target % 4 ≢ 0 → result ≡ record { event = None; change = Change.Stops Stop.Misaligned } }
+    ensures possible { (bytes : ByteMap) → IsPossible bytes change → IsPossible bytes result.change }
+    ensures calm { stop_of result.change ≢ Some Stop.RecorderRefused }
+{
+    if target % 4 == 0 {
+        Plan {
+            event: None,
+            change,
+        }
+    } else {
+        Plan {
+            event: None,
+            change: Change::Stops(Stop::Misaligned),
+        }
+    }
+}
+
+/// The plan of an instruction that does this.
+#[inline(always)]
+fn effect_plan<M: Memory>(hart: &Hart, effect: Effect, memory: &M) -> Plan
+    ensures ends { let s = state_of hart.now (M.bytes memory.now) in
+        ends_as result.event result.change s ≡ ending_of effect s }
+    ensures possible { IsPossible (M.bytes memory.now) result.change }
+    ensures calm { stop_of result.change ≢ Some Stop.RecorderRefused }
+{
+    match effect {
+        Effect::Computes(rd, value) => Plan {
+            event: None,
+            change: Change::Writes(rd, value),
+        },
+        Effect::Divides(rd, a, b, value) => Plan {
+            event: Some(Event::Div(a, b)),
+            change: Change::Writes(rd, value),
+        },
+        Effect::Jumps(rd, target) => arriving(target, Change::Links(rd, target)),
+        Effect::Branches(target) => arriving(target, Change::Goes(target)),
+        Effect::Passes => Plan {
+            event: None,
+            change: Change::Goes(hart.next()),
+        },
+        Effect::Loads(operation, rd, a) => load_plan(memory, operation, rd, a),
+        Effect::Stores(operation, a, value) => store_plan(memory, operation, a, value),
+        Effect::Calls => Plan {
+            event: None,
+            change: Change::Stops(Stop::Ecall),
+        },
+        Effect::Breaks => Plan {
+            event: None,
+            change: Change::Stops(Stop::Break),
+        },
+    }
+}
+
+/// The plan of a turn, where this code word stands at the hart's program counter.
+#[inline(always)]
+pub(crate) fn plan_of<M: Memory>(hart: &Hart, word: CodeWord, memory: &M) -> Plan
+    ensures turn { (code : Code) → let s = state_of hart.now (M.bytes memory.now) in
+        s.pc % 4 ≡ 0 → word_at code s.pc ≡ Some (spelled word) → IsDecoded word
+        → Turn code s (ends_as result.event result.change s) }
+    ensures possible { IsPossible (M.bytes memory.now) result.change }
+    ensures calm { stop_of result.change ≢ Some Stop.RecorderRefused }
+{
+    match word {
+        CodeWord::Instruction(instr) => effect_plan(hart, effect_of(hart, instr), memory),
+        CodeWord::Other(_) => Plan {
+            event: None,
+            change: Change::Stops(Stop::Illegal),
+        },
+    }
+}
