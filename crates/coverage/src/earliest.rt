@@ -1,6 +1,5 @@
 ghost use Rattle.std.specs.Prelude.{◌≡◌, [], ◌∷◌, fold};
 ghost use Rattle.coverage.specs.Earliest.{sooner};
-ghost use Rattle.coverage.specs.NotCompiled.{place_if};
 
 use language::Place;
 
@@ -18,15 +17,6 @@ impl Earliest {
         match self.seen {
             Some(seen) if place.offset >= seen.offset => {}
             _ => self.seen = Some(place),
-        }
-    }
-
-    /// Notes a place, where this holds.
-    pub fn note_if(&mut self, holds: bool, place: Place)
-        ensures { self.new.seen ≡ fold sooner self.old.seen (place_if holds place) }
-    {
-        if holds {
-            self.note(place);
         }
     }
 }

@@ -5,8 +5,6 @@
 #![tactic(auto)]
 
 mod earliest;
-mod expressions;
-mod forms;
 mod laws;
 mod procedures;
 mod statements;

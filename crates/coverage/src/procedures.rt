@@ -1,33 +1,11 @@
 ghost use Rattle.std.specs.Prelude.{◌≡◌, fold, map, MatchOption};
-ghost use Rattle.language.specs.Tree.{parameter_tree, procedure_tree, program_tree};
+ghost use Rattle.language.specs.Tree.{procedure_tree, program_tree};
 ghost use Rattle.coverage.specs.Earliest.{IsEarliest, sooner};
-ghost use Rattle.coverage.specs.NotCompiled.{IsCompiledYet, uncompiled, uncompiled_further, uncompiled_parameters, uncompiled_procedure};
+ghost use Rattle.coverage.specs.NotCompiled.{IsCompiledYet, uncompiled, uncompiled_further};
 
 use crate::earliest::Earliest;
-use crate::expressions::note_expr;
-use crate::forms::is_array_form;
 use crate::statements::note_statements;
-use language::{Parameter, Place, Procedure, Program};
-
-/// Notes the parameters that are not compiled.
-fn note_parameters(earliest: &mut Earliest, parameters: &[Parameter<'_>])
-    ensures { earliest.new.seen ≡ fold sooner earliest.old.seen (uncompiled_parameters (map parameter_tree parameters.now)) }
-{
-    for parameter in parameters {
-        earliest.note_if(is_array_form(parameter.form), parameter.place);
-    }
-}
-
-/// Notes what is not compiled of a procedure.
-fn note_procedure(earliest: &mut Earliest, procedure: &Procedure<'_>)
-    ensures { earliest.new.seen ≡ fold sooner earliest.old.seen (uncompiled_procedure (procedure_tree procedure.now)) }
-{
-    note_parameters(earliest, procedure.parameters.as_slice());
-    note_statements(earliest, false, procedure.body.as_slice());
-    if let Some(returned) = &procedure.returned {
-        note_expr(earliest, &returned.value);
-    }
-}
+use language::{Place, Procedure, Program};
 
 /// Notes procedures after the first, and what is not compiled of them.
 fn note_further(earliest: &mut Earliest, procedures: &[Procedure<'_>])
@@ -35,7 +13,7 @@ fn note_further(earliest: &mut Earliest, procedures: &[Procedure<'_>])
 {
     for procedure in procedures {
         earliest.note(procedure.place);
-        note_procedure(earliest, procedure);
+        note_statements(earliest, procedure.body.as_slice());
     }
 }
 
@@ -45,7 +23,7 @@ pub fn first_uncompiled(program: &Program<'_>) -> Option<Place>
 {
     let mut earliest = Earliest { seen: None };
     if let Some((first, further)) = program.procedures.as_slice().split_first() {
-        note_procedure(&mut earliest, first);
+        note_statements(&mut earliest, first.body.as_slice());
         note_further(&mut earliest, further);
     }
     earliest.seen

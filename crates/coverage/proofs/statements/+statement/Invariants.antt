@@ -7,7 +7,4 @@ use Rattle.coverage.proofs.statements.+statement.Given as goal
 -- what is left of the statements leads to the same place as all of them
 abbrev pub invariant-note_statements-loop-one : goal.invariant-note_statements-loop-one
 invariant-note_statements-loop-one l =
-    record {
-      earliest : fold sooner l.earliest.seen (uncompiled_block l.in_arm (block_tree (drop l.one-index l.statements))) ≡ fold sooner l.fn.earliest.seen (uncompiled_block l.fn.in_arm (block_tree l.fn.statements));
-      in_arm : l.in_arm ≡ l.fn.in_arm;
-    }
+    fold sooner l.earliest.seen (uncompiled_block (block_tree (drop l.one-index l.statements))) ≡ fold sooner l.fn.earliest.seen (uncompiled_block (block_tree l.fn.statements))
