@@ -4,28 +4,48 @@ use Rattle.coverage.specs.Earliest.{sooner}
 use Rattle.coverage.specs.NotCompiled.{IsCompiledYet, uncompiled}
 use Rattle.coverage.proofs.EarliestLemmas.{IsKept, earliest_kept}
 use Rattle.grammar_laws.proofs.Existence.{answer_to}
+use Rattle.inline.specs.Numbering.{flattened}
+use Rattle.intervals.specs.Ranges.{range_violations}
+use Rattle.intervals.specs.Work.{work_violations}
 use Rattle.labels.proofs.ExportLemmas.{Export, has_export}
 use Rattle.labels.proofs.SoonerLemmas.{first_of}
 use Rattle.word.specs.declared.place.Place.{Place}
 use Rattle.language.specs.declared.rule.Rule.TheVariants.{NotCompiledYet}
 use Rattle.language.specs.Meaning.{exported}
 use Rattle.language.specs.Size.{size_violations}
-use Rattle.language.specs.Tree.{ProgramTree}
+use Rattle.language.specs.Tree.{ProcedureTree, ProgramTree}
 use Rattle.language.specs.Typing.{violations}
 use Rattle.syntax.specs.Reading.{Answer, Reads, accepted, refused}
-use Rattle.hepurita.specs.Built.{Judgement, Judges, JudgesProgram, accepts, refuses, not_compiled_yet, ill_typed, too_large, fine, unreadable, readable}
+use Rattle.hepurita.specs.Built.{Judgement, IsWellFormed, IsSmall, Judges, JudgesProgram, accepts, refuses, not_compiled_yet, ill_typed, too_large, out_of_range, too_much_work, fine, unreadable, readable}
 
 module _ (program : ProgramTree) where
   abbrev Judged : Type 0
   Judged = (judgement : Judgement) × JudgesProgram program judgement
 
+  by_work : (export : ProcedureTree) → IsSmall program export → length (range_violations (flattened export)) ≡ 0 → Judged
+  by_work export small in_range =
+      ⊎_elim
+      (λ in_time. (accepts program export, fine small in_range in_time))
+      (λ first. (refuses first.0.rule first.0.place, too_much_work small in_range first.1))
+      (first_of (work_violations (flattened export)))
+
+  by_range : (export : ProcedureTree) → IsSmall program export → Judged
+  by_range export small =
+      ⊎_elim
+      (λ in_range. by_work export small in_range)
+      (λ first. (refuses first.0.rule first.0.place, out_of_range small first.1))
+      (first_of (range_violations (flattened export)))
+
+  by_size : (export : ProcedureTree) → IsWellFormed program export → Judged
+  by_size export is =
+      ⊎_elim
+      (λ small. by_range export (record { well_formed = is; sized = small }))
+      (λ first. (refuses first.0.rule first.0.place, too_large is first.1))
+      (first_of (size_violations export))
+
   by_export : IsCompiledYet program → length (violations program) ≡ 0 → (found : Export) → exported [] program.procedures ≡ found → Judged
   by_export compiled typed None is = absurd (has_export program typed is)
-  by_export compiled typed (Some (before, export)) is =
-      ⊎_elim
-      (λ small. (accepts program export, fine compiled typed is small))
-      (λ first. (refuses first.0.rule first.0.place, too_large compiled typed is first.1))
-      (first_of (size_violations export))
+  by_export compiled typed (Some (before, export)) is = by_size export (record { before = before; compiled = compiled; typed = typed; is_export = is })
 
   by_place : (found : Option Place) → IsKept (uncompiled program) found → Judged
   by_place (Some place) earliest = (refuses NotCompiledYet place, not_compiled_yet earliest)

@@ -13,3 +13,5 @@ pub mod TheoremLemmas
 pub mod AnswerLemmas
 pub mod BaseLemmas
 pub mod Compiler
+pub mod RangePlaces
+pub mod WithoutCalls

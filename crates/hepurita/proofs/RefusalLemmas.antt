@@ -1,5 +1,5 @@
 -- A text is refused for one rule at one place.
-use Rattle.std.proofs.Common.{◌≡◌, inl, inr, ℕ, zero, suc, ◌≤◌, List, [], ◌∷◌, refl, ap, sym, subst, ◌∙◌, arith}
+use Rattle.std.proofs.Common.{◌≡◌, inl, inr, ℕ, zero, suc, ◌≤◌, List, [], ◌∷◌, length, refl, ap, sym, subst, ◌∙◌, arith}
 use Rattle.std.proofs.lemmas.List.Elements.{All-contains}
 use Rattle.coverage.specs.Earliest.{IsEarliest}
 use Rattle.word.specs.declared.place.Place.{Place}
@@ -7,15 +7,17 @@ use Rattle.language.specs.declared.rule.Rule.{Rule}
 use Rattle.language.specs.declared.rule.Rule.TheVariants.{UnknownCharacter, BadNumber, UnexpectedToken, Nesting, TextTooLong, UndeclaredName, NameDeclaredTwice, ProcedureNotDeclaredEarlier, NotExactlyOneExport, WidthsDiffer, WrongKind, LiteralOutOfRange, ArgumentCount, ArrayShapeOrLabel, NotMutable, ReturnMismatch, ArrayPassedTwice, InitialiserCount, SecretToPublic, PublicAssignedUnderSecretControl, SecretIndex, SecretBound, SecretDivisionOperand, CallAssignsPublicUnderSecretControl, InlinedSize, DeclaredBytes, IndexOutOfRange, DivisorMayBeZero, TooMuchWork, OutOfMemory, NotCompiledYet}
 use Rattle.language.specs.declared.typing.Violation.{Violation}
 use Rattle.language.specs.FirstViolation.{IsFirst, IsNoLaterThan}
-use Rattle.language.specs.Meaning.{exported}
+use Rattle.inline.specs.Numbering.{flattened}
+use Rattle.intervals.specs.Ranges.{range_violations}
+use Rattle.intervals.specs.Work.{work_violations}
 use Rattle.language.specs.Rules.{rank_of}
 use Rattle.language.specs.Size.{size_violations}
 use Rattle.language.specs.Tree.{ProcedureTree, ProgramTree}
 use Rattle.syntax.specs.Reading.{Reads, accepted, refused, OneAnswer}
-use Rattle.hepurita.specs.Built.{Judges, JudgesProgram, refuses, not_compiled_yet, ill_typed, too_large, unreadable, readable}
+use Rattle.hepurita.specs.Built.{Judges, JudgesProgram, refuses, not_compiled_yet, ill_typed, too_large, out_of_range, too_much_work, unreadable, readable}
 use Rattle.grammar_laws.proofs.HeadPlaces.{one_place}
 use Rattle.hepurita.proofs.PlaceLemmas.{refused_in_place}
-use Rattle.hepurita.proofs.JudgementLemmas.{none, nowhere, exports_agree}
+use Rattle.hepurita.proofs.JudgementLemmas.{none, nowhere, of_same}
 
 -- one rule, at one offset
 abbrev AreAlike : Rule → Place → Rule → Place → Type 0
@@ -100,8 +102,8 @@ of_program program rule rule' place place' (ill_typed compiled first) (out_of_ra
 of_program program rule rule' place place' (ill_typed compiled first) (too_much_work {export = other} small' in_range' first') = absurd (none _ _ small'.well_formed.typed first.there)
 of_program program rule rule' place place' (too_large {export = export} is first) (not_compiled_yet first') = absurd (nowhere _ _ is.compiled first'.there)
 of_program program rule rule' place place' (too_large {export = export} is first) (ill_typed compiled' first') = absurd (none _ _ is.typed first'.there)
-of_program program rule rule' place place' (too_large {export = export} is first) (too_large {export = other} is' first') =
-    one_first _ _ _ first (of_same {P = λ (e : ProcedureTree). IsFirst (size_violations e) _} program other export is' is first')
+of_program program rule rule' place place' (too_large {export = export} {first = v} is first) (too_large {export = other} {first = v'} is' first') =
+    one_first _ v v' first (of_same {P = λ (e : ProcedureTree). IsFirst (size_violations e) v'} program other export is' is first')
 of_program program rule rule' place place' (too_large {export = export} is first) (out_of_range {export = other} small' first') =
     absurd (none _ _ (of_same {P = λ (e : ProcedureTree). length (size_violations e) ≡ 0} program other export small'.well_formed is small'.sized) first.there)
 of_program program rule rule' place place' (too_large {export = export} is first) (too_much_work {export = other} small' in_range' first') =
@@ -110,8 +112,8 @@ of_program program rule rule' place place' (out_of_range {export = export} small
 of_program program rule rule' place place' (out_of_range {export = export} small first) (ill_typed compiled' first') = absurd (none _ _ small.well_formed.typed first'.there)
 of_program program rule rule' place place' (out_of_range {export = export} small first) (too_large {export = other} is' first') =
     absurd (none _ _ (of_same {P = λ (e : ProcedureTree). length (size_violations e) ≡ 0} program export other small.well_formed is' small.sized) first'.there)
-of_program program rule rule' place place' (out_of_range {export = export} small first) (out_of_range {export = other} small' first') =
-    one_first _ _ _ first (of_same {P = λ (e : ProcedureTree). IsFirst (range_violations (flattened e)) _} program other export small'.well_formed small.well_formed first')
+of_program program rule rule' place place' (out_of_range {export = export} {first = v} small first) (out_of_range {export = other} {first = v'} small' first') =
+    one_first _ v v' first (of_same {P = λ (e : ProcedureTree). IsFirst (range_violations (flattened e)) v'} program other export small'.well_formed small.well_formed first')
 of_program program rule rule' place place' (out_of_range {export = export} small first) (too_much_work {export = other} small' in_range' first') =
     absurd (none _ _ (of_same {P = λ (e : ProcedureTree). length (range_violations (flattened e)) ≡ 0} program other export small'.well_formed small.well_formed in_range') first.there)
 of_program program rule rule' place place' (too_much_work {export = export} small in_range first) (not_compiled_yet first') = absurd (nowhere _ _ small.well_formed.compiled first'.there)
@@ -120,8 +122,8 @@ of_program program rule rule' place place' (too_much_work {export = export} smal
     absurd (none _ _ (of_same {P = λ (e : ProcedureTree). length (size_violations e) ≡ 0} program export other small.well_formed is' small.sized) first'.there)
 of_program program rule rule' place place' (too_much_work {export = export} small in_range first) (out_of_range {export = other} small' first') =
     absurd (none _ _ (of_same {P = λ (e : ProcedureTree). length (range_violations (flattened e)) ≡ 0} program export other small.well_formed small'.well_formed in_range) first'.there)
-of_program program rule rule' place place' (too_much_work {export = export} small in_range first) (too_much_work {export = other} small' in_range' first') =
-    one_first _ _ _ first (of_same {P = λ (e : ProcedureTree). IsFirst (work_violations (flattened e)) _} program other export small'.well_formed small.well_formed first')
+of_program program rule rule' place place' (too_much_work {export = export} {first = v} small in_range first) (too_much_work {export = other} {first = v'} small' in_range' first') =
+    one_first _ v v' first (of_same {P = λ (e : ProcedureTree). IsFirst (work_violations (flattened e)) v'} program other export small'.well_formed small.well_formed first')
 
 abbrev pub AreOne : Rule → Place → Rule → Place → Type 0
 AreOne rule place rule' place' = (rule ≡ rule') × (place ≡ place')
