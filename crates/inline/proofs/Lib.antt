@@ -9,3 +9,6 @@ pub mod States
 pub mod FlatEnds
 pub mod FlatPrograms
 pub mod FlatMeanings
+pub mod TypesKept
+pub mod Fitting
+pub mod FittingBodies

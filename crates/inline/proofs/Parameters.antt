@@ -149,7 +149,7 @@ argument_held kind FixedArray size (Array words) shape = refl
 argument_held kind MutableArray size (Word word) shape = absurd shape
 argument_held kind MutableArray size (Array words) shape = refl
 
-argument_count : (form : Form) (size : ℕ) (arg : Arg) → HasShape form size arg → length (words_of arg) ≡ numbers_in (elements_by form size)
+pub argument_count : (form : Form) (size : ℕ) (arg : Arg) → HasShape form size arg → length (words_of arg) ≡ numbers_in (elements_by form size)
 argument_count SingleWord size (Word word) shape = refl
 argument_count SingleWord size (Array words) shape = absurd shape
 argument_count FixedArray size (Word word) shape = absurd shape
