@@ -12,3 +12,4 @@ pub mod FlatMeanings
 pub mod TypesKept
 pub mod Fitting
 pub mod FittingBodies
+pub mod FlatSizes
