@@ -5,6 +5,7 @@
 mod flat;
 mod numbering;
 mod program;
+mod sizes;
 
 pub use flat::{FlatStatement, FlatVariable, Term};
 pub use program::Flat;
