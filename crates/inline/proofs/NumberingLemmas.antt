@@ -8,7 +8,7 @@ use Rattle.inline.specs.declared.flat.FlatStatement.{FlatStatement, Branch, Loop
 use Rattle.inline.specs.declared.flat.Term.{Term}
 use Rattle.inline.specs.declared.numbering.Numbered.{Numbered}
 use Rattle.inline.specs.declared.flat.FlatVariable.{FlatVariable}
-use Rattle.inline.specs.Flat.{FlatBlock, nothing, first, branch, loop, flat_block, flat_tree, term_tree, word_as, array_as}
+use Rattle.inline.specs.Flat.{FlatBlock, nothing, first, flat_block, flat_tree, term_tree, word_as, array_as}
 use Rattle.inline.specs.FlatTyping.{counter_type}
 use Rattle.language.specs.declared.signature.Label.{Label}
 use Rattle.language.specs.declared.tree.Counter.{Counter}

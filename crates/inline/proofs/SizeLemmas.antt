@@ -1,6 +1,5 @@
 -- Sizes of trees, and which limit is named.
-use Rattle.std.proofs.Common.{◌≡◌, ℕ, ◌+◌, ◌-◌, ◌<◌, ◌≤◌, inr, Bool, true, false, nat_lt, [], ◌∷◌, ◌++◌, List, length, Option, Some, None, Vec, Global, refl, sym, ap, subst, ◌∙◌, arith}
-use Rattle.std.specs.List.{AllByRecursion}
+use Rattle.std.proofs.Common.{◌≡◌, ℕ, ◌+◌, ◌-◌, ◌<◌, ◌≤◌, inr, Bool, true, false, nat_lt, [], ◌∷◌, ◌++◌, Option, Some, None, Vec, Global, refl, sym, ap, subst, ◌∙◌, arith}
 use Rattle.std.specs.Option.{SomeIff}
 use Rattle.inline.specs.WithoutCalls.{CallsNothing, CallNothing}
 use Rattle.std.proofs.lemmas.Bool.Decides.{nat_tests}
@@ -14,8 +13,8 @@ use Rattle.language.specs.declared.tree.Statement.{Statement, If, For}
 use Rattle.language.specs.declared.typing.Violation.{Violation}
 use Rattle.language.specs.FirstViolation.{IsFirst, IsNoLaterThan}
 use Rattle.language.specs.declared.limits.TheConstants.{MOST_NODES, MOST_DECLARED_BYTES}
-use Rattle.language.specs.Size.{nodes_in, statement_nodes, block_nodes, nodes_of, statement_words, block_words, size_violations, declared_bytes, held_words, parameter_words}
-use Rattle.language.specs.Tree.{ExprTree, number, truth, name, prefix, binary, rotate, convert, select, element, StatementTree, declaration, array, assignment, element_assignment, call, conditional, loop, ProcedureTree, ParameterTree, expr_tree, statement_tree, block_tree}
+use Rattle.language.specs.Size.{nodes_in, statement_nodes, block_nodes, nodes_of, statement_words, block_words, size_violations, declared_bytes}
+use Rattle.language.specs.Tree.{ExprTree, number, truth, name, prefix, binary, rotate, convert, select, element, StatementTree, declaration, array, assignment, element_assignment, call, conditional, loop, ProcedureTree, expr_tree, statement_tree, block_tree}
 use Rattle.language.specs.Types.{at, when}
 use Rattle.language.proofs.BlockLemmas.{conditional_tree, loop_tree}
 

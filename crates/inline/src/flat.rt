@@ -1,8 +1,6 @@
 ghost use Rattle.std.specs.Prelude.{◌≡◌};
 
-use language::{
-    BinaryOperator, Form, Kind, Label, Param, Place, PrefixOperator, WordType,
-};
+use language::{BinaryOperator, Form, Kind, Label, Param, Place, PrefixOperator, WordType};
 use word::Width;
 
 /// What a variable is declared as: its type, or that of its elements where it is an array.

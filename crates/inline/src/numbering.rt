@@ -11,8 +11,8 @@ ghost use Rattle.language.specs.WellTyped.{labelled};
 
 use crate::{FlatStatement, FlatVariable, Term};
 use language::{
-    ArrayDeclaration, ElementAssignment, Expr, Kind, Label, Param, Parameter,
-    RightSide, Statement, WordType,
+    ArrayDeclaration, ElementAssignment, Expr, Kind, Label, Param, Parameter, RightSide, Statement,
+    WordType,
 };
 use names::Names;
 use std::alloc::{AllocError, Global};
@@ -75,11 +75,7 @@ impl<'a> Numbering<'a> {
     }
 
     /// Gives a name the next number. More variables than there are numbers are more than memory holds.
-    fn declare(
-        &mut self,
-        name: &'a str,
-        declaration: FlatVariable,
-    ) -> Result<u32, AllocError>
+    fn declare(&mut self, name: &'a str, declaration: FlatVariable) -> Result<u32, AllocError>
         ensures number { IfOk result (λ number. number ≡ length self.old.declared.items) }
         ensures names { OnOk result (self.new.names ≡ numbered.naming self.old.names name.now (length self.old.declared.items) declaration) }
         ensures declared { OnOk result (self.new.declared.items ≡ self.old.declared.items ++ declaration ∷ []) }
@@ -88,7 +84,13 @@ impl<'a> Numbering<'a> {
             return Err(AllocError);
         };
         self.declared.push(declaration)?;
-        self.names.declare(name, Numbered { number, declaration })?;
+        self.names.declare(
+            name,
+            Numbered {
+                number,
+                declaration,
+            },
+        )?;
         Ok(number)
     }
 

@@ -4,8 +4,7 @@ use Rattle.inline.proofs.NumberingLemmas.{joined, joined_nothing, more_declared,
 use Rattle.inline.proofs.SizeLemmas.{conditional_calm, loop_calm}
 use Rattle.inline.proofs.numbering.Numbering.+numbering.Goals as goal
 use Rattle.language.specs.declared.tree.Statement.{the_lemmas}
-use Rattle.inline.specs.Flat.{flat_block, word_as}
-use Rattle.inline.specs.FlatTyping.{counter_type}
+use Rattle.inline.specs.Flat.{flat_block}
 use Rattle.inline.specs.Numbering.{block, names_after_all, declared_in_all}
 use Rattle.inline.specs.WithoutCalls.{CallNothing}
 use Rattle.language.specs.Tree.{block_tree, statement_tree}
