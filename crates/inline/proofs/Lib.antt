@@ -1,18 +1,18 @@
-mod NumberingLemmas
-mod RowLemmas
-mod SizeLemmas
 pub mod Lookup
 pub mod Linked
+pub mod Comes
 pub mod Terms
+pub mod Listed
 pub mod FlatTypes
-pub mod ParameterNames
-pub mod FlatPrograms
-pub mod TypesKept
+pub mod Parameters
+pub mod States
 pub mod FlatEnds
+pub mod FlatPrograms
 pub mod FlatMeanings
-pub mod PublicTerms
-pub mod PublicValues
-pub mod PublicResults
+pub mod TypesKept
 pub mod Fitting
 pub mod FittingBodies
 pub mod FlatSizes
+mod SizeLemmas
+mod RowLemmas
+mod NumberingLemmas

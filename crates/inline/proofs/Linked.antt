@@ -1,38 +1,43 @@
 -- Names, their types and their numbers, as they go together.
-use Rattle.std.proofs.Common.{◌≡◌, ℕ, ◌+◌, ◌<◌, ◌≤◌, Bool, true, false, if◌then◌else◌, List, Option, Some, None, unwrap_or, refl, sym, ap, ◌∙◌, arith, eq-eqb, ne_eqb}
+use Rattle.std.proofs.Common.{◌≡◌, ℕ, ◌+◌, ◌<◌, ◌≤◌, Bool, true, false, if◌then◌else◌, List, Option, Some, None, unwrap_or, refl, sym, ap, ap₂, ◌∙◌, subst, arith, eq-eqb, ne_eqb}
 use Rattle.std.proofs.lemmas.Option.{none-some, same_Some}
 use Rattle.std.specs.Str.{bytes_eq}
 use lib.Pointwise.{bytes_decides}
+use Rattle.inline.specs.declared.flat.FlatVariable.{FlatVariable}
 use Rattle.inline.specs.declared.numbering.Numbered.{Numbered}
-use Rattle.inline.specs.FlatTyping.{Types, with_type}
-use Rattle.inline.specs.Numbering.{Numbers, number_of, numbered}
+use Rattle.inline.specs.Flat.{word_as, array_as}
+use Rattle.inline.specs.FlatTyping.{Types, with_type, counter_type}
+use Rattle.inline.specs.Numbering.{Numbers, numbered, naming}
 use Rattle.names.specs.Scope.{found, declared}
-use Rattle.language.specs.declared.signature.Kind.TheVariants.{Boolean}
-use Rattle.language.specs.declared.typing.ValueType.TheVariants.{Word}
+use Rattle.language.specs.declared.typing.ArrayType.{ArrayType}
+use Rattle.language.specs.declared.typing.ValueType.{ValueType}
+use Rattle.language.specs.declared.typing.ValueType.TheVariants.{Word, Array}
 use Rattle.language.specs.declared.typing.VariableType.{VariableType}
 use Rattle.language.specs.declared.typing.WordType.{WordType}
 use Rattle.language.specs.declared.typing.Declared.TheVariants.{Variable}
 use Rattle.language.specs.Types.{Scope}
+use Rattle.language.specs.WellTyped.{IsVariable}
 use Rattle.inline.proofs.Lookup.{found-new, found-other}
 
--- what stands for a variable of this number and type
-abbrev pub entry : ℕ → WordType → Numbered
-entry n word = record { number = n; kind = word.kind }
+-- what a name stands for in the scope, where it is a variable that is declared so
+abbrev pub value_as : WordType → Option ℕ → ValueType
+value_as word None = Word word
+value_as word (Some size) = Array (record { element = word; length = size })
 
--- a variable: its number, and the word that it is
+abbrev pub variable_as : FlatVariable → VariableType
+variable_as d = record { value = value_as d.word d.elements; mutable = d.mutable }
+
+-- what stands for a variable of this number, declared so
+abbrev pub entry : ℕ → FlatVariable → Numbered
+entry n d = record { number = n; declaration = d }
+
+-- a variable: its number, and what it is declared as
 pub record Known (names : Numbers) (types : Types) (text : List ℕ) (v : VariableType) : Type 0 where
   pub number : ℕ
-  pub word : WordType
-  pub numbered : found names text ≡ Some (entry number word)
-  pub is : v.value ≡ Word word
-  pub typed : types number ≡ Some word
-
--- so its name has this number, and this kind
-pub number_known : (names : Numbers) (types : Types) (text : List ℕ) (v : VariableType) (known : Known names types text v) → number_of names text ≡ known.number
-number_known names types text v known = ap (λ (o : Option Numbered). (unwrap_or {T = Numbered} o (record { number = 0; kind = Boolean })).number) known.numbered
-
-pub kind_known : (names : Numbers) (types : Types) (text : List ℕ) (v : VariableType) (known : Known names types text v) → (numbered names text).kind ≡ known.word.kind
-kind_known names types text v known = ap (λ (o : Option Numbered). (unwrap_or {T = Numbered} o (record { number = 0; kind = Boolean })).kind) known.numbered
+  pub declaration : FlatVariable
+  pub numbered : found names text ≡ Some (entry number declaration)
+  pub is : v ≡ variable_as declaration
+  pub typed : types number ≡ Some declaration
 
 -- the next number is n
 pub record Linked (scope : Scope) (names : Numbers) (types : Types) (n : ℕ) : Type 0 where
@@ -54,55 +59,53 @@ later scope names types n m more linked = record {
   fresh = λ x high. linked.fresh x (omega arith);
 }
 
-pub with_type-same : (types : Types) (n : ℕ) (word : WordType) → with_type types n word n ≡ Some word
-with_type-same types n word = ap (λ b. if b then Some word else types n) (eq-eqb n n refl)
+pub with_type-same : (types : Types) (n : ℕ) (d : FlatVariable) → with_type types n d n ≡ Some d
+with_type-same types n d = ap (λ b. if b then Some d else types n) (eq-eqb n n refl)
 
-pub with_type-other : (types : Types) (n x : ℕ) (word : WordType) → (x ≡ n → ⊥) → with_type types n word x ≡ types x
-with_type-other types n x word other = ap (λ b. if b then Some word else types x) (ne_eqb x n other)
+pub with_type-other : (types : Types) (n x : ℕ) (d : FlatVariable) → (x ≡ n → ⊥) → with_type types n d x ≡ types x
+with_type-other types n x d other = ap (λ b. if b then Some d else types x) (ne_eqb x n other)
 
 pub same_variable : (v w : VariableType) → Some (Variable v) ≡ Some (Variable w) → v ≡ w
 same_variable v w e = cc
 
--- a declaration
-module _ (scope : Scope) (names : Numbers) (types : Types) (n : ℕ) (linked : Linked scope names types n) (text : List ℕ) (own : WordType) (mutable : Bool) (new : found scope text ≡ None) where
-  v : VariableType
-  v = record { value = Word own; mutable = mutable }
+-- A declaration.
 
+module _ (scope : Scope) (names : Numbers) (types : Types) (n : ℕ) (linked : Linked scope names types n) (text : List ℕ) (own : FlatVariable) (new : found scope text ≡ None) where
   after_scope : Scope
-  after_scope = declared scope text (Variable v)
+  after_scope = declared scope text (Variable (variable_as own))
 
   after_names : Numbers
-  after_names = declared names text (entry n own)
+  after_names = naming names text n own
 
   after_types : Types
   after_types = with_type types n own
 
   known_by : (other : List ℕ) (w : VariableType) (b : Bool) → bytes_eq other text ≡ b → found after_scope other ≡ Some (Variable w) → Known after_names after_types other w
-  unfolding v after_scope after_names after_types
+  unfolding after_scope after_names after_types
   known_by other w true e is =
-      let same = same_variable v w (sym (found-new scope text (Variable v) other e new) ∙ is) in
+      let same = same_variable (variable_as own) w (sym (found-new scope text (Variable (variable_as own)) other e new) ∙ is) in
       record {
         number = n;
-        word = own;
+        declaration = own;
         numbered = found-new names text (entry n own) other e (linked.none text new);
-        is = ap (λ (u : VariableType). u.value) (sym same);
+        is = sym same;
         typed = with_type-same types n own;
       }
   known_by other w false e is =
-      let old = linked.known other w (sym (found-other scope text (Variable v) other e) ∙ is) in
-      let low = linked.below other (entry old.number old.word) old.numbered in
+      let old = linked.known other w (sym (found-other scope text (Variable (variable_as own)) other e) ∙ is) in
+      let low = linked.below other (entry old.number old.declaration) old.numbered in
       record {
         number = old.number;
-        word = old.word;
+        declaration = old.declaration;
         numbered = found-other names text (entry n own) other e ∙ old.numbered;
         is = old.is;
         typed = with_type-other types n old.number own (λ q. omega arith) ∙ old.typed;
       }
 
   none_by : (other : List ℕ) (b : Bool) → bytes_eq other text ≡ b → found after_scope other ≡ None → found after_names other ≡ None
-  unfolding v after_scope after_names
-  none_by other true e is = absurd (none-some (Variable v) (sym is ∙ found-new scope text (Variable v) other e new))
-  none_by other false e is = found-other names text (entry n own) other e ∙ linked.none other (sym (found-other scope text (Variable v) other e) ∙ is)
+  unfolding after_scope after_names
+  none_by other true e is = absurd (none-some (Variable (variable_as own)) (sym is ∙ found-new scope text (Variable (variable_as own)) other e new))
+  none_by other false e is = found-other names text (entry n own) other e ∙ linked.none other (sym (found-other scope text (Variable (variable_as own)) other e) ∙ is)
 
   below_by : (other : List ℕ) (x : Numbered) (b : Bool) → bytes_eq other text ≡ b → found after_names other ≡ Some x → x.number < n + 1
   unfolding after_names
@@ -123,8 +126,8 @@ module _ (scope : Scope) (names : Numbers) (types : Types) (n : ℕ) (linked : L
   apart_by a b x y false false d e is is' equal =
       linked.apart a b x y (sym (found-other names text (entry n own) a d) ∙ is) (sym (found-other names text (entry n own) b e) ∙ is') equal
 
-  pub linked_declared : Linked (declared scope text (Variable (record { value = Word own; mutable = mutable }))) (declared names text (entry n own)) (with_type types n own) (n + 1)
-  unfolding v after_scope after_names after_types
+  pub linked_declared : Linked (declared scope text (Variable (variable_as own))) (naming names text n own) (with_type types n own) (n + 1)
+  unfolding after_scope after_names after_types
   linked_declared = record {
     known = λ other w. known_by other w (bytes_eq other text) refl;
     none = λ other. none_by other (bytes_eq other text) refl;
@@ -132,3 +135,50 @@ module _ (scope : Scope) (names : Numbers) (types : Types) (n : ℕ) (linked : L
     apart = λ a b x y. apart_by a b x y (bytes_eq a text) (bytes_eq b text) refl refl;
     fresh = λ x high. with_type-other types n x own (λ q. omega arith) ∙ linked.fresh x (omega arith);
   }
+
+-- Variables that are known to be words or arrays.
+
+-- a name's number and its type, where it is declared so
+pub record KnownAs (names : Numbers) (types : Types) (text : List ℕ) (d : FlatVariable) : Type 0 where
+  pub number : ℕ
+  pub found : found names text ≡ Some (entry number d)
+  pub typed : types number ≡ Some d
+  pub here : numbered names text ≡ entry number d
+
+abbrev whole : WordType → Bool → Option ℕ → FlatVariable
+whole word mutable elements = record { word = word; mutable = mutable; elements = elements }
+
+as_word : (word : WordType) (mutable : Bool) (own : WordType) (free : Bool) (size : Option ℕ) → Word word ≡ value_as own size → mutable ≡ free
+    → whole own free size ≡ word_as word mutable
+as_word word mutable own free None e f =
+    let same : own ≡ word = cc in
+    ap₂ word_as same (sym f)
+as_word word mutable own free (Some size) e f = absurd cc
+
+as_array : (array : ArrayType) (mutable : Bool) (own : WordType) (free : Bool) (size : Option ℕ) → Array array ≡ value_as own size → mutable ≡ free
+    → whole own free size ≡ array_as array.element mutable array.length
+as_array array mutable own free None e f = absurd cc
+as_array array mutable own free (Some size) e f =
+    let same : record { element = own; length = size } ≡ array = cc in
+    ap₂ (λ (a : ArrayType) b. array_as a.element b a.length) same (sym f)
+
+module _ (scope : Scope) (names : Numbers) (types : Types) (n : ℕ) (linked : Linked scope names types n) where
+  known_as : (text : List ℕ) (v : VariableType) (d : FlatVariable) → ((own : FlatVariable) → v ≡ variable_as own → own ≡ d) → found scope text ≡ Some (Variable v) → KnownAs names types text d
+  known_as text v d so is =
+      let k = linked.known text v is in
+      subst (KnownAs names types text) (so k.declaration k.is) (record {
+        number = k.number;
+        found = k.numbered;
+        typed = k.typed;
+        here = ap (λ (o : Option Numbered). unwrap_or {T = Numbered} o (record { number = 0; declaration = word_as counter_type false })) k.numbered;
+      })
+
+  pub known_word : (text : List ℕ) (word : WordType) (mutable : Bool) → IsVariable scope text (Word word) mutable → KnownAs names types text (word_as word mutable)
+  known_word text word mutable =
+      known_as text (record { value = Word word; mutable = mutable }) (word_as word mutable)
+      (λ own e. as_word word mutable own.word own.mutable own.elements (ap (λ (v : VariableType). v.value) e) (ap (λ (v : VariableType). v.mutable) e))
+
+  pub known_array : (text : List ℕ) (array : ArrayType) (mutable : Bool) → IsVariable scope text (Array array) mutable → KnownAs names types text (array_as array.element mutable array.length)
+  known_array text array mutable =
+      known_as text (record { value = Array array; mutable = mutable }) (array_as array.element mutable array.length)
+      (λ own e. as_array array mutable own.word own.mutable own.elements (ap (λ (v : VariableType). v.value) e) (ap (λ (v : VariableType). v.mutable) e))

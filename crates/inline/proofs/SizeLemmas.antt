@@ -1,8 +1,7 @@
 -- Sizes of trees, and which limit is named.
-use Rattle.std.proofs.Common.{◌≡◌, ℕ, ◌+◌, ◌-◌, ◌<◌, ◌≤◌, inr, Bool, true, false, nat_lt, [], ◌∷◌, ◌++◌, List, length, Option, Some, None, Vec, Global, refl, sym, ap, subst, ◌∙◌, arith}
-use Rattle.std.specs.List.{AllByRecursion}
+use Rattle.std.proofs.Common.{◌≡◌, ℕ, ◌+◌, ◌-◌, ◌<◌, ◌≤◌, inr, Bool, true, false, nat_lt, [], ◌∷◌, ◌++◌, Option, Some, None, Vec, Global, refl, sym, ap, subst, ◌∙◌, arith}
 use Rattle.std.specs.Option.{SomeIff}
-use Rattle.coverage.specs.Compiled.{IsCompiledBlock, IsCompiledExpr, IsCompiledParameter, IsCompiledStatement}
+use Rattle.inline.specs.WithoutCalls.{CallsNothing, CallNothing}
 use Rattle.std.proofs.lemmas.Bool.Decides.{nat_tests}
 use Rattle.std.proofs.lemmas.List.Elements.{All-cons, All-nil}
 use Rattle.word.specs.declared.place.Place.{Place}
@@ -14,8 +13,8 @@ use Rattle.language.specs.declared.tree.Statement.{Statement, If, For}
 use Rattle.language.specs.declared.typing.Violation.{Violation}
 use Rattle.language.specs.FirstViolation.{IsFirst, IsNoLaterThan}
 use Rattle.language.specs.declared.limits.TheConstants.{MOST_NODES, MOST_DECLARED_BYTES}
-use Rattle.language.specs.Size.{nodes_in, statement_nodes, block_nodes, nodes_of, statement_words, block_words, size_violations, declared_bytes, held_words, parameter_words}
-use Rattle.language.specs.Tree.{ExprTree, number, truth, name, prefix, binary, rotate, convert, select, element, StatementTree, declaration, array, assignment, element_assignment, call, conditional, loop, ProcedureTree, ParameterTree, expr_tree, statement_tree, block_tree}
+use Rattle.language.specs.Size.{nodes_in, statement_nodes, block_nodes, nodes_of, statement_words, block_words, size_violations, declared_bytes}
+use Rattle.language.specs.Tree.{ExprTree, number, truth, name, prefix, binary, rotate, convert, select, element, StatementTree, declaration, array, assignment, element_assignment, call, conditional, loop, ProcedureTree, expr_tree, statement_tree, block_tree}
 use Rattle.language.specs.Types.{at, when}
 use Rattle.language.proofs.BlockLemmas.{conditional_tree, loop_tree}
 
@@ -53,10 +52,13 @@ pub conditional_words : (s : Statement) (place : Place) (condition : Expr) (acce
 conditional_words s place condition accepted otherwise is =
     ap (λ t. statement_words (statement_tree t)) is ∙ ap statement_words (conditional_tree place condition accepted otherwise)
 
--- its parts are compiled, where it is
-pub conditional_compiled : (s : Statement) (place : Place) (condition : Expr) (accepted otherwise : Vec Statement Global) → s ≡ If place condition accepted otherwise → IsCompiledStatement (statement_tree s) →
-    IsCompiledExpr (expr_tree condition) × IsCompiledBlock (block_tree accepted.items) × IsCompiledBlock (block_tree otherwise.items)
-conditional_compiled s place condition accepted otherwise is = subst IsCompiledStatement (ap statement_tree is ∙ conditional_tree place condition accepted otherwise)
+-- no call stands in its arms, where none does in it
+pub conditional_calm : (s : Statement) (place : Place) (condition : Expr) (accepted otherwise : Vec Statement Global) → s ≡ If place condition accepted otherwise → CallsNothing (statement_tree s) →
+    CallNothing (block_tree accepted.items) × CallNothing (block_tree otherwise.items)
+conditional_calm s place condition accepted otherwise is = subst CallsNothing (ap statement_tree is ∙ conditional_tree place condition accepted otherwise)
+
+pub loop_calm : (s : Statement) (place : Place) (counter : Counter) (low high : Expr) (body : Vec Statement Global) → s ≡ For place counter low high body → CallsNothing (statement_tree s) → CallNothing (block_tree body.items)
+loop_calm s place counter low high body is = subst CallsNothing (ap statement_tree is ∙ loop_tree place counter low high body)
 
 -- the nodes and the words of a loop, by the list of its body
 pub loop_nodes : (s : Statement) (place : Place) (counter : Counter) (low high : Expr) (body : Vec Statement Global) → s ≡ For place counter low high body →
@@ -105,14 +107,6 @@ above a b h = grind (arith, nat_tests)
 
 not_above : (a b : ℕ) → b ≤ a → nat_lt a b ≡ false
 not_above a b h = grind (arith, nat_tests)
-
--- parameters that are words take a word each
-pub single_words : (ps : List ParameterTree) → AllByRecursion IsCompiledParameter ps → parameter_words ps ≡ length ps
-single_words [] compiled = refl
-single_words (p ∷ ps) compiled =
-    let rest = single_words ps compiled.1 in
-    let here : held_words p.form p.kind p.length ≡ 1 = ap (λ form. held_words form p.kind p.length) compiled.0 in
-    omega (arith, here, rest)
 
 pub too_many_nodes : (p : ProcedureTree) → MOST_NODES < nodes_of p → IsFirst (size_violations p) (record { place = p.place; rule = InlinedSize })
 too_many_nodes p many =

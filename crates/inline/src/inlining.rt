@@ -1,6 +1,6 @@
-ghost use Rattle.std.specs.Prelude.{◌≡◌, ◌*◌, ◌≤◌, length, IfOk, IfErr};
-ghost use Rattle.coverage.specs.Compiled.{IsCompiledProcedure};
+ghost use Rattle.std.specs.Prelude.{◌≡◌, length, IfOk, IfErr};
 ghost use Rattle.inline.specs.Numbering.{flattened};
+ghost use Rattle.inline.specs.WithoutCalls.{IsWithoutCalls};
 ghost use Rattle.language.specs.FirstViolation.{IsRefusedFor};
 ghost use Rattle.language.specs.Size.{size_violations};
 ghost use Rattle.language.specs.Tree.{procedure_tree};
@@ -15,9 +15,8 @@ use std::alloc::Global;
 /// The export as one body with numbered variables, where it passes no limit on its size; else the first limit
 /// that it passes. Memory is asked for only where no limit is passed.
 pub fn inline(alloc: Global, export: &Procedure<'_>) -> Result<Flat, Refusal>
-    requires compiled { IsCompiledProcedure (procedure_tree export.now) }
+    requires calm { IsWithoutCalls (procedure_tree export.now) }
     ensures accepted { IfOk result (λ flat. flat ≡ flattened (procedure_tree export.now)) }
-    ensures bounds { IfOk result (λ flat. (flat.nodes ≤ 6000) × (4 * flat.variables ≤ 32768)) }
     ensures within { IfOk result (λ _. length (size_violations (procedure_tree export.now)) ≡ 0) }
     ensures memory { IfErr result (λ refusal. IsWantOfMemory refusal.rule refusal.place → length (size_violations (procedure_tree export.now)) ≡ 0) }
     ensures refused { IfErr result (λ refusal. IsRefusedFor (size_violations (procedure_tree export.now)) refusal.rule refusal.place) }
@@ -31,10 +30,11 @@ pub fn inline(alloc: Global, export: &Procedure<'_>) -> Result<Flat, Refusal>
         None => None,
     };
     Ok(Flat::new(
+        export.place,
         parameters,
         export.result,
         nodes,
-        numbering.variables(),
+        numbering.into_declared(),
         body,
         value,
     ))
