@@ -1,4 +1,3 @@
-pub mod Exports
 pub mod WorkedTrees
 pub mod WorkedTyping
 pub mod WorkedRules

@@ -1,7 +1,7 @@
 // Worked examples: what no command reaches, as the calls of the layers below give it: rules of what is not
-// compiled yet, meanings within budgets, arguments that are arrays, and bodies with numbered variables; and
-// programs with their violations and meanings, as the definitions give them. They stand here, above the
-// layers, so that no large layer is proved a second time for its tests.
+// compiled yet, meanings within budgets, and arguments that are arrays; and programs with their violations
+// and meanings, as the definitions give them. They stand here, above the layers, so that no large layer is
+// proved a second time for its tests.
 #![tactic(auto)]
 
 #[cfg(test)]
@@ -10,5 +10,3 @@ mod arguing;
 mod checking;
 #[cfg(test)]
 mod evaluating;
-#[cfg(test)]
-mod inlining;
