@@ -5,6 +5,7 @@
 mod interval;
 mod limits;
 mod ranged;
+mod said;
 
 pub use interval::Interval;
 pub use limits::MOST_WORK;
