@@ -1,0 +1,22 @@
+// Ranges: each index is within its array, no divisor is 0, and the work of a run is bounded. Stands on
+// the body with numbered variables.
+#![tactic(auto)]
+
+mod interval;
+mod known;
+mod laws;
+mod limits;
+mod narrowing;
+mod operators;
+mod ranged;
+mod ranges;
+mod said;
+mod terms;
+mod walk;
+mod work;
+
+pub use interval::Interval;
+pub use laws::{safe_runs_meet_no_fault, strict_runs_are_loose};
+pub use limits::MOST_WORK;
+pub use ranged::Ranged;
+pub use ranges::check_ranges;
