@@ -1,11 +1,12 @@
 pub mod Scopes
 pub mod Agreement
+pub mod Values
 pub mod Runs
-pub mod Kept
+pub mod Unchanged
 pub mod Same
-pub mod Fitting
-pub mod Fit
-pub mod BranchTrees
+pub mod Typed
+pub mod Public
+pub mod Fine
 pub mod BoundLemmas
-pub mod Paths
+pub mod Results
 pub mod Removed
