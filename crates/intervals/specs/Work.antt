@@ -4,7 +4,7 @@ use Rattle.inline.specs.Flat.{TermTree, FlatTree, declare, array, assign, put, b
 use Rattle.inline.specs.FlatSize.{term_nodes, terms_nodes, value_nodes}
 use Rattle.intervals.specs.Ranged.{RangedProgram}
 use Rattle.intervals.specs.Ranges.{turns_of}
-use Rattle.language.specs.declared.limits.TheConstants.{MOST_WORK}
+use Rattle.intervals.specs.declared.limits.TheConstants.{MOST_WORK}
 use Rattle.language.specs.declared.rule.Rule.TheVariants.{TooMuchWork}
 use Rattle.language.specs.declared.typing.Violation.{Violation}
 use Rattle.language.specs.Types.{at, when}
