@@ -11,3 +11,4 @@ pub mod Fine
 pub mod BoundLemmas
 pub mod Results
 pub mod Removed
+pub mod Statements

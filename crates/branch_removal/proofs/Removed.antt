@@ -9,6 +9,7 @@ use Rattle.inline.specs.FlatSize.{IsSized}
 use Rattle.inline.specs.FlatTyping.{Types, types_of, end_types, parameter_types, IsTypedProgram}
 use Rattle.inline.specs.Path.{Path, AreFine}
 use Rattle.intervals.specs.Loose.{IsSafe}
+use Rattle.intervals.specs.Ranged.{RangedProgram}
 use Rattle.intervals.specs.Work.{ranged}
 use Rattle.language.specs.declared.signature.Label.TheVariants.{Public}
 use Rattle.language.specs.declared.signature.Param.{Param}
@@ -91,7 +92,7 @@ module _ (p : FlatProgram) (typed : IsTypedProgram p) where
         (start (straightened (ranged p)) one) (start (straightened (ranged p)) other) first_agree)
         (one_path_of_result (types_of p.declared) _ _ end_agree p.returned p.value typed_straight.result)
 
-pub is_removed : (p : FlatProgram) → IsTypedProgram p → IsSized p → IsSafe p (ranged p).turns → IsRemoved (ranged p) (straightened (ranged p))
+is_removed : (p : FlatProgram) → IsTypedProgram p → IsSized p → IsSafe p (ranged p).turns → IsRemoved (ranged p) (straightened (ranged p))
 is_removed p typed sized safe = record {
   parameters = refl;
   returned = refl;
@@ -108,3 +109,9 @@ is_removed p typed sized safe = record {
         end_agree p typed one other agree k (declaration_of parameter) (first_among p typed k (declaration_of parameter) (parameter_at p.parameters k parameter there)) public);
   };
 }
+
+-- so of a body with what is counted for it
+pub removed_as_promised : (r : RangedProgram) → IsTypedProgram r.flat → IsSized r.flat → r ≡ ranged r.flat → IsSafe r.flat r.turns → IsRemoved r (straightened r)
+removed_as_promised r typed sized counted safe =
+    subst (λ (q : RangedProgram). IsRemoved q (straightened q)) (sym counted)
+    (is_removed r.flat typed sized (subst (λ (q : RangedProgram). IsSafe r.flat q.turns) counted safe))
