@@ -1,16 +1,16 @@
 -- Straight code keeps the bounds of the body that it is made for.
-use Rattle.std.proofs.Common.{◌≡◌, ℕ, ◌+◌, ◌*◌, ◌≤◌, List, [], ◌∷◌, length, Option, None, Some, max, slice_index, refl, ap, ap₂, ◌∙◌, arith}
+use Rattle.std.proofs.Common.{◌≡◌, ℕ, ◌+◌, ◌*◌, ◌≤◌, List, [], ◌∷◌, Option, None, Some, max, slice_index, refl, ap, arith}
 use Rattle.std.proofs.Math.Nat.{max-le}
 use Rattle.inline.specs.declared.flat.FlatVariable.{FlatVariable}
 use Rattle.inline.specs.Flat.{TermTree, FlatTree, declare, array, assign, put, branch, loop, FlatBlock, nothing, first, FlatProgram}
 use Rattle.inline.specs.Flat as flat
-use Rattle.inline.specs.FlatSize.{IsSized, term_nodes, terms_nodes, value_nodes, tree_nodes, body_nodes}
+use Rattle.inline.specs.FlatSize.{IsSized, term_nodes, tree_nodes, body_nodes}
 use Rattle.inline.specs.FlatTyping.{Types, types_after, with_type, IsTyped, AreTyped, IsTypedProgram}
 use Rattle.intervals.specs.Work.{tree_work, body_work, ranged}
 use Rattle.language.specs.declared.signature.Label.{Label}
 use Rattle.language.specs.declared.signature.Label.TheVariants.{Public, Secret}
 use Rattle.word.specs.declared.place.Place.{Place}
-use Rattle.branch_removal.specs.Bounds.{statement_nodes, block_nodes, statement_work, block_work, taken_in, taken_in_all, IsBounded}
+use Rattle.branch_removal.specs.Bounds.{statement_nodes, block_nodes, statement_work, block_work, taken_in_all, IsBounded}
 use Rattle.branch_removal.specs.Removal.{set_within, put_within, removed, removed_all, controls_in, controls_in_all, straightened}
 use Rattle.branch_removal.specs.Straight.{StraightBlock, chain}
 use Rattle.branch_removal.specs.Straight as straight

@@ -1,11 +1,11 @@
 -- Where no loose run of a body meets a fault, straight code for it meets none: each piece of its path lies on the path of
 -- some loose run. Of a branch on a secret one loose run takes the first arm, and another one the second.
-use Rattle.std.proofs.Common.{◌≡◌, ℕ, zero, suc, ◌+◌, ◌-◌, ◌<◌, ◌==◌, Bool, true, false, cond, List, [], ◌∷◌, ◌++◌, Option, None, Some, refl, sym, ap, ap₂, ◌∙◌, subst, arith}
+use Rattle.std.proofs.Common.{◌≡◌, ℕ, zero, suc, ◌+◌, ◌-◌, ◌==◌, Bool, true, false, cond, List, [], ◌∷◌, ◌++◌, Option, None, Some, refl, sym, ap₂, ◌∙◌, subst, arith}
 use Rattle.inline.specs.declared.flat.FlatVariable.{FlatVariable}
-use Rattle.inline.specs.Flat.{TermTree, FlatTree, declare, array, assign, put, branch, loop, FlatBlock, nothing, first, word_as, array_as}
-use Rattle.inline.specs.FlatMeaning.{Values, with_value, value_in, path_in, path_in_all, turns, path_of_turns}
-use Rattle.inline.specs.FlatTyping.{Types, with_type, types_of, types_after, types_after_all, IsTyped, AreTyped, HasType, IsPut, counter_type}
-use Rattle.inline.specs.Path.{Path, AreFine, bounded, indexed, decided}
+use Rattle.inline.specs.Flat.{TermTree, FlatTree, declare, array, assign, put, branch, loop, FlatBlock, nothing, first, word_as}
+use Rattle.inline.specs.FlatMeaning.{Values, with_value, value_in, path_in, path_of_turns}
+use Rattle.inline.specs.FlatTyping.{Types, with_type, types_of, types_after, IsTyped, AreTyped, HasType, IsPut, counter_type}
+use Rattle.inline.specs.Path.{Path, AreFine, bounded, indexed}
 use Rattle.intervals.specs.Loose.{Leads, declares, declares_array, assigns, puts, repeats, Turns, a_turn, LeadAll, goes_on}
 use Rattle.language.specs.WellTyped.{labelled}
 use Rattle.language.specs.declared.signature.Kind.TheVariants.{Boolean}
@@ -16,10 +16,10 @@ use Rattle.word.specs.declared.place.Place.{Place}
 use Rattle.branch_removal.specs.Removal.{removed, removed_all}
 use Rattle.branch_removal.specs.Straight.{take, StraightBlock}
 use Rattle.branch_removal.specs.Straight as straight
-use Rattle.branch_removal.specs.StraightMeaning.{StraightState, value_at, counted, after, after_all, path_at, path_along}
+use Rattle.branch_removal.specs.StraightMeaning.{StraightState, value_at, counted, after, after_all, path_along}
 use Rattle.branch_removal.proofs.Agreement.{Agree, what_is_public, declared_in_both}
 use Rattle.branch_removal.proofs.Loose.{holding, comes, come_all, FollowedAll, follow_turns, either_way, that_way, in_scope, follow, follow_all}
-use Rattle.branch_removal.proofs.Runs.{after-chain, path-chain}
+use Rattle.branch_removal.proofs.Runs.{path-chain}
 use Rattle.branch_removal.proofs.Scopes.{AreAmong, among_beside, among_after, stays_beside}
 use Rattle.branch_removal.proofs.Typed.{IsUnder}
 use Rattle.branch_removal.proofs.Unchanged.{hidden, unchanged_all}
@@ -151,12 +151,14 @@ module _ (declared : List FlatVariable) (most : List ℕ) where
         let other = follow_all declared types label otherwise typed.2 among within control under s m agree in
         fine_alone most _
         (fine_both most (path_in s.variables condition) _
-        (fine_term types s m agree condition _ typed.0 (fine_condition m condition accepted otherwise _ _ one _ _ other safe))
-        (tt, fine_arm types condition accepted otherwise typed.0 s m agree
-        (path_along s (removed_all within control accepted)) (path_along s (removed_all within control otherwise))
-        (λ here. fine_all types label accepted typed.1 among within control under s m agree here)
-        (λ here. fine_all types label otherwise typed.2 among within control under s m agree here)
-        safe))
+        (fine_term types s m agree condition _ typed.0 (fine_condition m condition accepted otherwise _ _ one _ _ other safe)) (
+          tt,
+          fine_arm types condition accepted otherwise typed.0 s m agree
+              (path_along s (removed_all within control accepted)) (path_along s (removed_all within control otherwise))
+              (λ here. fine_all types label accepted typed.1 among within control under s m agree here)
+              (λ here. fine_all types label otherwise typed.2 among within control under s m agree here)
+              safe,
+        ))
     fine types label (loop x low high body) typed among within control under s m agree safe =
         let inner = with_type types x (word_as counter_type false) in
         let from = public_value types s.variables m agree typed.0 refl in
@@ -185,13 +187,14 @@ module _ (declared : List FlatVariable) (most : List ℕ) where
         (fine_both most (path_in s.variables low) (path_in s.variables high)
         (fine_term types s m agree low _ typed.0 (fine_front most (path_in m low) (path_in m high) (fine_front most bounds _ whole)))
         (fine_term types s m agree high _ typed.1 (fine_back most (path_in m low) (path_in m high) (fine_front most bounds _ whole))))
-        (subst (AreFine most) (sym (ap₂ (λ (l h : ℕ). bounded x l h ∷ path_of_turns (h - l) l turn along s) from to))
-        (ranges.0,
-        fine_turns types x body turn along step
-        (λ i t n so_far here. fine_all inner label body typed.3 among_inner within control under (counted x i t) (with_value n x (i ∷ [])) (in_turn i t n so_far) here)
-        count (value_in m low) s m agree
-        (λ t q run. (fine_back most bounds (bounded x (value_in m low) (value_in m high) ∷ q)
-        (safe t _ (repeats (comes declared m low) (comes declared m high) run))).1))))
+        (subst (AreFine most) (sym (ap₂ (λ (l h : ℕ). bounded x l h ∷ path_of_turns (h - l) l turn along s) from to)) (
+          ranges.0,
+          fine_turns types x body turn along step
+              (λ i t n so_far here. fine_all inner label body typed.3 among_inner within control under (counted x i t) (with_value n x (i ∷ [])) (in_turn i t n so_far) here)
+              count (value_in m low) s m agree
+              (λ t q run. (fine_back most bounds (bounded x (value_in m low) (value_in m high) ∷ q)
+              (safe t _ (repeats (comes declared m low) (comes declared m high) run))).1),
+        )))
 
     pub fine_all : (types : Types) (label : Label) (body : FlatBlock) → AreTyped declared types label body
         → AreAmong types (types_of declared) → (within : Option ℕ) (control : ℕ) → IsUnder declared within label

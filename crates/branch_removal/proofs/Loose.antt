@@ -10,14 +10,13 @@ use Rattle.language.specs.WellTyped.{labelled}
 use Rattle.language.specs.declared.signature.Kind.TheVariants.{Boolean}
 use Rattle.language.specs.declared.signature.Label.{Label}
 use Rattle.language.specs.declared.signature.Label.TheVariants.{Public, Secret}
-use Rattle.word.specs.declared.place.Place.{Place}
 use Rattle.branch_removal.specs.Removal.{removed, removed_all}
 use Rattle.branch_removal.specs.Straight.{take, StraightBlock}
 use Rattle.branch_removal.specs.Straight as straight
-use Rattle.branch_removal.specs.StraightMeaning.{StraightState, holds, with_variable, value_at, counted, after, after_all}
+use Rattle.branch_removal.specs.StraightMeaning.{StraightState, with_variable, value_at, counted, after, after_all}
 use Rattle.branch_removal.proofs.Agreement.{Agree, what_is_public, set_in_both, declared_in_both}
 use Rattle.branch_removal.proofs.Runs.{after-chain}
-use Rattle.branch_removal.proofs.Scopes.{AreAmong, has_type_among, among_beside, among_after, stays_all, stays_beside}
+use Rattle.branch_removal.proofs.Scopes.{AreAmong, has_type_among, among_beside, among_after, stays_beside}
 use Rattle.branch_removal.proofs.Same.{narrowed}
 use Rattle.branch_removal.proofs.Typed.{IsUnder}
 use Rattle.branch_removal.proofs.Unchanged.{hidden, set_quietly, unchanged_all}

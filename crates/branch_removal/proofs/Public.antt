@@ -1,12 +1,12 @@
 -- Two runs of well-typed straight code that sets only what is secret under a control value: what is public is the same
 -- in both throughout, and so is the path.
-use Rattle.std.proofs.Common.{◌≡◌, ℕ, ◌+◌, ◌-◌, ◌==◌, Bool, true, false, cond, List, [], ◌∷◌, ◌++◌, Option, None, Some, slice_set, slice_get, refl, sym, ap, ap₂, ◌∙◌, subst}
+use Rattle.std.proofs.Common.{◌≡◌, ℕ, ◌-◌, ◌==◌, Bool, true, false, cond, List, [], ◌∷◌, ◌++◌, Some, slice_set, slice_get, refl, sym, ap, ap₂, ◌∙◌, subst}
 use Rattle.inline.specs.declared.flat.FlatVariable.{FlatVariable}
 use Rattle.inline.specs.Flat.{TermTree, word_as, array_as}
-use Rattle.inline.specs.FlatMeaning.{turns, path_of_turns, path_in}
-use Rattle.inline.specs.FlatTyping.{Types, types_of, counter_type, HasType}
+use Rattle.inline.specs.FlatMeaning.{path_of_turns, path_in}
+use Rattle.inline.specs.FlatTyping.{types_of, counter_type, HasType}
 use Rattle.inline.specs.Path.{Path, decided, bounded, indexed}
-use Rattle.language.specs.declared.signature.Label.TheVariants.{Public, Secret}
+use Rattle.language.specs.declared.signature.Label.TheVariants.{Secret}
 use Rattle.language.specs.declared.typing.WordType.{WordType}
 use Rattle.branch_removal.specs.Straight.{StraightTree, set, clear, fill, put, take, set_under, put_under, branch, repeats, StraightBlock, nothing, first}
 use Rattle.branch_removal.specs.StraightMeaning.{StraightState, with_variable, value_at, counted, after, after_all, path_at, path_along}

@@ -1,5 +1,5 @@
 -- Straight code is what is promised of it.
-use Rattle.std.proofs.Common.{◌≡◌, ℕ, List, ◌++◌, Option, None, Some, slice_get, refl, ap, ap₂, ◌∙◌, subst, sym, arith}
+use Rattle.std.proofs.Common.{◌≡◌, ℕ, List, ◌++◌, Option, None, Some, slice_get, refl, ap₂, subst, sym, arith}
 use Rattle.arguments.specs.Agreement as arguments
 use Rattle.arguments.specs.Within.{AreWithin}
 use Rattle.inline.specs.Flat.{FlatProgram, declaration_of}
@@ -16,12 +16,12 @@ use Rattle.language.specs.declared.signature.Param.{Param}
 use Rattle.language.specs.declared.values.Arg.{Arg}
 use Rattle.branch_removal.specs.Removal.{controls_in_all, removed_all, straightened}
 use Rattle.branch_removal.specs.Removed.{IsRemoved}
-use Rattle.branch_removal.specs.StraightMeaning.{StraightState, start, end_of, after_all, path_along, outcome_of, path_of}
+use Rattle.branch_removal.specs.StraightMeaning.{start, end_of, path_along, outcome_of, path_of}
 use Rattle.branch_removal.specs.StraightTyping.{IsTypedStraight}
 use Rattle.branch_removal.proofs.Agreement.{Agree, everything, what_is_public}
 use Rattle.branch_removal.proofs.BoundLemmas.{bounded}
 use Rattle.branch_removal.proofs.Fine.{fine_all, fine_both, fine_front, fine_back}
-use Rattle.branch_removal.proofs.Loose.{returns, follow_all, holding}
+use Rattle.branch_removal.proofs.Loose.{returns, follow_all}
 use Rattle.branch_removal.proofs.Public.{in_step_all, same_path_all}
 use Rattle.branch_removal.proofs.Results.{parameters_among, parameter_at, given_in_step, all_arrays, all_public_arrays, same_return}
 use Rattle.branch_removal.proofs.Same.{same_all}

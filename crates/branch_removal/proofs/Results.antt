@@ -1,5 +1,5 @@
 -- Where runs begin, and what is compared of them at the end.
-use Rattle.std.proofs.Common.{◌≡◌, ◌≢◌, ℕ, zero, suc, ◌+◌, Bool, true, false, if◌then◌else◌, List, [], ◌∷◌, ◌++◌, length, map, take, drop, Option, None, Some, IfSome, slice_get, refl, sym, ap, ap₂, ◌∙◌, subst, arith}
+use Rattle.std.proofs.Common.{◌≡◌, ℕ, zero, suc, ◌+◌, if◌then◌else◌, List, [], ◌∷◌, ◌++◌, length, map, take, drop, Option, None, Some, IfSome, slice_get, refl, sym, ap, ap₂, ◌∙◌, subst, arith}
 use Rattle.std.specs.Option.{option_map}
 use Rattle.std.proofs.lemmas.Option.{none-some, same_Some}
 use Rattle.arguments.specs.Agreement.{EqualWherePublic}
@@ -19,7 +19,7 @@ use Rattle.language.specs.declared.values.Arg.{Arg}
 use Rattle.language.specs.Typing.{is_mutable}
 use Rattle.branch_removal.proofs.Agreement.{Agree, what_is_public}
 use Rattle.branch_removal.proofs.Scopes.{AreAmong}
-use Rattle.branch_removal.proofs.Values.{public_suited, secret≢public}
+use Rattle.branch_removal.proofs.Values.{public_suited}
 
 -- The parameters are the first variables.
 

@@ -1,7 +1,7 @@
 -- Runs of straight code one after the other, turns of loops, and the control values that statements leave alone.
 use Rattle.std.proofs.Common.{◌≡◌, ℕ, zero, suc, ◌+◌, ◌-◌, ◌<◌, ◌==◌, Bool, true, false, cond, List, [], ◌∷◌, ◌++◌, Option, None, Some, slice_set, refl, sym, ap, ap₂, ◌∙◌, append_assoc, subst, arith}
 use Rattle.std.proofs.lemmas.Bool.{cond-false, cond-true, ne_eqb, eq-eqb}
-use Rattle.inline.specs.Flat.{TermTree, FlatTree, declare, array, assign, put, branch, loop, FlatBlock, nothing, first}
+use Rattle.inline.specs.Flat.{FlatTree, declare, array, assign, put, branch, loop, FlatBlock, nothing, first}
 use Rattle.inline.specs.FlatMeaning.{turns, path_of_turns}
 use Rattle.inline.specs.Path.{Path}
 use Rattle.language.specs.declared.signature.Label.TheVariants.{Public, Secret}

@@ -15,7 +15,7 @@ use Rattle.branch_removal.specs.StraightMeaning.{StraightState, holds, with_vari
 use Rattle.branch_removal.proofs.Agreement.{Sees, Agree, everything, set_in_both, declared_in_both}
 use Rattle.branch_removal.proofs.Runs.{after-chain, turns_relate_from, first_control, second_control, controls_stay, controls_stay_all}
 use Rattle.branch_removal.proofs.Scopes.{stays_all, stays_beside}
-use Rattle.branch_removal.proofs.Unchanged.{Quiet, switched_off, unchanged_all}
+use Rattle.branch_removal.proofs.Unchanged.{switched_off, unchanged_all}
 use Rattle.branch_removal.proofs.Values.{one_value, all_values}
 
 -- the enclosing control value is no statement's own

@@ -1,10 +1,10 @@
 -- What is in scope stays in scope, as it is declared, and is declared so in the list of all variables.
 use Rattle.std.proofs.Common.{◌≡◌, ℕ, ◌==◌, Bool, true, false, cond, List, [], ◌∷◌, Option, None, Some, slice_get, refl, sym, ap, ◌∙◌}
 use Rattle.std.proofs.lemmas.Bool.{eqb-true, false_from_ne_true, cond-false}
-use Rattle.std.proofs.lemmas.Option.{none-some, same_Some}
+use Rattle.std.proofs.lemmas.Option.{none-some}
 use Rattle.inline.specs.declared.flat.FlatVariable.{FlatVariable}
-use Rattle.inline.specs.Flat.{TermTree, FlatTree, declare, array, assign, put, branch, loop, FlatBlock, nothing, first, word_as}
-use Rattle.inline.specs.FlatTyping.{Types, with_type, types_of, HasType, of_number, of_truth, of_variable, of_prefix, of_binary, of_rotation, of_conversion, of_selection, of_element, Suits, AllSuit, IsResult, IsNew, IsTyped, AreTyped, types_after, types_after_all, counter_type}
+use Rattle.inline.specs.Flat.{TermTree, FlatTree, declare, array, assign, put, branch, loop, FlatBlock, nothing, first}
+use Rattle.inline.specs.FlatTyping.{Types, with_type, types_of, HasType, of_number, of_truth, of_variable, of_prefix, of_binary, of_rotation, of_conversion, of_selection, of_element, Suits, AllSuit, IsResult, IsTyped, AreTyped, types_after, types_after_all}
 use Rattle.language.specs.declared.signature.Label.{Label}
 use Rattle.language.specs.declared.typing.WordType.{WordType}
 

@@ -1,5 +1,5 @@
 -- The tree of a statement that holds others, by the lists of its arms or its body.
-use Rattle.std.proofs.Common.{◌≡◌, ℕ, zero, suc, ◌+◌, ◌*◌, ◌≤◌, ◌<◌, ◌++◌, max, List, [], ◌∷◌, drop, map, Vec, Global, Bor, Option, None, Some, refl, sym, ap, ap₂, ◌∙◌, subst, arith}
+use Rattle.std.proofs.Common.{◌≡◌, ℕ, zero, suc, ◌+◌, ◌*◌, ◌≤◌, ◌<◌, ◌++◌, max, List, [], ◌∷◌, drop, Vec, Global, Bor, Option, Some, refl, sym, ap, ap₂, ◌∙◌, arith}
 use Rattle.std.proofs.Math.Nat.{le-max_left, le-max_right}
 use mathlib.Core.Former.{Count}
 use Rattle.inline.specs.declared.flat.FlatStatement.{FlatStatement, Branch, Branch', Loop, Loop', Row_of-FlatStatement, end_of-FlatStatement, more_of-FlatStatement, items-the_row-FlatStatement, items_hidden-the_row-FlatStatement-0}

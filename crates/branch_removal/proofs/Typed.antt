@@ -1,5 +1,5 @@
 -- Straight code of a well-typed body is well typed, and what it sets under a control value is secret.
-use Rattle.std.proofs.Common.{◌≡◌, ℕ, ◌+◌, ◌≤◌, ◌<◌, false, List, [], ◌∷◌, length, max, Option, None, Some, slice_get, refl, sym, ◌∙◌, subst, arith}
+use Rattle.std.proofs.Common.{◌≡◌, ℕ, ◌+◌, ◌≤◌, false, List, [], ◌∷◌, length, Option, None, Some, slice_get, refl, sym, ◌∙◌, subst, arith}
 use Rattle.std.proofs.lemmas.Option.{same_Some}
 use Rattle.std.proofs.Math.Nat.{le-max_left, le-max_right}
 use Rattle.inline.specs.declared.flat.FlatVariable.{FlatVariable}
@@ -11,7 +11,7 @@ use Rattle.language.specs.declared.signature.Label.TheVariants.{Public, Secret}
 use Rattle.branch_removal.specs.Removal.{removed, removed_all, controls_in, controls_in_all}
 use Rattle.branch_removal.specs.Straight.{StraightTree, set, clear, fill, take, set_under, put_under, repeats, StraightBlock, chain}
 use Rattle.branch_removal.specs.Straight as straight
-use Rattle.branch_removal.specs.StraightTyping.{IsTyped, AreTyped, IsAmong}
+use Rattle.branch_removal.specs.StraightTyping.{AreTyped, IsAmong}
 use Rattle.branch_removal.proofs.Scopes.{AreAmong, has_type_among, suits_among, suit_among, among_beside, among_after}
 
 -- as many values as elements are declared, where some are written

@@ -5,12 +5,11 @@ use Rattle.std.proofs.lemmas.Bool.{cond-false, false_from_ne_true, eqb-true, and
 use Rattle.std.proofs.lemmas.Option.{same_Some}
 use Rattle.inline.specs.declared.flat.FlatVariable.{FlatVariable}
 use Rattle.inline.specs.Flat.{TermTree, FlatTree, declare, array, assign, put, branch, loop, FlatBlock, nothing, first, word_as}
-use Rattle.inline.specs.FlatMeaning.{Values, with_value}
 use Rattle.inline.specs.FlatTyping.{Types, with_type, IsTyped, AreTyped, types_after, counter_type}
 use Rattle.language.specs.declared.signature.Label.{Label}
 use Rattle.language.specs.declared.signature.Label.TheVariants.{Public, Secret}
 use Rattle.branch_removal.specs.Removal.{removed, removed_all}
-use Rattle.branch_removal.specs.Straight.{StraightTree, take, StraightBlock}
+use Rattle.branch_removal.specs.Straight.{take, StraightBlock}
 use Rattle.branch_removal.specs.StraightMeaning.{StraightState, holds, with_variable, value_at, counted, after, after_all}
 use Rattle.branch_removal.proofs.Agreement.{Sees, Agree, what_is_public}
 use Rattle.branch_removal.proofs.Runs.{after-chain, turns_keep, first_control, second_control, controls_stay, controls_stay_all}

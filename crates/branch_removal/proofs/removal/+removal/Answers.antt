@@ -1,6 +1,5 @@
 use Rattle.std.proofs.Common.{◌≡◌, ◌+◌, ◌∷◌, drop, map, rules, arith, refl, sym, ap, ◌∙◌}
 use Rattle.std.proofs.lemmas.List.{at_drop_all, drop_more}
-use Rattle.inline.specs.declared.flat.FlatStatement.{the_lemmas}
 use Rattle.inline.specs.Flat.{flat_block, term_tree}
 use Rattle.branch_removal.specs.Removal.{made, own_controls, removed_all}
 use Rattle.branch_removal.specs.Straight.{chain, straight_block}

@@ -1,5 +1,5 @@
 use Rattle.std.proofs.Common.{◌≡◌, ℕ, None, ap, ap₂, sym, subst, ◌∙◌, arith}
-use Rattle.inline.specs.Flat.{FlatBlock, FlatProgram, flat_block}
+use Rattle.inline.specs.Flat.{FlatBlock, FlatProgram}
 use Rattle.branch_removal.specs.Removal.{controls_in_all, removed_all, straightened}
 use Rattle.branch_removal.specs.Removed.{IsRemoved}
 use Rattle.branch_removal.specs.Straight.{StraightBlock, chain, straight_block}
