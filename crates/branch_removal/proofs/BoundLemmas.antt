@@ -6,6 +6,7 @@ use Rattle.inline.specs.Flat.{TermTree, FlatTree, declare, array, assign, put, b
 use Rattle.inline.specs.Flat as flat
 use Rattle.inline.specs.FlatSize.{IsSized, term_nodes, tree_nodes, body_nodes}
 use Rattle.inline.specs.FlatTyping.{Types, types_after, with_type, IsTyped, AreTyped, IsTypedProgram}
+use Rattle.intervals.specs.declared.limits.TheConstants.{MOST_WORK}
 use Rattle.intervals.specs.Work.{tree_work, body_work, ranged}
 use Rattle.language.specs.declared.signature.Label.{Label}
 use Rattle.language.specs.declared.signature.Label.TheVariants.{Public, Secret}
@@ -175,12 +176,13 @@ mutual
 pub few_controls : (p : FlatProgram) → IsSized p → controls_in_all p.body ≤ 6000
 few_controls p sized = omega (arith, few_all p.body, sized.counted, sized.nodes)
 
-pub bounded : (p : FlatProgram) → IsTypedProgram p → IsSized p → IsBounded (straightened (ranged p))
-bounded p typed sized = record {
+pub bounded : (p : FlatProgram) → IsTypedProgram p → IsSized p → (ranged p).work ≤ MOST_WORK → IsBounded (straightened (ranged p))
+bounded p typed sized fits = record {
   lengths = sized.lengths;
   declared = sized.declared;
   counted = omega (arith, same_nodes_all None 0 p.body, sized.counted);
   nodes = sized.nodes;
   worked = omega (arith, same_work_all (ranged p).turns p.declared _ Public p.body typed.body None 0);
+  work_fits = fits;
   controls = controls_taken_all None 0 p.body;
 }

@@ -4,18 +4,22 @@ use Rattle.std.proofs.Common.{◌≡◌, ℕ, ◌-◌, ◌==◌, Bool, true, fal
 use Rattle.inline.specs.declared.flat.FlatVariable.{FlatVariable}
 use Rattle.inline.specs.Flat.{TermTree, word_as, array_as}
 use Rattle.inline.specs.FlatMeaning.{path_of_turns, path_in}
-use Rattle.inline.specs.FlatTyping.{types_of, counter_type, HasType}
+use Rattle.inline.specs.FlatTyping.{types_of, counter_type, HasType, AllSuit}
 use Rattle.inline.specs.Path.{Path, decided, bounded, indexed}
 use Rattle.language.specs.declared.signature.Label.TheVariants.{Secret}
 use Rattle.language.specs.declared.typing.WordType.{WordType}
 use Rattle.branch_removal.specs.Straight.{StraightTree, set, clear, fill, put, take, set_under, put_under, branch, repeats, StraightBlock, nothing, first}
 use Rattle.branch_removal.specs.StraightMeaning.{StraightState, with_variable, value_at, counted, after, after_all, path_at, path_along}
-use Rattle.branch_removal.specs.StraightTyping.{IsTyped, AreTyped, IsPut}
+use Rattle.branch_removal.specs.StraightTyping.{IsTyped, AreTyped, IsPut, types_but}
+use Rattle.branch_removal.proofs.Scopes.{but_among, suit_among}
 use Rattle.branch_removal.proofs.Agreement.{Agree, what_is_public, set_in_both}
 use Rattle.branch_removal.proofs.Runs.{turns_relate_from, one_path_of_turns}
 use Rattle.branch_removal.proofs.Typed.{IsHidden, AreHidden, IsSecret}
 use Rattle.branch_removal.proofs.Unchanged.{hidden, set_quietly}
 use Rattle.branch_removal.proofs.Values.{public_value, public_suited, public_all, one_path, one_path_all}
+
+fill_suits : (declared : List FlatVariable) (x : ℕ) (word : WordType) (values : List TermTree) → AllSuit (types_but declared x) word values → AllSuit (types_of declared) word values
+fill_suits declared x word values suits = suit_among (types_but declared x) (types_of declared) (but_among declared x) word values suits
 
 module _ (declared : List FlatVariable) (controls : ℕ) where
   -- what is public is the same in both
@@ -66,7 +70,7 @@ module _ (declared : List FlatVariable) (controls : ℕ) where
         set_in_both what_is_public (types_of declared) s.variables t.variables x _ _ _ (λ public. refl) agree is.known
     in_step (fill x values) is apart s t agree =
         set_in_both what_is_public (types_of declared) s.variables t.variables x _ _ _
-        (λ public. public_all (types_of declared) s.variables t.variables agree is.word values is.suit public) agree is.known
+        (λ public. public_all (types_of declared) s.variables t.variables agree is.word values (fill_suits declared x is.word values is.suit) public) agree is.known
     in_step (put place x size index value) is apart s t agree =
         set_in_both what_is_public (types_of declared) s.variables t.variables x _ _ _
         (λ public. put_in_step x size index value s t agree is public) agree is.known
@@ -115,7 +119,7 @@ module _ (declared : List FlatVariable) (controls : ℕ) where
         → (s t : StraightState) → InStep s t → path_at s statement ≡ path_at t statement
     same_path (set x value) is apart s t agree = path_of_term value _ is.suits.has_type s t agree
     same_path (clear x size) is apart s t agree = refl
-    same_path (fill x values) is apart s t agree = one_path_all (types_of declared) s.variables t.variables agree is.word values is.suit
+    same_path (fill x values) is apart s t agree = one_path_all (types_of declared) s.variables t.variables agree is.word values (fill_suits declared x is.word values is.suit)
     same_path (put place x size index value) is apart s t agree = path_of_put place x size index value s t agree is
     same_path (take control within condition) is apart s t agree = path_of_term condition _ is.2.1 s t agree
     same_path (set_under control x value) is apart s t agree = path_of_term value _ is.1.suits.has_type s t agree

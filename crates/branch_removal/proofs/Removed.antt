@@ -1,5 +1,5 @@
 -- Straight code is what is promised of it.
-use Rattle.std.proofs.Common.{◌≡◌, ℕ, List, ◌++◌, Option, None, Some, slice_get, refl, ap₂, subst, sym, arith}
+use Rattle.std.proofs.Common.{◌≡◌, ℕ, ◌≤◌, List, ◌++◌, Option, None, Some, slice_get, refl, ap₂, subst, sym, arith}
 use Rattle.arguments.specs.Agreement as arguments
 use Rattle.arguments.specs.Within.{AreWithin}
 use Rattle.inline.specs.Flat.{FlatProgram, declaration_of}
@@ -10,6 +10,7 @@ use Rattle.inline.specs.FlatTyping.{Types, types_of, end_types, parameter_types,
 use Rattle.inline.specs.Path.{Path, AreFine}
 use Rattle.intervals.specs.Loose.{IsSafe}
 use Rattle.intervals.specs.Ranged.{RangedProgram}
+use Rattle.intervals.specs.declared.limits.TheConstants.{MOST_WORK}
 use Rattle.intervals.specs.Work.{ranged}
 use Rattle.language.specs.declared.signature.Label.TheVariants.{Public}
 use Rattle.language.specs.declared.signature.Param.{Param}
@@ -92,13 +93,13 @@ module _ (p : FlatProgram) (typed : IsTypedProgram p) where
         (start (straightened (ranged p)) one) (start (straightened (ranged p)) other) first_agree)
         (one_path_of_result (types_of p.declared) _ _ end_agree p.returned p.value typed_straight.result)
 
-is_removed : (p : FlatProgram) → IsTypedProgram p → IsSized p → IsSafe p (ranged p).turns → IsRemoved (ranged p) (straightened (ranged p))
-is_removed p typed sized safe = record {
+is_removed : (p : FlatProgram) → IsTypedProgram p → IsSized p → IsSafe p (ranged p).turns → (ranged p).work ≤ MOST_WORK → IsRemoved (ranged p) (straightened (ranged p))
+is_removed p typed sized safe fits = record {
   parameters = refl;
   returned = refl;
   nodes = refl;
   work = refl;
-  bounded = bounded p typed sized;
+  bounded = bounded p typed sized fits;
   typed = typed_straight p typed;
   outcome = λ args within. same_outcome p typed args;
   fine = λ args within. fine_path p typed args (ranged p).turns safe within;
@@ -111,7 +112,7 @@ is_removed p typed sized safe = record {
 }
 
 -- so of a body with what is counted for it
-pub removed_as_promised : (r : RangedProgram) → IsTypedProgram r.flat → IsSized r.flat → r ≡ ranged r.flat → IsSafe r.flat r.turns → IsRemoved r (straightened r)
-removed_as_promised r typed sized counted safe =
+pub removed_as_promised : (r : RangedProgram) → IsTypedProgram r.flat → IsSized r.flat → r ≡ ranged r.flat → IsSafe r.flat r.turns → r.work ≤ MOST_WORK → IsRemoved r (straightened r)
+removed_as_promised r typed sized counted safe fits =
     subst (λ (q : RangedProgram). IsRemoved q (straightened q)) (sym counted)
-    (is_removed r.flat typed sized (subst (λ (q : RangedProgram). IsSafe r.flat q.turns) counted safe))
+    (is_removed r.flat typed sized (subst (λ (q : RangedProgram). IsSafe r.flat q.turns) counted safe) (subst (λ (q : RangedProgram). q.work ≤ MOST_WORK) counted fits))

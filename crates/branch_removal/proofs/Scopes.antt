@@ -5,6 +5,7 @@ use Rattle.std.proofs.lemmas.Option.{none-some}
 use Rattle.inline.specs.declared.flat.FlatVariable.{FlatVariable}
 use Rattle.inline.specs.Flat.{TermTree, FlatTree, declare, array, assign, put, branch, loop, FlatBlock, nothing, first}
 use Rattle.inline.specs.FlatTyping.{Types, with_type, types_of, HasType, of_number, of_truth, of_variable, of_prefix, of_binary, of_rotation, of_conversion, of_selection, of_element, Suits, AllSuit, IsResult, IsTyped, AreTyped, types_after, types_after_all}
+use Rattle.branch_removal.specs.StraightTyping.{types_but}
 use Rattle.language.specs.declared.signature.Label.{Label}
 use Rattle.language.specs.declared.typing.WordType.{WordType}
 
@@ -90,3 +91,15 @@ module _ (declared : List FlatVariable) where
     among_after_all types label nothing typed among = among
     among_after_all types label (first statement rest) typed among =
         among_after_all (types_after types statement) label rest typed.1 (among_after types label statement typed.0 among)
+
+-- what is in scope is among all variables but a new one
+pub among_but : (declared : List FlatVariable) (types : Types) (x : ℕ) → types x ≡ None → AreAmong types (types_of declared) → AreAmong types (types_but declared x)
+among_but declared types x new among y d known = cond-false (y == x) None (slice_get declared y) (apart types x y d new known) ∙ among y d known
+
+-- and these are among all
+pub but_among : (declared : List FlatVariable) (x : ℕ) → AreAmong (types_but declared x) (types_of declared)
+but_among declared x y d known = by_number (y == x) known
+  where
+    by_number : (b : Bool) → cond b None (slice_get declared y) ≡ Some d → slice_get declared y ≡ Some d
+    by_number true known = absurd (none-some d known)
+    by_number false known = known

@@ -11,8 +11,8 @@ use Rattle.language.specs.declared.signature.Label.TheVariants.{Public, Secret}
 use Rattle.branch_removal.specs.Removal.{removed, removed_all, controls_in, controls_in_all}
 use Rattle.branch_removal.specs.Straight.{StraightTree, set, clear, fill, take, set_under, put_under, repeats, StraightBlock, chain}
 use Rattle.branch_removal.specs.Straight as straight
-use Rattle.branch_removal.specs.StraightTyping.{AreTyped, IsAmong}
-use Rattle.branch_removal.proofs.Scopes.{AreAmong, has_type_among, suits_among, suit_among, among_beside, among_after}
+use Rattle.branch_removal.specs.StraightTyping.{AreTyped, IsAmong, types_but}
+use Rattle.branch_removal.proofs.Scopes.{AreAmong, has_type_among, suits_among, suit_among, among_beside, among_after, among_but}
 
 -- as many values as elements are declared, where some are written
 counted_as : (word : _) (mutable : _) (size : ℕ) (declared : List FlatVariable) (x : ℕ) (values : List TermTree) → length values ≡ size
@@ -110,7 +110,7 @@ module _ (declared : List FlatVariable) (controls : ℕ) where
         word = word;
         mutable = mutable;
         known = counted_as word mutable size declared x (e ∷ es) is.2 is.0.listed;
-        suit = suit_among types (types_of declared) among word (e ∷ es) is.1;
+        suit = suit_among types (types_but declared x) (among_but declared types x is.0.new among) word (e ∷ es) is.1;
       },
       tt,
     )

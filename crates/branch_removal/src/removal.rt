@@ -1,7 +1,8 @@
-ghost use Rattle.std.specs.Prelude.{◌≡◌, ◌+◌, ◌^◌, ◌<◌, map, IfOk, OnOk};
+ghost use Rattle.std.specs.Prelude.{◌≡◌, ◌+◌, ◌^◌, ◌<◌, ◌≤◌, map, IfOk, OnOk};
 ghost use Rattle.inline.specs.Flat.{term_tree, flat_tree, flat_block};
 ghost use Rattle.inline.specs.FlatSize.{IsSized};
 ghost use Rattle.inline.specs.FlatTyping.{IsTypedProgram};
+ghost use Rattle.intervals.specs.declared.limits.TheConstants.{MOST_WORK};
 ghost use Rattle.intervals.specs.Loose.{IsSafe};
 ghost use Rattle.intervals.specs.Work.{ranged as counted_for};
 ghost use Rattle.branch_removal.specs.Removal.{set_within, put_within, made, removed, removed_all, controls_in, controls_in_all};
@@ -125,6 +126,7 @@ pub fn remove<'r>(alloc: Global, ranged: &'r Ranged<'_>) -> Result<Straight<'r>,
     requires typed { IsTypedProgram ranged.now.flat }
     requires sized { IsSized ranged.now.flat }
     requires counted { ranged.now ≡ counted_for ranged.now.flat }
+    requires worked { ranged.now.work ≤ MOST_WORK }
     requires safe { IsSafe ranged.now.flat ranged.now.turns }
     ensures { IfOk result (IsRemoved ranged.now) }
 {

@@ -38,4 +38,4 @@ returns c =
       body = b;
       value = r.flat.value;
     }) controls code in
-    subst (IsRemoved r) (sym whole) (removed_as_promised r c.requires.typed c.requires.sized c.requires.counted c.requires.safe)
+    subst (IsRemoved r) (sym whole) (removed_as_promised r c.requires.typed c.requires.sized c.requires.counted c.requires.safe c.requires.worked)
