@@ -13,7 +13,7 @@ use Rattle.language.specs.declared.signature.Label.{Label}
 use Rattle.language.specs.declared.signature.Label.TheVariants.{Public, Secret}
 use Rattle.language.specs.declared.typing.WordType.{WordType}
 use Rattle.word.specs.declared.place.Place.{Place}
-use Rattle.branch_removal.specs.Removal.{removed, removed_all}
+use Rattle.branch_removal.specs.Removal.{take_within, removed, removed_all}
 use Rattle.branch_removal.specs.Straight.{take, StraightBlock}
 use Rattle.branch_removal.specs.Straight as straight
 use Rattle.branch_removal.specs.StraightMeaning.{StraightState, value_at, counted, after, after_all, path_along}
@@ -129,7 +129,7 @@ module _ (declared : List FlatVariable) (most : List ℕ) where
     fine types label (put place x size index value) typed among (Some c) control under s m agree safe =
         fine_alone most _ (fine_put types label s m agree place x size index value typed safe)
     fine types label (branch Secret condition accepted otherwise) typed among within control under s m agree safe =
-        let taken : StraightState = after s (take control within condition) in
+        let taken : StraightState = after s (take_within within control condition) in
         let code : StraightBlock = removed_all (Some control) (control + 2) accepted in
         let other : StraightBlock = removed_all (Some (control + 1)) (control + 2) otherwise in
         let one = follow_all declared types Secret accepted typed.1 among (Some control) (control + 2) refl taken m agree in

@@ -10,7 +10,7 @@ use Rattle.language.specs.WellTyped.{labelled}
 use Rattle.language.specs.declared.signature.Kind.TheVariants.{Boolean}
 use Rattle.language.specs.declared.signature.Label.{Label}
 use Rattle.language.specs.declared.signature.Label.TheVariants.{Public, Secret}
-use Rattle.branch_removal.specs.Removal.{removed, removed_all}
+use Rattle.branch_removal.specs.Removal.{take_within, removed, removed_all}
 use Rattle.branch_removal.specs.Straight.{take, StraightBlock}
 use Rattle.branch_removal.specs.Straight as straight
 use Rattle.branch_removal.specs.StraightMeaning.{StraightState, with_variable, value_at, counted, after, after_all}
@@ -195,7 +195,7 @@ module _ (declared : List FlatVariable) where
       agree = set_beside types label c x _ _ _ typed.known typed.hidden under s m agree;
     }
     follow types label (branch Secret condition accepted otherwise) typed among within control under s m agree =
-        let taken : StraightState = after s (take control within condition) in
+        let taken : StraightState = after s (take_within within control condition) in
         let code : StraightBlock = removed_all (Some control) (control + 2) accepted in
         let other : StraightBlock = removed_all (Some (control + 1)) (control + 2) otherwise in
         let one = follow_all types Secret accepted typed.1 among (Some control) (control + 2) refl taken m agree in

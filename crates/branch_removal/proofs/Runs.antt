@@ -5,7 +5,7 @@ use Rattle.inline.specs.Flat.{FlatTree, declare, array, assign, put, branch, loo
 use Rattle.inline.specs.FlatMeaning.{turns, path_of_turns}
 use Rattle.inline.specs.Path.{Path}
 use Rattle.language.specs.declared.signature.Label.TheVariants.{Public, Secret}
-use Rattle.branch_removal.specs.Removal.{removed, removed_all}
+use Rattle.branch_removal.specs.Removal.{take_within, removed, removed_all}
 use Rattle.branch_removal.specs.Straight.{StraightTree, take, StraightBlock, chain}
 use Rattle.branch_removal.specs.Straight as straight
 use Rattle.branch_removal.specs.StraightMeaning.{StraightState, with_variable, with_controls, value_at, counted, after, after_all, path_at, path_along}
@@ -94,7 +94,7 @@ mutual
   controls_stay (Some k) control (put place x size index value) s c below =
       ap (λ (controls : ℕ → Bool). controls c) (under_controls (s.controls k) s x (slice_set (s.variables x) (value_at s index) (value_at s value)))
   controls_stay within control (branch Secret condition accepted otherwise) s c below =
-      let taken : StraightState = after s (take control within condition) in
+      let taken : StraightState = after s (take_within within control condition) in
       let code : StraightBlock = removed_all (Some control) (control + 2) accepted in
       ap (λ (t : StraightState). t.controls c) (after-chain taken code (removed_all (Some (control + 1)) (control + 2) otherwise))
       ∙ (controls_stay_all (Some (control + 1)) (control + 2) otherwise (after_all taken code) c (omega arith)

@@ -9,8 +9,8 @@ use Rattle.inline.specs.FlatTyping.{Types, with_type, IsTyped, AreTyped, types_a
 use Rattle.language.specs.declared.signature.Label.{Label}
 use Rattle.language.specs.declared.signature.Label.TheVariants.{Public, Secret}
 use Rattle.word.specs.declared.place.Place.{Place}
-use Rattle.branch_removal.specs.Removal.{removed, removed_all}
-use Rattle.branch_removal.specs.Straight.{take, StraightBlock}
+use Rattle.branch_removal.specs.Removal.{take_within, removed, removed_all}
+use Rattle.branch_removal.specs.Straight.{StraightBlock}
 use Rattle.branch_removal.specs.StraightMeaning.{StraightState, holds, with_variable, with_element, value_at, counted, after, after_all}
 use Rattle.branch_removal.proofs.Agreement.{Sees, Agree, everything, set_in_both, declared_in_both}
 use Rattle.branch_removal.proofs.Runs.{after-chain, turns_relate_from, first_control, second_control, controls_stay, controls_stay_all}
@@ -82,7 +82,7 @@ module _ (declared : List FlatVariable) where
         (sym (cond-true (s.controls c) (with_variable s x (slice_set (s.variables x) (value_at s index) (value_at s value))) s on))
         (same_put types label place x size index value typed s m agree)
     same types label (branch Secret condition accepted otherwise) typed within control below s m on agree =
-        let taken : StraightState = after s (take control within condition) in
+        let taken : StraightState = after s (take_within within control condition) in
         let code : StraightBlock = removed_all (Some control) (control + 2) accepted in
         let other : StraightBlock = removed_all (Some (control + 1)) (control + 2) otherwise in
         let between : StraightState = after_all taken code in

@@ -11,8 +11,8 @@ use Rattle.language.specs.declared.signature.Label.{Label}
 use Rattle.language.specs.declared.signature.Label.TheVariants.{Public, Secret}
 use Rattle.branch_removal.specs.declared.straight.StraightStatement.{StraightStatement}
 use Rattle.branch_removal.specs.declared.straight.StraightStatement as code
-use Rattle.branch_removal.specs.Removal.{controls_in, controls_in_all, own_controls, removed, removed_all}
-use Rattle.branch_removal.specs.Straight.{StraightTree, StraightBlock, nothing, first, chain, take, branch, repeats, straight_tree, straight_row, straight_block}
+use Rattle.branch_removal.specs.Removal.{take_within, controls_in, controls_in_all, own_controls, removed, removed_all}
+use Rattle.branch_removal.specs.Straight.{StraightTree, StraightBlock, nothing, first, chain, branch, repeats, straight_tree, straight_row, straight_block}
 
 -- Statements of the body.
 
@@ -177,15 +177,15 @@ module _ (statement : FlatStatement) (label : Label) (condition : Term) (accepte
   -- of a branch on a secret: the condition is taken, and both arms follow
   pub code_of_secret : label ≡ Secret → (within : Option ℕ) (control : ℕ) (old taken one_arm both_arms : StraightBlock) (ones others : List FlatStatement)
       → ones ≡ accepted.items → others ≡ otherwise.items
-      → taken ≡ chain old (first (take control within (term_tree condition)) nothing)
+      → taken ≡ chain old (first (take_within within control (term_tree condition)) nothing)
       → one_arm ≡ chain taken (removed_all (Some control) (control + 2) (flat_block ones))
       → both_arms ≡ chain one_arm (removed_all (Some (control + 1)) (control + 2) (flat_block others))
       → both_arms ≡ chain old (removed within control (flat_tree statement))
   code_of_secret secret within control old taken one_arm both_arms ones others one other t a b =
       let first_arm = removed_all (Some control) (control + 2) (flat_block ones) in
       let second_arm = removed_all (Some (control + 1)) (control + 2) (flat_block others) in
-      let condition_taken : StraightBlock = first (take control within (term_tree condition)) nothing in
-      let whole : removed within control (flat_tree statement) ≡ first (take control within (term_tree condition)) (chain first_arm second_arm) =
+      let condition_taken : StraightBlock = first (take_within within control (term_tree condition)) nothing in
+      let whole : removed within control (flat_tree statement) ≡ first (take_within within control (term_tree condition)) (chain first_arm second_arm) =
       ap (removed within control) (tree_of_branch ones others one other)
       ∙ ap (λ l. removed within control (flat.branch l (term_tree condition) (flat_block ones) (flat_block others))) secret in
       b ∙ (ap (λ front. chain front second_arm) (a ∙ ap (λ front. chain front first_arm) t)

@@ -8,8 +8,8 @@ use Rattle.inline.specs.Flat.{TermTree, FlatTree, declare, array, assign, put, b
 use Rattle.inline.specs.FlatTyping.{Types, with_type, IsTyped, AreTyped, types_after, counter_type}
 use Rattle.language.specs.declared.signature.Label.{Label}
 use Rattle.language.specs.declared.signature.Label.TheVariants.{Public, Secret}
-use Rattle.branch_removal.specs.Removal.{removed, removed_all}
-use Rattle.branch_removal.specs.Straight.{take, StraightBlock}
+use Rattle.branch_removal.specs.Removal.{take_within, removed, removed_all}
+use Rattle.branch_removal.specs.Straight.{StraightBlock}
 use Rattle.branch_removal.specs.StraightMeaning.{StraightState, holds, with_variable, value_at, counted, after, after_all}
 use Rattle.branch_removal.proofs.Agreement.{Sees, Agree, what_is_public}
 use Rattle.branch_removal.proofs.Runs.{after-chain, turns_keep, first_control, second_control, controls_stay, controls_stay_all}
@@ -31,17 +31,17 @@ quiet_after sees label within control s t same (hidden secret public) = hidden s
 
 -- of the arms of a branch on a secret
 quiet_first : (sees : Sees) (label : Label) (within : Option ℕ) (control : ℕ) (condition : TermTree) (s : StraightState)
-    → Quiet sees label within control s → Quiet sees Secret (Some control) (control + 2) (after s (take control within condition))
+    → Quiet sees label within control s → Quiet sees Secret (Some control) (control + 2) (after s (take_within within control condition))
 quiet_first sees label within control condition s (switched_off {c = c} below off) =
     switched_off (omega arith) (first_control s control _ _ ∙ and_left (s.controls c) _ off)
 quiet_first sees label within control condition s (hidden secret public) = hidden refl public
 
 quiet_second : (sees : Sees) (label : Label) (within : Option ℕ) (control : ℕ) (condition : TermTree) (accepted : FlatBlock) (s : StraightState)
     → Quiet sees label within control s
-    → Quiet sees Secret (Some (control + 1)) (control + 2) (after_all (after s (take control within condition)) (removed_all (Some control) (control + 2) accepted))
+    → Quiet sees Secret (Some (control + 1)) (control + 2) (after_all (after s (take_within within control condition)) (removed_all (Some control) (control + 2) accepted))
 quiet_second sees label within control condition accepted s (switched_off {c = c} below off) =
     switched_off (omega arith)
-    (controls_stay_all (Some control) (control + 2) accepted (after s (take control within condition)) (control + 1) (omega arith)
+    (controls_stay_all (Some control) (control + 2) accepted (after s (take_within within control condition)) (control + 1) (omega arith)
     ∙ (second_control s control _ _ ∙ and_left (s.controls c) _ off))
 quiet_second sees label within control condition accepted s (hidden secret public) = hidden refl public
 
@@ -88,7 +88,7 @@ module _ (declared : List FlatVariable) (sees : Sees) where
     unchanged types label (put place x size index value) typed (Some c) control s quiet y d known seen =
         set_quietly sees types label (Some c) control s x (slice_set (s.variables x) (value_at s index) (value_at s value)) _ typed.known typed.hidden quiet y d known seen
     unchanged types label (branch Secret condition accepted otherwise) typed within control s quiet y d known seen =
-        let taken : StraightState = after s (take control within condition) in
+        let taken : StraightState = after s (take_within within control condition) in
         let code : StraightBlock = removed_all (Some control) (control + 2) accepted in
         ap (λ (t : StraightState). t.variables y) (after-chain taken code (removed_all (Some (control + 1)) (control + 2) otherwise))
         ∙ (unchanged_all types Secret otherwise typed.2 (Some (control + 1)) (control + 2) (after_all taken code)
