@@ -1,87 +1,172 @@
 -- Straight code keeps the bounds of the body that it is made for.
-use Rattle.std.proofs.Common.{◌≡◌, ℕ, ◌+◌, ◌*◌, ◌≤◌, List, [], ◌∷◌, ◌++◌, Option, None, Some, max, is_some, refl, arith}
-use Rattle.std.proofs.Math.Nat.{max-le, le-max_left, le-max_right}
-use Rattle.std.specs.List.{AllByRecursion}
-use Rattle.inline.specs.Flat.{TermTree, FlatTree, declare, assign, branch, FlatBlock, nothing, first, FlatProgram}
+use Rattle.std.proofs.Common.{◌≡◌, ℕ, ◌+◌, ◌*◌, ◌≤◌, List, [], ◌∷◌, Option, None, Some, max, slice_index, refl, ap, arith}
+use Rattle.std.proofs.Math.Nat.{max-le}
+use Rattle.inline.specs.declared.flat.FlatVariable.{FlatVariable}
+use Rattle.inline.specs.Flat.{TermTree, FlatTree, declare, array, assign, put, branch, loop, FlatBlock, nothing, first, FlatProgram}
 use Rattle.inline.specs.Flat as flat
-use Rattle.inline.specs.FlatSize.{IsUpTo, IsTreeUpTo, IsBodyUpTo, IsSized, term_nodes, tree_nodes, body_nodes}
-use Rattle.inline.specs.FlatTyping.{Types, IsResult, IsTypedProgram}
-use Rattle.language.specs.declared.typing.WordType.{WordType}
-use Rattle.branch_removal.specs.Bounds.{statement_nodes, code_nodes, taken_in_all, IsAmong, HasPlaces, IsBounded}
-use Rattle.branch_removal.specs.Removal.{set_within, removed, removed_all, controls_in, controls_in_all, straightened}
-use Rattle.branch_removal.specs.Straight.{StraightTree}
+use Rattle.inline.specs.FlatSize.{IsSized, term_nodes, tree_nodes, body_nodes}
+use Rattle.inline.specs.FlatTyping.{Types, types_after, with_type, IsTyped, AreTyped, IsTypedProgram}
+use Rattle.intervals.specs.declared.limits.TheConstants.{MOST_WORK}
+use Rattle.intervals.specs.Work.{tree_work, body_work, ranged}
+use Rattle.language.specs.declared.signature.Label.{Label}
+use Rattle.language.specs.declared.signature.Label.TheVariants.{Public, Secret}
+use Rattle.word.specs.declared.place.Place.{Place}
+use Rattle.branch_removal.specs.Bounds.{statement_nodes, block_nodes, statement_work, block_work, taken_in_all, IsBounded}
+use Rattle.branch_removal.specs.Removal.{set_within, put_within, removed, removed_all, controls_in, controls_in_all, straightened}
+use Rattle.branch_removal.specs.Straight.{StraightBlock, chain}
+use Rattle.branch_removal.specs.Straight as straight
 
 some_node : (e : TermTree) → 1 ≤ term_nodes e
 some_node (flat.number value kind) = omega arith
 some_node (flat.truth value) = omega arith
 some_node (flat.variable x) = omega arith
 some_node (flat.prefix operator width operand) = omega arith
-some_node (flat.binary operator width left right) = omega arith
+some_node (flat.binary place operator width left right) = omega arith
 some_node (flat.rotate width operand amount) = omega arith
 some_node (flat.convert kind operand) = omega arith
 some_node (flat.select condition accepted otherwise) = omega arith
+some_node (flat.element place x size index) = omega arith
 
 -- Nodes.
 
-nodes-append : (xs ys : List StraightTree) → code_nodes (xs ++ ys) ≡ code_nodes xs + code_nodes ys
-nodes-append [] ys = omega arith
-nodes-append (x ∷ xs) ys = omega (arith, nodes-append xs ys)
+nodes-chain : (these those : StraightBlock) → block_nodes (chain these those) ≡ block_nodes these + block_nodes those
+nodes-chain straight.nothing those = omega arith
+nodes-chain (straight.first statement these) those = omega (arith, nodes-chain these those)
 
-assigned_nodes : (within : Option ℕ) (x : ℕ) (value : TermTree) → statement_nodes (set_within within x value) ≡ 1 + term_nodes value
-assigned_nodes None x value = refl
-assigned_nodes (Some control) x value = refl
+nodes_within : (within : Option ℕ) (x : ℕ) (value : TermTree) → statement_nodes (set_within within x value) ≡ 1 + term_nodes value
+nodes_within None x value = refl
+nodes_within (Some control) x value = refl
+
+nodes_put : (within : Option ℕ) (place : Place) (x size : ℕ) (index value : TermTree)
+    → statement_nodes (put_within within place x size index value) ≡ 1 + (1 + term_nodes index) + term_nodes value
+nodes_put None place x size index value = refl
+nodes_put (Some control) place x size index value = refl
 
 mutual
-  same_nodes : (within : Option ℕ) (control : ℕ) (s : FlatTree) → code_nodes (removed within control s) ≡ tree_nodes s
-  same_nodes within control (declare x word value) = omega arith
-  same_nodes within control (assign x value) = omega (arith, assigned_nodes within x value)
-  same_nodes within control (branch condition accepted otherwise) =
+  same_nodes : (within : Option ℕ) (control : ℕ) (s : FlatTree) → block_nodes (removed within control s) ≡ tree_nodes s
+  same_nodes within control (declare x word mutable value) = omega arith
+  same_nodes within control (array x word mutable size []) = omega arith
+  same_nodes within control (array x word mutable size (e ∷ es)) = omega arith
+  same_nodes within control (assign x value) = omega (arith, nodes_within within x value)
+  same_nodes within control (put place x size index value) = omega (arith, nodes_put within place x size index value)
+  same_nodes within control (branch Secret condition accepted otherwise) =
       let xs = removed_all (Some control) (control + 2) accepted in
       let ys = removed_all (Some (control + 1)) (control + 2) otherwise in
-      omega (arith, nodes-append xs ys, same_nodes_all (Some control) (control + 2) accepted, same_nodes_all (Some (control + 1)) (control + 2) otherwise)
+      omega (arith, nodes-chain xs ys, same_nodes_all (Some control) (control + 2) accepted, same_nodes_all (Some (control + 1)) (control + 2) otherwise)
+  same_nodes within control (branch Public condition accepted otherwise) =
+      omega (arith, same_nodes_all within control accepted, same_nodes_all within control otherwise)
+  same_nodes within control (loop x low high body) = omega (arith, same_nodes_all within control body)
 
-  pub same_nodes_all : (within : Option ℕ) (control : ℕ) (b : FlatBlock) → code_nodes (removed_all within control b) ≡ body_nodes b
+  same_nodes_all : (within : Option ℕ) (control : ℕ) (b : FlatBlock) → block_nodes (removed_all within control b) ≡ body_nodes b
   same_nodes_all within control nothing = refl
   same_nodes_all within control (first s rest) =
-      omega (arith, nodes-append (removed within control s) (removed_all within control rest), same_nodes within control s, same_nodes_all within control rest)
+      omega (arith, nodes-chain (removed within control s) (removed_all within control rest), same_nodes within control s, same_nodes_all within control rest)
+
+-- Work.
+
+module _ (most : List ℕ) where
+  work-chain : (these those : StraightBlock) → block_work most (chain these those) ≡ block_work most these + block_work most those
+  work-chain straight.nothing those = omega arith
+  work-chain (straight.first statement these) those = omega (arith, work-chain these those)
+
+  work_within : (within : Option ℕ) (x : ℕ) (value : TermTree) → statement_work most (set_within within x value) ≡ 1 + term_nodes value
+  work_within None x value = refl
+  work_within (Some control) x value = refl
+
+  work_put : (within : Option ℕ) (place : Place) (x size : ℕ) (index value : TermTree)
+      → statement_work most (put_within within place x size index value) ≡ 1 + (1 + term_nodes index) + term_nodes value
+  work_put None place x size index value = refl
+  work_put (Some control) place x size index value = refl
+
+  module _ (declared : List FlatVariable) where
+    mutual
+      same_work : (types : Types) (label : Label) (s : FlatTree) → IsTyped declared types label s → (within : Option ℕ) (control : ℕ)
+          → block_work most (removed within control s) ≡ tree_work most s
+      same_work types label (declare x word mutable value) typed within control = omega arith
+      same_work types label (array x word mutable size []) typed within control = omega arith
+      same_work types label (array x word mutable size (e ∷ es)) typed within control = omega (arith, typed.2)
+      same_work types label (assign x value) typed within control = omega (arith, work_within within x value)
+      same_work types label (put place x size index value) typed within control = omega (arith, work_put within place x size index value)
+      same_work types label (branch Secret condition accepted otherwise) typed within control =
+          let xs = removed_all (Some control) (control + 2) accepted in
+          let ys = removed_all (Some (control + 1)) (control + 2) otherwise in
+          let one = same_work_all types Secret accepted typed.1 (Some control) (control + 2) in
+          let other = same_work_all types Secret otherwise typed.2 (Some (control + 1)) (control + 2) in
+          omega (arith, work-chain xs ys, one, other)
+      same_work types label (branch Public condition accepted otherwise) typed within control =
+          let one = same_work_all types label accepted typed.1 within control in
+          let other = same_work_all types label otherwise typed.2 within control in
+          omega (arith, one, other)
+      same_work types label (loop x low high body) typed within control =
+          let inner = same_work_all (with_type types x _) label body typed.3 within control in
+          let turns : (slice_index most x + 1) * (1 + block_work most (removed_all within control body)) ≡ (slice_index most x + 1) * (1 + body_work most body) =
+          ap (λ work. (slice_index most x + 1) * (1 + work)) inner in
+          omega (arith, turns)
+
+      pub same_work_all : (types : Types) (label : Label) (b : FlatBlock) → AreTyped declared types label b → (within : Option ℕ) (control : ℕ)
+          → block_work most (removed_all within control b) ≡ body_work most b
+      same_work_all types label nothing typed within control = refl
+      same_work_all types label (first s rest) typed within control =
+          let one = same_work types label s typed.0 within control in
+          let more = same_work_all (types_after types s) label rest typed.1 within control in
+          omega (arith, work-chain (removed within control s) (removed_all within control rest), one, more)
 
 -- Control values.
 
-taken-append : (xs ys : List StraightTree) → taken_in_all (xs ++ ys) ≡ taken_in_all xs + taken_in_all ys
-taken-append [] ys = omega arith
-taken-append (x ∷ xs) ys = omega (arith, taken-append xs ys)
+taken-chain : (these those : StraightBlock) → taken_in_all (chain these those) ≡ taken_in_all these + taken_in_all those
+taken-chain straight.nothing those = omega arith
+taken-chain (straight.first statement these) those = omega (arith, taken-chain these those)
+
+-- what two arms take at most
+most_of_two : (a b m n : ℕ) → a ≤ 2 * m → b ≤ 2 * n → max a b ≤ 2 * (m + n)
+most_of_two a b m n p q = max-le (omega (arith, p)) (omega (arith, q))
 
 mutual
   controls_taken : (within : Option ℕ) (control : ℕ) (s : FlatTree) → controls_in s ≤ 2 * taken_in_all (removed within control s)
-  controls_taken within control (declare x word value) = omega arith
+  controls_taken within control (declare x word mutable value) = omega arith
+  controls_taken within control (array x word mutable size values) = omega arith
   controls_taken within control (assign x value) = omega arith
-  controls_taken within control (branch condition accepted otherwise) =
+  controls_taken within control (put place x size index value) = omega arith
+  controls_taken within control (branch Secret condition accepted otherwise) =
       let xs = removed_all (Some control) (control + 2) accepted in
       let ys = removed_all (Some (control + 1)) (control + 2) otherwise in
-      let p = controls_taken_all (Some control) (control + 2) accepted in
-      let q = controls_taken_all (Some (control + 1)) (control + 2) otherwise in
-      let most : max (controls_in_all accepted) (controls_in_all otherwise) ≤ 2 * (taken_in_all xs + taken_in_all ys) = max-le (omega (arith, p)) (omega (arith, q)) in
-      omega (arith, most, taken-append xs ys)
+      let most = most_of_two (controls_in_all accepted) (controls_in_all otherwise) (taken_in_all xs) (taken_in_all ys)
+      (controls_taken_all (Some control) (control + 2) accepted) (controls_taken_all (Some (control + 1)) (control + 2) otherwise) in
+      omega (arith, most, taken-chain xs ys)
+  controls_taken within control (branch Public condition accepted otherwise) =
+      let xs = removed_all within control accepted in
+      let ys = removed_all within control otherwise in
+      let most = most_of_two (controls_in_all accepted) (controls_in_all otherwise) (taken_in_all xs) (taken_in_all ys)
+      (controls_taken_all within control accepted) (controls_taken_all within control otherwise) in
+      omega (arith, most)
+  controls_taken within control (loop x low high body) = omega (arith, controls_taken_all within control body)
 
   controls_taken_all : (within : Option ℕ) (control : ℕ) (b : FlatBlock) → controls_in_all b ≤ 2 * taken_in_all (removed_all within control b)
   controls_taken_all within control nothing = omega arith
   controls_taken_all within control (first s rest) =
       let xs = removed within control s in
       let ys = removed_all within control rest in
-      let p = controls_taken within control s in
-      let q = controls_taken_all within control rest in
-      let most : max (controls_in s) (controls_in_all rest) ≤ 2 * (taken_in_all xs + taken_in_all ys) = max-le (omega (arith, p)) (omega (arith, q)) in
-      omega (arith, most, taken-append xs ys)
+      let most = most_of_two (controls_in s) (controls_in_all rest) (taken_in_all xs) (taken_in_all ys)
+      (controls_taken within control s) (controls_taken_all within control rest) in
+      omega (arith, most, taken-chain xs ys)
 
 mutual
   few : (s : FlatTree) → controls_in s ≤ tree_nodes s
-  few (declare x word value) = omega arith
+  few (declare x word mutable value) = omega arith
+  few (array x word mutable size values) = omega arith
   few (assign x value) = omega arith
-  few (branch condition accepted otherwise) =
+  few (put place x size index value) = omega arith
+  few (branch Secret condition accepted otherwise) =
       let one = few_all accepted in
       let other = few_all otherwise in
       let most : max (controls_in_all accepted) (controls_in_all otherwise) ≤ body_nodes accepted + body_nodes otherwise = max-le (omega (arith, one)) (omega (arith, other)) in
       omega (arith, most, some_node condition)
+  few (branch Public condition accepted otherwise) =
+      let one = few_all accepted in
+      let other = few_all otherwise in
+      let most : max (controls_in_all accepted) (controls_in_all otherwise) ≤ body_nodes accepted + body_nodes otherwise = max-le (omega (arith, one)) (omega (arith, other)) in
+      omega (arith, most)
+  few (loop x low high body) = omega (arith, few_all body)
 
   few_all : (b : FlatBlock) → controls_in_all b ≤ body_nodes b
   few_all nothing = omega arith
@@ -91,56 +176,13 @@ mutual
 pub few_controls : (p : FlatProgram) → IsSized p → controls_in_all p.body ≤ 6000
 few_controls p sized = omega (arith, few_all p.body, sized.counted, sized.nodes)
 
--- Places.
-
-both : {A : Type 0} (P : A → Type 0) (xs ys : List A) → AllByRecursion P xs → AllByRecursion P ys → AllByRecursion P (xs ++ ys)
-both P [] ys h k = k
-both P (x ∷ xs) ys h k = (h.0, both P xs ys h.1 k)
-
-module _ (most controls : ℕ) where
-  assigned : (within : Option ℕ) (x : ℕ) (value : TermTree) → IsAmong controls within → x ≤ most → IsUpTo most value → HasPlaces most controls (set_within within x value)
-  assigned None x value among below fits = (below, fits)
-  assigned (Some control) x value among below fits = (among, below, fits)
-
-  mutual
-    places : (within : Option ℕ) (control : ℕ) (s : FlatTree) → IsTreeUpTo most s → IsAmong controls within → control + controls_in s ≤ controls → AllByRecursion (HasPlaces most controls) (removed within control s)
-    places within control (declare x word value) up among free = (up, tt)
-    places within control (assign x value) up among free = (assigned within x value among up.0 up.1, tt)
-    places within control (branch condition accepted otherwise) up among free =
-        let a = controls_in_all accepted in
-        let b = controls_in_all otherwise in
-        let left = le-max_left a b in
-        let right = le-max_right a b in (
-          (omega (arith, free), among, up.0),
-          both (HasPlaces most controls) (removed_all (Some control) (control + 2) accepted) (removed_all (Some (control + 1)) (control + 2) otherwise)
-              (places_all (Some control) (control + 2) accepted up.1 (omega (arith, free)) (omega (arith, free, left)))
-              (places_all (Some (control + 1)) (control + 2) otherwise up.2 (omega (arith, free)) (omega (arith, free, right))),
-        )
-
-    pub places_all : (within : Option ℕ) (control : ℕ) (b : FlatBlock) → IsBodyUpTo most b → IsAmong controls within → control + controls_in_all b ≤ controls → AllByRecursion (HasPlaces most controls) (removed_all within control b)
-    places_all within control nothing up among free = tt
-    places_all within control (first s rest) up among free =
-        let left = le-max_left (controls_in s) (controls_in_all rest) in
-        let right = le-max_right (controls_in s) (controls_in_all rest) in
-        both (HasPlaces most controls) (removed within control s) (removed_all within control rest)
-        (places within control s up.0 among (omega (arith, free, left))) (places_all within control rest up.1 among (omega (arith, free, right)))
-
--- a typed result has a value, and no other
-same_presence : (types : Types) (returned : Option WordType) (value : Option TermTree) → IsResult types returned value → is_some value ≡ is_some returned
-same_presence types None None typed = refl
-same_presence types None (Some value) typed = absurd typed
-same_presence types (Some word) None typed = absurd typed
-same_presence types (Some word) (Some value) typed = refl
-
-pub bounded : (p : FlatProgram) → IsTypedProgram p → IsSized p → IsBounded (straightened p)
-bounded p typed sized = record {
-  words = sized.words;
-  parameters = sized.parameters;
-  variables = sized.variables;
-  statements = places_all p.variables (controls_in_all p.body) None 0 p.body sized.body tt (omega arith);
-  value = sized.value;
+pub bounded : (p : FlatProgram) → IsTypedProgram p → IsSized p → (ranged p).work ≤ MOST_WORK → IsBounded (straightened (ranged p))
+bounded p typed sized fits = record {
+  lengths = sized.lengths;
+  declared = sized.declared;
   counted = omega (arith, same_nodes_all None 0 p.body, sized.counted);
   nodes = sized.nodes;
+  worked = omega (arith, same_work_all (ranged p).turns p.declared _ Public p.body typed.body None 0);
+  work_fits = fits;
   controls = controls_taken_all None 0 p.body;
-  result = same_presence _ p.returned p.value typed.result;
 }

@@ -1,8 +1,19 @@
 ghost use Rattle.std.specs.Prelude.{◌≡◌, ◌^◌, ◌<◌};
 ghost use Rattle.inline.specs.Flat.{flat_tree, flat_block};
-ghost use Rattle.branch_removal.specs.Removal.{controls_in, controls_in_all};
+ghost use Rattle.branch_removal.specs.Removal.{own_controls, controls_in, controls_in_all};
 
 use inline::FlatStatement;
+use language::Label;
+
+/// How many control values a conditional takes by itself, where its condition has this label.
+fn own_controls(label: Label) -> u32
+    ensures { result ≡ own_controls label }
+{
+    match label {
+        Label::Public => 0,
+        Label::Secret => 2,
+    }
+}
 
 /// How many control values a statement takes.
 #[cycle(controls)]
@@ -11,10 +22,14 @@ fn controls_in(statement: &FlatStatement) -> u32
     ensures { result ≡ controls_in (flat_tree statement.now) }
 {
     match statement {
-        FlatStatement::Declare(_, _, _) | FlatStatement::Assign(_, _) => 0,
-        FlatStatement::Branch(_, accepted, otherwise) => {
-            2 + controls_in_all(accepted).max(controls_in_all(otherwise))
+        FlatStatement::Declare(_, _, _, _)
+        | FlatStatement::DeclareArray(_, _, _, _, _)
+        | FlatStatement::Assign(_, _)
+        | FlatStatement::AssignElement(_, _, _, _, _) => 0,
+        FlatStatement::Branch(label, _, accepted, otherwise) => {
+            own_controls(*label) + controls_in_all(accepted).max(controls_in_all(otherwise))
         }
+        FlatStatement::Loop(_, _, _, body) => controls_in_all(body),
     }
 }
 
