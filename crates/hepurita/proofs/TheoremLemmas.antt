@@ -59,7 +59,7 @@ safe_means program export plain small safe args within =
 
 pub export_compiled : (program : ProgramTree) (export : ProcedureTree) (straight : StraightProgram) (image : Fields) → HasGrammaticalExport program → IsSmall program export → length (range_violations (flattened export)) ≡ 0 → IsRemoved (ranged (flattened export)) straight → IsGenerated straight image → IsCompiled program export image
 export_compiled program export straight image plain small in_range removed generated =
-    let safe = accepted_is_safe (flattened export) (flat_typed program export plain small) (flat_sized program export plain small) in_range in
+    let safe = accepted_is_safe (flattened export) (flat_typed program export plain small) in_range in
     compiled program export straight image (safe_means program export plain small safe) removed generated
 
 -- the export of a program that a text is, is grammatical
