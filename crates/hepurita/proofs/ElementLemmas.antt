@@ -66,6 +66,6 @@ is_some-with_numbers bytes size at [] there x = refl
 is_some-with_numbers bytes size at (v ∷ vs) there x =
     let all = mul-suc size (length vs) in
     let first : (y : ℕ) → is_some (with_number bytes size at v y) ≡ is_some (bytes y) =
-        λ y. is_some-with_number bytes size at v y (number_there bytes size at (λ z low high. there z low (omega (arith, high, all)))) in
+    λ y. is_some-with_number bytes size at v y (number_there bytes size at (λ z low high. there z low (omega (arith, high, all)))) in
     is_some-with_numbers (with_number bytes size at v) size (at + size) vs (λ y low high. first y ∙ there y (omega (arith, low)) (omega (arith, high, all))) x
     ∙ first x

@@ -30,7 +30,6 @@ pub space_more : (bound : ℕ) (each : List ArraySpace) (one : ArraySpace) → A
 space_more bound each one all it = All-append (HasSpace bound) each (one ∷ []) all (All-one (HasSpace bound) one it)
 
 module _ (frame : ℕ) (bytes : ByteMap) where
-
   next_slot : (slots : List Slot) (i : ℕ) (d : Slot) → i < length slots → arrays_in frame bytes (drop i slots) ≡ array_in frame bytes (slice_index_or slots i d).param.form (slice_index_or slots i d) ++ arrays_in frame bytes (drop (i + 1) slots)
   next_slot slots i d below =
       ap (arrays_in frame bytes) (drop-cons slots i d below)

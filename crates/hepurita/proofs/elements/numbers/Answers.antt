@@ -10,7 +10,7 @@ loop-index-preserved g c =
     let size = byte_count c.args.size in
     let bytes = g.M.Memory.bytes c.args.memory.now in
     let read = c.unwrap_or.ensures ∙ (ap (λ n. unwrap_or n 0) c.load-number.ensures.number
-        ∙ ap (λ n. unwrap_or (number_at bytes size (c.args.at + n * i)) 0) c.bytes-step.ensures) in
+    ∙ ap (λ n. unwrap_or (number_at bytes size (c.args.at + n * i)) 0) c.bytes-step.ensures) in
     record {
       so_far = c.push_reserved.ensures.items ∙ (ap₂ (λ (front : List ℕ) n. front ++ n ∷ []) c.loop-index.invariant.so_far read ∙ numbers_at-more bytes size c.args.at i);
       len = c.push_reserved.ensures.len ∙ ap (λ n. n + 1) c.loop-index.invariant.len;

@@ -18,7 +18,7 @@ loop-index-preserved g c =
     let there = number_there old size place (λ x from to. c.loop-index.invariant.data_there x ∙ c.requires.data x (omega (arith, from)) (omega (arith, to, ends))) in
     let same = ap (λ n. c.args.at + n * i) c.bytes-step.ensures in
     let stored : g.M.Memory.bytes c.store.new.self ≡ with_number old size place number =
-        c.store.ensures.stored (c.store.ensures.answer ∙ (ap (λ a. is_some (number_at old size a)) same ∙ there)) ∙ ap (λ a. with_number old size a number) same in
+    c.store.ensures.stored (c.store.ensures.answer ∙ (ap (λ a. is_some (number_at old size a)) same ∙ there)) ∙ ap (λ a. with_number old size a number) same in
     record {
       rest =
           ap (λ (b : ByteMap). with_numbers b size (c.args.at + size * (i + 1)) (drop (i + 1) c.args.numbers.now)) stored

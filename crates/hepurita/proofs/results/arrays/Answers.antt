@@ -16,7 +16,7 @@ loop-one-preserved g c =
     let short = ap length steps in
     let all : All (HasSpace c.args.image.now.frame_bytes) (one ∷ left) = subst (All (HasSpace c.args.image.now.frame_bytes)) steps at.invariant.each in
     let words : c.new.result ≡ elements_in c.args.frame bytes one.slot =
-        c.new.ensures ∙ (c.numbers-words.ensures ∙ ap (λ n. numbers_at bytes n (c.args.frame + one.slot.offset) one.slot.param.length) c.element_size-size.ensures) in
+    c.new.ensures ∙ (c.numbers-words.ensures ∙ ap (λ n. numbers_at bytes n (c.args.frame + one.slot.offset) one.slot.param.length) c.element_size-size.ensures) in
     record {
       rest =
           ap (λ (xs : List (List ℕ)). xs ++ map (λ x. elements_in c.args.frame bytes x.slot) left) (c.push_reserved.ensures.items ∙ ap (λ (w : List ℕ). at.arrays.items ++ w ∷ []) words)

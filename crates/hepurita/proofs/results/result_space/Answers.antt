@@ -20,7 +20,7 @@ loop-slot-preserved c =
     let slot = slice_index_or slots i no_slot in
     let bound = c.args.image.now.frame_bytes in
     let inside : slot_end slot ≤ bound = All-from_recursion (λ (s : Slot). slot_end s ≤ bound) slots
-        (subst (λ (xs : List Slot). AllByRecursion (λ s. slot_end s ≤ bound) xs) (sym c.slots-slot-items.ensures.slots) c.slots-slot-items.ensures.allowed.slots_inside) i no_slot c.loop-slot-test.true in
+    (subst (λ (xs : List Slot). AllByRecursion (λ s. slot_end s ≤ bound) xs) (sym c.slots-slot-items.ensures.slots) c.slots-slot-items.ensures.allowed.slots_inside) i no_slot c.loop-slot-test.true in
     elim c.if-eq.branch [
       | then-eq+in_ok-words+in_ok-push w ↦
           let is : slot.param.form ≡ MutableArray = search (rules, w.if-eq.ensures, c.eq.ensures) in
@@ -32,7 +32,7 @@ loop-slot-preserved c =
                 (record { inside = array_inside bound slot is inside; empty = w.in_ok-words.ensures.items; enough = w.in_ok-words.ensures.capacity }));
             in_order = λ frame bytes. ap (λ (xs : List ArraySpace). map (λ x. elements_in frame bytes x.slot) xs ++ arrays_in frame bytes (drop (i + 1) slots)) pushed
                 ∙ in_order_more frame bytes c.loop-slot.each.items one (arrays_in frame bytes (drop i slots)) (arrays_in frame bytes (drop (i + 1) slots)) (arrays_in frame bytes c.args.image.now.slots)
-                    (past_array frame bytes slots i no_slot c.loop-slot-test.true is) (c.loop-slot.invariant.in_order frame bytes);
+                (past_array frame bytes slots i no_slot c.loop-slot-test.true is) (c.loop-slot.invariant.in_order frame bytes);
           }
       | else-eq w ↦
           let other : slot.param.form ≢ MutableArray = search (rules, w.if-eq.ensures, c.eq.ensures) in
