@@ -1,5 +1,5 @@
 -- The arguments, loaded: what the variables hold, and what lies in the slots.
-use Rattle.std.proofs.Common.{◌≡◌, ℕ, zero, suc, ◌+◌, ◌*◌, ◌/◌, ◌%◌, ◌^◌, ◌<◌, ◌≤◌, true, ◌&&◌, cond, nat_le, nat_lt, List, [], ◌∷◌, length, Some, None, is_some, refl, ap, ap₂, ◌∙◌, subst, arith, inl, inr}
+use Rattle.std.proofs.Common.{◌≡◌, ℕ, zero, suc, ◌+◌, ◌*◌, ◌/◌, ◌%◌, ◌^◌, ◌<◌, ◌≤◌, true, ◌&&◌, cond, nat_le, nat_lt, List, [], ◌∷◌, ◌++◌, length, Some, None, is_some, refl, ap, ap₂, ◌∙◌, subst, arith, inl, inr}
 use Rattle.std.proofs.lemmas.Bool.Decides.{nat_tests}
 use Rattle.std.specs.List.{AllByRecursion}
 use Rattle.arguments.specs.Within.{AreWithin, IsWithin, HasShape, greatest_of}
@@ -16,8 +16,14 @@ use Rattle.language.specs.declared.signature.Kind.TheVariants.{Boolean, Uint8, U
 use Rattle.language.specs.declared.signature.Param.{Param}
 use Rattle.language.specs.declared.values.Arg.{Arg}
 use Rattle.language.specs.declared.values.Arg.TheVariants.{Word, Array}
-use Rattle.codegen.specs.Loaded.{with_argument, with_arguments}
+use Rattle.codegen.specs.Loaded.{array_in, arrays_in, with_argument, with_arguments}
 use Rattle.codegen.proofs.Values.{Ready}
+
+-- slots of words hold no arrays
+pub no_arrays : (frame : ℕ) (bytes : ByteMap) (low : ℕ) (ps : List Param) → AllByRecursion IsWord ps → arrays_in frame bytes (slots_from low ps) ≡ []
+no_arrays frame bytes low [] words = refl
+no_arrays frame bytes low (p ∷ ps) words =
+    ap₂ (λ one rest. one ++ rest) (ap (λ form. array_in frame bytes form (record { param = p; offset = low })) words.0.form) (no_arrays frame bytes (low + 4) ps words.1)
 
 greatest : (kind : Kind) → greatest_of kind < 2 ^ 32
 greatest Boolean = omega arith
@@ -63,16 +69,17 @@ number_at-zeros base n (suc m) a low high =
     number_at-suc (zeros base n) m a ∙ ap₂ joined byte (number_at-zeros base n m (a + 1) (omega arith) (omega arith))
 
 module _ (frame size : ℕ) where
-  below_one : (bytes : ByteMap) (low : ℕ) (p : Param) (arg : Arg) (x : ℕ) → x + 4 ≤ low → number_at (with_argument frame bytes (record { param = p; offset = low }) arg) 4 (frame + x) ≡ number_at bytes 4 (frame + x)
-  below_one bytes low p (Word w) x below = number_at_apart bytes 4 (frame + low) w 4 (frame + x) (inl (omega arith))
-  below_one bytes low p (Array ws) x below = refl
+  below_one : (bytes : ByteMap) (low : ℕ) (p : Param) (arg : Arg) (x : ℕ) → IsWord p → IsWithin p arg → x + 4 ≤ low → number_at (with_argument frame bytes (record { param = p; offset = low }) arg) 4 (frame + x) ≡ number_at bytes 4 (frame + x)
+  below_one bytes low p (Word w) x word fits below = number_at_apart bytes 4 (frame + low) w 4 (frame + x) (inl (omega arith))
+  below_one bytes low p (Array ws) x word fits below = absurd (no_array p ws word fits)
 
   -- words below the slots stay as they are
-  below_all : (bytes : ByteMap) (low : ℕ) (ps : List Param) (args : List Arg) (x : ℕ) → x + 4 ≤ low → number_at (with_arguments frame bytes (slots_from low ps) args) 4 (frame + x) ≡ number_at bytes 4 (frame + x)
-  below_all bytes low [] args x below = refl
-  below_all bytes low (p ∷ ps) [] x below = refl
-  below_all bytes low (p ∷ ps) (arg ∷ args) x below =
-      below_all (with_argument frame bytes (record { param = p; offset = low }) arg) (low + 4) ps args x (omega arith) ∙ below_one bytes low p arg x below
+  below_all : (bytes : ByteMap) (low : ℕ) (ps : List Param) (args : List Arg) (x : ℕ) → AllByRecursion IsWord ps → AreWithin ps args → x + 4 ≤ low → number_at (with_arguments frame bytes (slots_from low ps) args) 4 (frame + x) ≡ number_at bytes 4 (frame + x)
+  below_all bytes low [] args x words fits below = refl
+  below_all bytes low (p ∷ ps) [] x words fits below = refl
+  below_all bytes low (p ∷ ps) (arg ∷ args) x words fits below =
+      below_all (with_argument frame bytes (record { param = p; offset = low }) arg) (low + 4) ps args x words.1 fits.1 (omega arith)
+      ∙ below_one bytes low p arg x words.0 fits.0 below
 
   -- from an offset on each word is 0
   IsBlank : ℕ → ByteMap → Type 0
@@ -91,7 +98,7 @@ module _ (frame size : ℕ) where
       let start : low + 4 * 0 ≡ low = omega arith in
       let next = with_number bytes 4 (frame + low) w in
       ap (λ o. number_at (with_arguments frame next (slots_from (low + 4) ps) args) 4 (frame + o)) start
-      ∙ (below_all next (low + 4) ps args low (omega arith) ∙ (number_at-with_number bytes 4 (frame + low) w ∙ ap Some cut))
+      ∙ (below_all next (low + 4) ps args low words.1 fits.1 (omega arith) ∙ (number_at-with_number bytes 4 (frame + low) w ∙ ap Some cut))
   laid bytes low (p ∷ ps) (Word w ∷ args) (suc x) words fits blank room =
       let step : low + 4 * suc x ≡ (low + 4) + 4 * x = omega arith in
       let next = with_number bytes 4 (frame + low) w in

@@ -1,5 +1,5 @@
 -- The image of straight code, loaded and run.
-use Rattle.std.proofs.Common.{◌≡◌, ℕ, ◌+◌, ◌*◌, ◌≤◌, List, [], ◌∷◌, ◌++◌, length, All, Option, Some, None, is_some, unwrap_or, refl, sym, ap, subst, arith, length-append}
+use Rattle.std.proofs.Common.{◌≡◌, ℕ, ◌+◌, ◌*◌, ◌≤◌, List, [], ◌∷◌, ◌++◌, length, All, Option, Some, None, is_some, unwrap_or, refl, sym, ap, ap₂, subst, arith, length-append}
 use Rattle.std.proofs.lemmas.Bool.{true≢false, false≢true}
 use Rattle.std.proofs.lemmas.List.Elements.{All-append}
 use Rattle.std.specs.Option.{option_map}
@@ -28,7 +28,7 @@ use Rattle.language.specs.declared.values.Arg.{Arg}
 use Rattle.codegen.specs.Bases.{IsInside, AreBases}
 use Rattle.codegen.specs.Followed.{RunsAs, IsFollowed}
 use Rattle.codegen.specs.Loaded.{code_at, loaded_at, results_in, word_in}
-use Rattle.codegen.proofs.Arguments.{loaded}
+use Rattle.codegen.proofs.Arguments.{loaded, no_arrays}
 use Rattle.codegen.proofs.Placing.{placed}
 use Rattle.codegen.proofs.ResultRuns.{steps_of_result, ResultFitted, Left, result_runs}
 use Rattle.codegen.proofs.StatementRuns.{AllAble, statements_runs}
@@ -138,7 +138,7 @@ module _ (p : StraightProgram) (room : HasRoom p) (result : is_some p.value ≡ 
   outcome : (args : List Arg) (s t : machine.State) → After_body (start args) s t → results_in frame (image_of p) t.bytes ≡ outcome_of p args
   unfolding Shown Taken After_body
   outcome args s t done =
-      ap (λ x. record { returned = x; arrays = [] }) (outcome_by p.returned p.value result (last_state p (start args)) t done.second)
+      ap₂ (λ x y. record { returned = x; arrays = y }) (outcome_by p.returned p.value result (last_state p (start args)) t done.second) (no_arrays frame t.bytes 0 p.parameters room.words)
 
   runs_as : (args : List Arg) → AreWithin p.parameters args → IsFitOn p args → RunsAs p (image_of p) code frame args ((straight.leak (path_of p args ++ [])).0 ++ end_shown)
   unfolding steps last

@@ -1,4 +1,6 @@
+pub mod ElementLemmas
 pub mod DataLemmas
+pub mod SpaceLemmas
 pub mod LoadLemmas
 pub mod ExecutedLemmas
 pub mod BuiltLemmas

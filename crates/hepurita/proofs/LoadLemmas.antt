@@ -16,7 +16,7 @@ use Rattle.hepurita.specs.Frames.{HoldsSlot}
 use Rattle.hepurita.proofs.DataLemmas.{zeros_there}
 
 -- each slot of an image lies in its frame
-pub slots_hold : (frame bytes : ℕ) (slots : List Slot) → AllByRecursion (λ slot. slot_end slot ≤ bytes) slots → frame + bytes ≤ 2 ^ 32 → AllByRecursion (HoldsSlot frame (zeros frame bytes)) slots
+pub slots_hold : (frame bytes : ℕ) (slots : List Slot) → AllByRecursion (λ slot. slot_end slot ≤ bytes) slots → frame + bytes < 2 ^ 32 → AllByRecursion (HoldsSlot frame (zeros frame bytes)) slots
 slots_hold frame bytes [] inside below = tt
 slots_hold frame bytes (slot ∷ slots) inside below =
     let first : slot_end slot ≤ bytes = inside.0 in (

@@ -1,13 +1,15 @@
 // A run of an image on arguments.
 
-ghost use Rattle.std.specs.Prelude.{◌≡◌, ◌≢◌, ◌+◌, ◌^◌, ◌≤◌, Err};
+ghost use Rattle.std.specs.Prelude.{◌≡◌, ◌≢◌, ◌+◌, ◌^◌, ◌<◌, Err};
 ghost use Rattle.hepurita.specs.Executed.{Executed, answer_at, refusals_after};
 ghost use Rattle.rv_machine.specs.Recording.{HasRefused};
 ghost use Rattle.rv_machine.specs.Paged.{paged_bytes};
 ghost use Rattle.hepurita.specs.Bases.{frame_base};
+ghost use Rattle.hepurita.specs.Frames.{IsSpaceFor};
 
 use crate::fault::RunFault;
-use crate::loading::{FRAME_BASE, code, load, outcome, params};
+use crate::loading::{FRAME_BASE, code, load, params};
+use crate::results::{ResultSpace, outcome, result_space};
 use arguments::first_fault;
 use image::Image;
 use language::{Args, Outcome};
@@ -17,16 +19,17 @@ use std::alloc::Global;
 
 /// What is answered where the machine stops so.
 fn answer(
-    alloc: Global,
     image: &Image,
+    space: ResultSpace,
     stop: Stop,
     memory: &PagedMemory,
 ) -> Result<Outcome, RunFault>
-    requires { frame_base + image.now.frame_bytes ≤ 2 ^ 32 }
+    requires space { IsSpaceFor image.now space }
+    requires frame { frame_base + image.now.frame_bytes < 2 ^ 32 }
     ensures { result ≡ answer_at frame_base image.now stop (paged_bytes memory.now) }
 {
     match stop {
-        Stop::Ecall => Ok(outcome(alloc, image, memory, FRAME_BASE)),
+        Stop::Ecall => Ok(outcome(image, memory, FRAME_BASE, space)),
         Stop::Break => Err(RunFault::Stopped(Stop::Break)),
         Stop::Illegal => Err(RunFault::Stopped(Stop::Illegal)),
         Stop::AccessFault => Err(RunFault::Stopped(Stop::AccessFault)),
@@ -55,6 +58,7 @@ pub fn execute<R: Recorder>(
         return Err(RunFault::from(fault));
     }
     let code = code(alloc, image)?;
+    let space = result_space(alloc, image)?;
     let mut loaded = load(alloc, image, args)?;
     let stop = run(
         &mut loaded.hart,
@@ -63,5 +67,5 @@ pub fn execute<R: Recorder>(
         recorder,
         loaded.turns_left,
     );
-    answer(alloc, image, stop, &loaded.memory)
+    answer(image, space, stop, &loaded.memory)
 }

@@ -5,12 +5,14 @@
 
 mod building;
 mod comparing;
+mod elements;
 mod executing;
 mod fault;
 mod judging;
 mod laws;
 mod loading;
 mod reading;
+mod results;
 
 pub use building::{accepted_or_refused, build, each_text_is_judged, one_refusal};
 pub use comparing::pair;

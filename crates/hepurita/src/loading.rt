@@ -1,8 +1,8 @@
 // Images and their arguments, loaded into a machine.
 
-ghost use Rattle.std.specs.Prelude.{◌≡◌, ◌+◌, ◌^◌, ◌≤◌, length, map, All, IfOk};
+ghost use Rattle.std.specs.Prelude.{◌≡◌, ◌≤◌, length, map, All, IfOk};
 ghost use Rattle.arguments.specs.Within.{AreWithin, HasShape};
-ghost use Rattle.codegen.specs.Loaded.{params_of, with_argument, with_arguments, code_at, loaded_at, results_in};
+ghost use Rattle.codegen.specs.Loaded.{params_of, with_argument, with_arguments, code_at, loaded_at};
 ghost use Rattle.image.specs.Fields.{IsImage};
 ghost use Rattle.image.specs.declared.limits.TheConstants.{MOST_PARAMETERS};
 ghost use Rattle.rv_machine.specs.Harts.{state_of};
@@ -12,8 +12,9 @@ ghost use Rattle.rv_machine.specs.Regions.{code_of};
 ghost use Rattle.hepurita.specs.Bases.{code_base, frame_base};
 ghost use Rattle.hepurita.specs.Frames.{HoldsSlot};
 
+use crate::elements::{element_size, put_numbers};
 use image::{Image, Slot};
-use language::{Arg, Args, Outcome, Param};
+use language::{Arg, Args, Param};
 use rv_machine::hart::Hart;
 use rv_machine::memory::{Memory, Size};
 use rv_machine::{AddressRange, CodeRegion, PagedMemory, Running};
@@ -40,8 +41,15 @@ fn put_argument<M: Memory>(memory: &mut M, frame: u32, slot: &Slot, arg: &Arg)
     requires data { HoldsSlot frame (M.bytes memory.old) slot.now }
     ensures { M.bytes memory.new ≡ with_argument frame (M.bytes memory.old) slot.now arg.now }
 {
-    if let Arg::Word(word) = arg {
-        memory.store(frame + slot.offset, Size::Word, *word);
+    let at = frame + slot.offset;
+    match arg {
+        Arg::Word(word) => {
+            memory.store(at, Size::Word, *word);
+        }
+        Arg::Array(words) => {
+            let size = element_size(slot.param.kind);
+            put_numbers(memory, at, size, words.as_slice());
+        }
     }
 }
 
@@ -87,16 +95,4 @@ pub fn load(alloc: Global, image: &Image, args: &Args) -> Result<Running<PagedMe
         memory,
         turns_left: image.max_steps(),
     })
-}
-
-/// The outcome that the slots hold of the frame that begins at this address.
-pub fn outcome<M: Memory>(alloc: Global, image: &Image, memory: &M, frame: u32) -> Outcome
-    requires { frame + image.now.frame_bytes ≤ 2 ^ 32 }
-    ensures { result ≡ results_in frame image.now (M.bytes memory.now) }
-{
-    let returned = match image.returned() {
-        Some(slot) => Some(memory.load(frame + slot.offset, Size::Word).unwrap_or(0)),
-        None => None,
-    };
-    Outcome::new(returned, Vec::new(alloc))
 }

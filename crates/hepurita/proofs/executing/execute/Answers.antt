@@ -28,6 +28,11 @@ returns-in_err-loaded-clause-executed g c =
     let p = err_from_is_err_and c.from_residual-in_err-loaded.result c.from_residual-in_err-loaded.ensures.1 in
     memory_executed c.args.image.now c.args.args.now g.R.Recorder.KEEPS (g.R.Recorder.list c.args.recorder.now) c.from_residual-in_err-loaded.result (p.1 ∙ ap Err p.2)
 
+pub returns-in_err-space-clause-executed : goal.returns-in_err-space-clause-executed
+returns-in_err-space-clause-executed g c =
+    let p = err_from_is_err_and c.from_residual-in_err-space.result c.from_residual-in_err-space.ensures.1 in
+    memory_executed c.args.image.now c.args.args.now g.R.Recorder.KEEPS (g.R.Recorder.list c.args.recorder.now) c.from_residual-in_err-space.result (p.1 ∙ ap Err p.2)
+
 pub returns-clause-executed : goal.returns-clause-executed
 returns-clause-executed g c =
     let loaded = c.in_ok-loaded.loaded in
@@ -37,5 +42,5 @@ returns-clause-executed g c =
     (ap (λ (ps : List Param). fault_of ps c.args.args.now) (sym (c.as_slice.ensures.value ∙ c.in_ok-params.ensures.params)) ∙ (sym c.first_fault.ensures.first ∙ c.in_default.is))
     c.in_ok-code.ensures c.in_ok-loaded.ensures.steps c.in_ok-loaded.ensures.state c.run-stop.ensures.turns c.answer.ensures
 
-pub answer-requires : goal.answer-requires
-answer-requires g c = omega (arith, c.in_ok-params.ensures.allowed.frame_size)
+pub answer-requires-clause-frame : goal.answer-requires-clause-frame
+answer-requires-clause-frame g c = omega (arith, c.in_ok-params.ensures.allowed.frame_size)

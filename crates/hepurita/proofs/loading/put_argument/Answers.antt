@@ -1,4 +1,4 @@
-use Rattle.std.proofs.Common.{sym, ap, subst, ◌∙◌}
+use Rattle.std.proofs.Common.{sym, ap, subst, ◌∙◌, arith}
 use Rattle.arguments.specs.Within.{HasShape}
 use Rattle.language.specs.declared.values.Arg.{Arg}
 use Rattle.language.specs.declared.values.Arg.TheVariants.{Word}
@@ -13,3 +13,6 @@ returns-in-Word g c =
     let shape : HasShape slot.param.form slot.param.length (Word c.in-Word.word) = subst (HasShape slot.param.form slot.param.length) c.in-Word.is c.requires.shape in
     c.store.ensures.stored (c.store.ensures.answer ∙ word_there c.args.frame bytes slot c.requires.data c.in-Word.word shape)
     ∙ sym (ap (λ (arg : Arg). with_argument c.args.frame bytes slot arg) c.in-Word.is)
+
+pub overflow_add-at : goal.overflow_add-at
+overflow_add-at g c = omega (arith, c.requires.data.below)
