@@ -4,3 +4,4 @@ pub mod Faults
 pub mod Texts
 pub mod Text
 pub mod Agreement
+pub mod PublicResults

@@ -1,43 +1,102 @@
 -- How the logic stores straight code.
-use Rattle.std.proofs.Common.{◌≡◌, ℕ, List, Option, ◌⊎◌, inl, inr, refl}
-use Rattle.std.specs.Coded.{Coded, code_by, coded×, coded⊎, coded_ℕ, coded_list, coded_option}
+use Rattle.std.proofs.Common.{◌≡◌, ℕ, List, Option, refl, ap}
+use Rattle.std.specs.Coded.{Coded, code_by, coded×, coded_ℕ, coded_list, coded_option}
+use base.Stored.{Gv, gnil, gnum, gcons}
 use Rattle.inline.specs.Codes.{coded_term}
+use Rattle.inline.specs.contracts.flat.FlatVariable as variable
+use Rattle.inline.specs.declared.flat.FlatVariable.{FlatVariable}
 use Rattle.inline.specs.Flat.{TermTree}
 use Rattle.language.specs.contracts.signature.Param as param
 use Rattle.language.specs.contracts.typing.WordType as word
 use Rattle.language.specs.declared.signature.Param.{Param}
 use Rattle.language.specs.declared.typing.WordType.{WordType}
-use Rattle.branch_removal.specs.Straight.{StraightTree, set, take, set_under, StraightProgram}
+use Rattle.word.specs.contracts.place.Place as place
+use Rattle.branch_removal.specs.Straight.{StraightTree, set, clear, fill, put, take, set_under, put_under, branch, repeats, StraightBlock, nothing, first, StraightProgram}
 
--- the parts of a statement
-abbrev Parts : Type 0
-Parts = (ℕ × TermTree) ⊎ ((ℕ × (Option ℕ × TermTree)) ⊎ (ℕ × (ℕ × TermTree)))
+abbrev head : Gv → Gv
+head gnil = gnil
+head (gnum n) = gnil
+head (gcons a b) = a
 
-abbrev parts_of : StraightTree → Parts
-parts_of (set x value) = inl (x, value)
-parts_of (take control within condition) = inr (inl (control, (within, condition)))
-parts_of (set_under control x value) = inr (inr (control, (x, value)))
+abbrev tail : Gv → Gv
+tail gnil = gnil
+tail (gnum n) = gnil
+tail (gcons a b) = b
 
-abbrev statement_of : Parts → StraightTree
-statement_of (inl parts) = set parts.0 parts.1
-statement_of (inr (inl parts)) = take parts.0 parts.1.0 parts.1.1
-statement_of (inr (inr parts)) = set_under parts.0 parts.1.0 parts.1.1
+abbrev terms : Coded (List TermTree)
+terms = coded_list coded_term
 
-pub statement_of_parts : (statement : StraightTree) → statement_of (parts_of statement) ≡ statement
-statement_of_parts (set x value) = refl
-statement_of_parts (take control within condition) = refl
-statement_of_parts (set_under control x value) = refl
+abbrev control_within : Coded (Option ℕ)
+control_within = coded_option coded_ℕ
 
-abbrev pub coded_statement : Coded StraightTree
-coded_statement =
-    code_by Parts (coded⊎ (coded× coded_ℕ coded_term) (coded⊎ (coded× coded_ℕ (coded× (coded_option coded_ℕ) coded_term)) (coded× coded_ℕ (coded× coded_ℕ coded_term))))
-    parts_of statement_of statement_of_parts
+abbrev mutual
+  pub tree_code : StraightTree → Gv
+  tree_code (set x v) = gcons (gnum 0) (gcons (coded_ℕ.code x) (coded_term.code v))
+  tree_code (clear x n) = gcons (gnum 1) (gcons (coded_ℕ.code x) (coded_ℕ.code n))
+  tree_code (fill x vs) = gcons (gnum 2) (gcons (coded_ℕ.code x) (terms.code vs))
+  tree_code (put p x n i v) =
+      gcons (gnum 3) (gcons (place.the_row.coded.code p) (gcons (coded_ℕ.code x) (gcons (coded_ℕ.code n) (gcons (coded_term.code i) (coded_term.code v)))))
+  tree_code (take c w e) = gcons (gnum 4) (gcons (coded_ℕ.code c) (gcons (control_within.code w) (coded_term.code e)))
+  tree_code (set_under c x v) = gcons (gnum 5) (gcons (coded_ℕ.code c) (gcons (coded_ℕ.code x) (coded_term.code v)))
+  tree_code (put_under c p x n i v) =
+      gcons (gnum 6) (gcons (coded_ℕ.code c) (gcons (place.the_row.coded.code p) (gcons (coded_ℕ.code x) (gcons (coded_ℕ.code n) (gcons (coded_term.code i) (coded_term.code v))))))
+  tree_code (branch e a b) = gcons (gnum 7) (gcons (coded_term.code e) (gcons (block_code a) (block_code b)))
+  tree_code (repeats x l h b) = gcons (gnum 8) (gcons (coded_ℕ.code x) (gcons (coded_term.code l) (gcons (coded_term.code h) (block_code b))))
+
+  pub block_code : StraightBlock → Gv
+  block_code nothing = gnil
+  block_code (first s rest) = gcons (tree_code s) (block_code rest)
+
+mutual
+  pub tree_inj : (x y : StraightTree) → tree_code x ≡ tree_code y → x ≡ y
+  tree_inj (set x v) (set x' v') p = λ i. set (coded_ℕ.inj x x' (ap (λ g. head (tail g)) p) i) (coded_term.inj v v' (ap (λ g. tail (tail g)) p) i)
+  tree_inj (clear x n) (clear x' n') p = λ i. clear (coded_ℕ.inj x x' (ap (λ g. head (tail g)) p) i) (coded_ℕ.inj n n' (ap (λ g. tail (tail g)) p) i)
+  tree_inj (fill x vs) (fill x' vs') p = λ i. fill (coded_ℕ.inj x x' (ap (λ g. head (tail g)) p) i) (terms.inj vs vs' (ap (λ g. tail (tail g)) p) i)
+  tree_inj (put q x n j v) (put q' x' n' j' v') p =
+      λ i. put (place.the_row.coded.inj q q' (ap (λ g. head (tail g)) p) i)
+      (coded_ℕ.inj x x' (ap (λ g. head (tail (tail g))) p) i)
+      (coded_ℕ.inj n n' (ap (λ g. head (tail (tail (tail g)))) p) i)
+      (coded_term.inj j j' (ap (λ g. head (tail (tail (tail (tail g))))) p) i)
+      (coded_term.inj v v' (ap (λ g. tail (tail (tail (tail (tail g))))) p) i)
+  tree_inj (take c w e) (take c' w' e') p =
+      λ i. take (coded_ℕ.inj c c' (ap (λ g. head (tail g)) p) i)
+      (control_within.inj w w' (ap (λ g. head (tail (tail g))) p) i)
+      (coded_term.inj e e' (ap (λ g. tail (tail (tail g))) p) i)
+  tree_inj (set_under c x v) (set_under c' x' v') p =
+      λ i. set_under (coded_ℕ.inj c c' (ap (λ g. head (tail g)) p) i)
+      (coded_ℕ.inj x x' (ap (λ g. head (tail (tail g))) p) i)
+      (coded_term.inj v v' (ap (λ g. tail (tail (tail g))) p) i)
+  tree_inj (put_under c q x n j v) (put_under c' q' x' n' j' v') p =
+      λ i. put_under (coded_ℕ.inj c c' (ap (λ g. head (tail g)) p) i)
+      (place.the_row.coded.inj q q' (ap (λ g. head (tail (tail g))) p) i)
+      (coded_ℕ.inj x x' (ap (λ g. head (tail (tail (tail g)))) p) i)
+      (coded_ℕ.inj n n' (ap (λ g. head (tail (tail (tail (tail g))))) p) i)
+      (coded_term.inj j j' (ap (λ g. head (tail (tail (tail (tail (tail g)))))) p) i)
+      (coded_term.inj v v' (ap (λ g. tail (tail (tail (tail (tail (tail g)))))) p) i)
+  tree_inj (branch e a b) (branch e' a' b') p =
+      λ i. branch (coded_term.inj e e' (ap (λ g. head (tail g)) p) i)
+      (block_inj a a' (ap (λ g. head (tail (tail g))) p) i)
+      (block_inj b b' (ap (λ g. tail (tail (tail g))) p) i)
+  tree_inj (repeats x l h b) (repeats x' l' h' b') p =
+      λ i. repeats (coded_ℕ.inj x x' (ap (λ g. head (tail g)) p) i)
+      (coded_term.inj l l' (ap (λ g. head (tail (tail g))) p) i)
+      (coded_term.inj h h' (ap (λ g. head (tail (tail (tail g)))) p) i)
+      (block_inj b b' (ap (λ g. tail (tail (tail (tail g)))) p) i)
+  tree_inj x y p = cc
+
+  pub block_inj : (x y : StraightBlock) → block_code x ≡ block_code y → x ≡ y
+  block_inj nothing nothing p = refl
+  block_inj (first s rest) (first s' rest') p = λ i. first (tree_inj s s' (ap head p) i) (block_inj rest rest' (ap tail p) i)
+  block_inj x y p = cc
+
+abbrev pub coded_block : Coded StraightBlock
+coded_block = record { code = block_code; inj = block_inj }
 
 -- a program is stored as the tuple of its parts
 abbrev pub coded_straight : Coded StraightProgram
 coded_straight =
-    code_by (List Param × (Option WordType × (ℕ × (ℕ × (ℕ × (List StraightTree × Option TermTree))))))
-    (coded× (coded_list param.the_row.coded) (coded× (coded_option word.the_row.coded) (coded× coded_ℕ (coded× coded_ℕ (coded× coded_ℕ (coded× (coded_list coded_statement) (coded_option coded_term)))))))
-    (λ p. (p.parameters, (p.returned, (p.nodes, (p.variables, (p.controls, (p.statements, p.value)))))))
-    (λ t. record { parameters = t.0; returned = t.1.0; nodes = t.1.1.0; variables = t.1.1.1.0; controls = t.1.1.1.1.0; statements = t.1.1.1.1.1.0; value = t.1.1.1.1.1.1 })
+    code_by (List Param × (Option WordType × (ℕ × (ℕ × (List ℕ × (List FlatVariable × (ℕ × (StraightBlock × Option TermTree))))))))
+    (coded× (coded_list param.the_row.coded) (coded× (coded_option word.the_row.coded) (coded× coded_ℕ (coded× coded_ℕ (coded× (coded_list coded_ℕ) (coded× (coded_list variable.the_row.coded) (coded× coded_ℕ (coded× coded_block (coded_option coded_term)))))))))
+    (λ p. (p.parameters, (p.returned, (p.nodes, (p.work, (p.turns, (p.declared, (p.controls, (p.body, p.value)))))))))
+    (λ t. record { parameters = t.0; returned = t.1.0; nodes = t.1.1.0; work = t.1.1.1.0; turns = t.1.1.1.1.0; declared = t.1.1.1.1.1.0; controls = t.1.1.1.1.1.1.0; body = t.1.1.1.1.1.1.1.0; value = t.1.1.1.1.1.1.1.1 })
     (λ _. refl)

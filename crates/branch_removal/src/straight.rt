@@ -1,61 +1,80 @@
 ghost use Rattle.std.specs.Prelude.{◌≡◌};
 ghost use Rattle.std.specs.Option.{option_map};
 ghost use Rattle.inline.specs.Flat.{term_tree};
-ghost use Rattle.branch_removal.specs.Straight.{StraightProgram, straight_trees};
+ghost use Rattle.branch_removal.specs.Straight.{StraightProgram, straight_block};
 
-use inline::{Flat, Term};
+use inline::{FlatVariable, Term};
+use intervals::Ranged;
 use language::{Param, WordType};
 use std::marker::Model;
+use word::Place;
 
-/// A statement of straight code.
-#[derive(Clone, Copy, Debug)]
+/// A statement of straight code. Branches and loops are left only where what decides them is public.
+#[derive(Debug, Drop)]
 pub enum StraightStatement<'f> {
     /// Sets a variable.
     Set(u32, &'f Term),
+    /// All elements of an array, which has so many, become 0.
+    Clear(u32, u32),
+    /// An array gets its first values, one for each element.
+    Fill(u32, &'f [Term]),
+    /// The element at an index of an array, which has so many, is set to a value.
+    Put(Place, u32, u32, &'f Term, &'f Term),
     /// Takes a condition into two control values, this one for where it is true and the next for where
     /// it is not. Each is joined with the enclosing one, where there is one.
     Take(u32, Option<u32>, &'f Term),
     /// Under a control value, sets a variable: where the control value is false the variable keeps what it holds.
     SetUnder(u32, u32, &'f Term),
+    /// Under a control value, sets the element at an index of an array, which has so many.
+    PutUnder(u32, Place, u32, u32, &'f Term, &'f Term),
+    /// What runs where a public condition is true, and where it is not.
+    Branch(&'f Term, Vec<StraightStatement<'f>>, Vec<StraightStatement<'f>>),
+    /// What runs for each number of a counter, from the first bound up to the last before the second.
+    Repeat(u32, &'f Term, &'f Term, Vec<StraightStatement<'f>>),
 }
 
-/// Straight code: the export without branches. Its parameters are the first variables.
+/// Straight code: the export without branches on secrets. Its parameters are the first variables.
 #[derive(Debug, Drop)]
 pub struct Straight<'f> {
     parameters: &'f [Param],
     returned: Option<WordType>,
     nodes: u32,
-    variables: u32,
+    work: u64,
+    turns: &'f [u32],
+    declared: &'f [FlatVariable],
     controls: u32,
-    statements: Vec<StraightStatement<'f>>,
+    body: Vec<StraightStatement<'f>>,
     value: Option<&'f Term>,
 }
 
 impl<'f> Model for Straight<'f> {
     ghost use Rattle.std.specs.Option.{option_map};
     ghost use Rattle.inline.specs.Flat.{term_tree};
-    ghost use Rattle.branch_removal.specs.Straight.{StraightProgram, straight_trees};
+    ghost use Rattle.branch_removal.specs.Straight.{StraightProgram, straight_block};
     ghost use Rattle.branch_removal.specs.StraightCodes.{coded_straight};
 
     ghost Value = { StraightProgram };
 
     ghost coded = { coded_straight };
 
-    ghost view = { λ s. record { parameters = s.parameters.now; returned = s.returned; nodes = s.nodes; variables = s.variables; controls = s.controls; statements = straight_trees s.statements.items; value = option_map (λ term. term_tree term.now) s.value } };
+    ghost view = { λ s. record { parameters = s.parameters.now; returned = s.returned; nodes = s.nodes; work = s.work; turns = s.turns.now; declared = s.declared.now; controls = s.controls; body = straight_block s.body.items; value = option_map (λ term. term_tree term.now) s.value } };
 }
 
 impl<'f> Straight<'f> {
-    /// A body's statements without branches, with what stays as it was.
-    pub(crate) fn new(flat: &'f Flat, controls: u32, statements: Vec<StraightStatement<'f>>) -> Self
-        ensures { result ≡ record { parameters = flat.now.parameters; returned = flat.now.returned; nodes = flat.now.nodes; variables = flat.now.variables; controls = controls; statements = straight_trees statements.entry.items; value = flat.now.value } }
+    /// A body's straight code, with what stays as it was.
+    pub(crate) fn new(ranged: &'f Ranged<'_>, controls: u32, body: Vec<StraightStatement<'f>>) -> Self
+        ensures { result ≡ record { parameters = ranged.now.flat.parameters; returned = ranged.now.flat.returned; nodes = ranged.now.flat.nodes; work = ranged.now.work; turns = ranged.now.turns; declared = ranged.now.flat.declared; controls = controls; body = straight_block body.entry.items; value = ranged.now.flat.value } }
     {
+        let flat = ranged.flat();
         Straight {
             parameters: flat.parameters(),
             returned: flat.returned(),
             nodes: flat.nodes(),
-            variables: flat.variables(),
+            work: ranged.work(),
+            turns: ranged.turns(),
+            declared: flat.declared(),
             controls,
-            statements,
+            body,
             value: flat.value(),
         }
     }
@@ -81,11 +100,25 @@ impl<'f> Straight<'f> {
         self.nodes
     }
 
-    /// How many variables there are, the parameters among them.
-    pub fn variables(&self) -> u32
-        ensures { result ≡ self.now.variables }
+    /// How many nodes a run evaluates at most.
+    pub fn work(&self) -> u64
+        ensures { result ≡ self.now.work }
     {
-        self.variables
+        self.work
+    }
+
+    /// How many turns the loop of each counter makes at most, at the counter's number.
+    pub fn turns(&self) -> &'f [u32]
+        ensures { result.now ≡ self.now.turns }
+    {
+        self.turns
+    }
+
+    /// The variables, each at its number, the parameters first.
+    pub fn declared(&self) -> &'f [FlatVariable]
+        ensures { result.now ≡ self.now.declared }
+    {
+        self.declared
     }
 
     /// How many control values there are.
@@ -96,10 +129,10 @@ impl<'f> Straight<'f> {
     }
 
     /// The statements before the result is known.
-    pub fn statements(&self) -> &[StraightStatement<'f>]
-        ensures { straight_trees result.now ≡ self.now.statements }
+    pub fn body(&self) -> &[StraightStatement<'f>]
+        ensures { straight_block result.now ≡ self.now.body }
     {
-        self.statements.as_slice()
+        self.body.as_slice()
     }
 
     /// The result, where there is one.

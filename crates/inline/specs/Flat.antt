@@ -1,5 +1,5 @@
 -- One body with numbered variables, as values, without where it lies in memory.
-use Rattle.std.specs.Prelude.{ℕ, Bool, false, List, [], ◌∷◌, map, Option, None, Some}
+use Rattle.std.specs.Prelude.{ℕ, Bool, List, [], ◌∷◌, map, Option, None, Some}
 use Rattle.inline.specs.declared.flat.FlatVariable.{FlatVariable}
 use Rattle.inline.specs.declared.flat.Term.{Term, Number, Truth, Variable, Prefix', Binary', Rotate', Convert', Select', Element'}
 use Rattle.inline.specs.declared.flat.FlatStatement.{FlatStatement, Declare, DeclareArray, Assign, AssignElement, Branch', Loop', Row_of-FlatStatement, end_of-FlatStatement, more_of-FlatStatement}
@@ -93,7 +93,7 @@ term_tree (Binary' place operator width p left q right) = binary place operator 
 term_tree (Rotate' width p operand amount) = rotate width (term_tree operand) amount
 term_tree (Convert' kind p operand) = convert kind (term_tree operand)
 term_tree (Select' p condition q accepted r otherwise) = select (term_tree condition) (term_tree accepted) (term_tree otherwise)
-term_tree (Element' place array size p index) = element place array size (term_tree index)
+term_tree (Element' place x size p index) = element place x size (term_tree index)
 
 abbrev mutual
   pub flat_tree : FlatStatement → FlatTree

@@ -5,7 +5,7 @@ use Rattle.std.specs.Option.{option_map}
 use Rattle.arguments.specs.Within.{words_of}
 use Rattle.inline.specs.declared.flat.FlatVariable.{FlatVariable}
 use Rattle.inline.specs.Flat.{TermTree, number, truth, variable, prefix, binary, rotate, convert, select, element, FlatTree, declare, array, assign, put, branch, loop, FlatBlock, nothing, first, FlatProgram, numbers_in}
-use Rattle.inline.specs.Path.{Mark, bounded, indexed, divided, Path, first_fault}
+use Rattle.inline.specs.Path.{bounded, indexed, divided, Path, first_fault}
 use Rattle.language.specs.Meaning.{Ending, gives, faults}
 use Rattle.language.specs.Operators.{divides, operated, prefix_value, width_of}
 use Rattle.language.specs.Results.{Results}

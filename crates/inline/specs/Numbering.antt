@@ -1,6 +1,6 @@
 -- Names become numbers: each declaration gets the next one, the parameters the first. A call, which is not compiled yet,
 -- becomes an assignment of `false`: no such program gets here.
-use Rattle.std.specs.Prelude.{ℕ, ◌+◌, Bool, false, List, [], ◌∷◌, ◌++◌, length, map, unwrap_or, Option, None}
+use Rattle.std.specs.Prelude.{ℕ, ◌+◌, false, List, [], ◌∷◌, ◌++◌, length, map, unwrap_or}
 use Rattle.std.specs.Option.{option_map}
 use Rattle.names.specs.Scope.{found, declared}
 use Rattle.inline.specs.declared.flat.FlatVariable.{FlatVariable}
@@ -104,7 +104,7 @@ numbers_taken_all b = length (declared_in_all b)
 
 -- a name that is declared at a number
 abbrev pub naming : Numbers → List ℕ → ℕ → FlatVariable → Numbers
-naming names text n declaration = declared names text (record { number = n; declaration = declaration })
+naming names text n what = declared names text (record { number = n; declaration = what })
 
 -- the names after a statement, where the next number is n: those of an arm or a loop are its own
 abbrev pub names_after : Numbers → ℕ → StatementTree → Numbers

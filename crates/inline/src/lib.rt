@@ -3,16 +3,8 @@
 #![tactic(auto)]
 
 mod flat;
-mod inlining;
-mod laws;
 mod numbering;
 mod program;
-mod sizes;
 
-pub use flat::{FlatStatement, Term};
-pub use inlining::inline;
-pub use laws::{
-    flat_is_sized, flat_is_typed, flat_keeps_meaning, flat_values_fit, public_results_agree,
-    typed_values_fit,
-};
+pub use flat::{FlatStatement, FlatVariable, Term};
 pub use program::Flat;

@@ -2,17 +2,18 @@ ghost use Rattle.std.specs.Prelude.{◌≡◌};
 ghost use Rattle.std.specs.Option.{option_map};
 ghost use Rattle.inline.specs.Flat.{FlatProgram, term_tree, flat_block};
 
-use crate::{FlatStatement, Term};
-use language::{Param, WordType};
+use crate::{FlatStatement, FlatVariable, Term};
+use language::{Param, Place, WordType};
 use std::marker::Model;
 
 /// The export as one body with numbered variables. Its parameters are the first variables.
 #[derive(Debug, Drop)]
 pub struct Flat {
+    place: Place,
     parameters: Vec<Param>,
     returned: Option<WordType>,
     nodes: u32,
-    variables: u32,
+    declared: Vec<FlatVariable>,
     body: Vec<FlatStatement>,
     value: Option<Term>,
 }
@@ -26,29 +27,38 @@ impl Model for Flat {
 
     ghost coded = { coded_program };
 
-    ghost view = { λ f. record { parameters = f.parameters.items; returned = f.returned; nodes = f.nodes; variables = f.variables; body = flat_block f.body.items; value = option_map term_tree f.value } };
+    ghost view = { λ f. record { place = f.place; parameters = f.parameters.items; returned = f.returned; nodes = f.nodes; declared = f.declared.items; body = flat_block f.body.items; value = option_map term_tree f.value } };
 }
 
 impl Flat {
     /// A program of these parts.
     pub(crate) fn new(
+        place: Place,
         parameters: Vec<Param>,
         returned: Option<WordType>,
         nodes: u32,
-        variables: u32,
+        declared: Vec<FlatVariable>,
         body: Vec<FlatStatement>,
         value: Option<Term>,
     ) -> Self
-        ensures { result ≡ record { parameters = parameters.items; returned = returned; nodes = nodes; variables = variables; body = flat_block body.items; value = option_map term_tree value } }
+        ensures { result ≡ record { place = place; parameters = parameters.items; returned = returned; nodes = nodes; declared = declared.items; body = flat_block body.items; value = option_map term_tree value } }
     {
         Flat {
+            place,
             parameters,
             returned,
             nodes,
-            variables,
+            declared,
             body,
             value,
         }
+    }
+
+    /// Where the export's name stands.
+    pub fn place(&self) -> Place
+        ensures { result ≡ self.now.place }
+    {
+        self.place
     }
 
     /// The parameters, without their names.
@@ -72,11 +82,11 @@ impl Flat {
         self.nodes
     }
 
-    /// How many variables there are, the parameters among them.
-    pub fn variables(&self) -> u32
-        ensures { result ≡ self.now.variables }
+    /// Its variables, each at its number: the parameters first.
+    pub fn declared(&self) -> &[FlatVariable]
+        ensures { result.now ≡ self.now.declared }
     {
-        self.variables
+        self.declared.as_slice()
     }
 
     /// The statements before the result is known.

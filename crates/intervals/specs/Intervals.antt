@@ -1,12 +1,12 @@
 -- Intervals: between which numbers the value of an expression lies, whatever run it is.
-use Rattle.std.specs.Prelude.{ℕ, ◌+◌, ◌-◌, ◌*◌, ◌/◌, ◌%◌, ◌^◌, ◌==◌, ◌&&◌, Bool, true, false, not, nat_lt, nat_le, min, max, List, Option, None, Some, unwrap_or, if◌then◌else◌, slice_get}
+use Rattle.std.specs.Prelude.{ℕ, ◌+◌, ◌-◌, ◌*◌, ◌/◌, ◌%◌, ◌^◌, ◌==◌, ◌&&◌, nat_le, min, max, List, Option, None, Some, unwrap_or, if◌then◌else◌, slice_get, slice_set}
 use Rattle.std.specs.Option.{option_map}
 use Rattle.inline.specs.declared.flat.FlatVariable.{FlatVariable}
 use Rattle.inline.specs.Flat.{TermTree, number, truth, variable, prefix, binary, rotate, convert, select, element}
 use Rattle.intervals.specs.declared.interval.Interval.{Interval}
 use Rattle.language.specs.Types.{bits_of}
 use Rattle.language.specs.declared.signature.Kind.{Kind}
-use Rattle.language.specs.declared.signature.Kind.TheVariants.{Boolean, Uint32}
+use Rattle.language.specs.declared.signature.Kind.TheVariants.{Uint32}
 use Rattle.language.specs.declared.tree.BinaryOperator.{BinaryOperator}
 use Rattle.language.specs.declared.tree.BinaryOperator.TheVariants.{Either, Both, Equal, Unequal, Less, LessOrEqual, Greater, GreaterOrEqual, BitOr, BitXor, BitAnd, ShiftLeft, ShiftRight, Add, Subtract, Multiply, Divide, Remainder}
 use Rattle.language.specs.declared.tree.PrefixOperator.{PrefixOperator}
@@ -30,13 +30,22 @@ full_of kind = between 0 (2 ^ bits_of kind - 1)
 abbrev pub either_truth : Interval
 either_truth = between 0 1
 
--- What is known of the variables: an interval for each that keeps its value, which is a public word that is not `mut`.
+-- What is known of the variables, at their numbers: an interval for each that keeps its value, which is a public word that
+-- is not `mut`.
 abbrev pub Bounds : Type 0
-Bounds = ℕ → Option Interval
+Bounds = List (Option Interval)
 
--- this interval, where it fits the width
-abbrev pub fitting : Width → Interval → Interval
-fitting width i = if nat_le i.high (greatest width) then i else full width
+-- what is known of one
+abbrev pub known : Bounds → ℕ → Option Interval
+known bounds x = unwrap_or (slice_get bounds x) None
+
+-- from here on this is known of it
+abbrev pub with_bound : Bounds → ℕ → Interval → Bounds
+with_bound bounds x i = slice_set bounds x (Some i)
+
+-- the numbers from one to another, where they fit the width
+abbrev pub fitting : Width → ℕ → ℕ → Interval
+fitting width low high = if nat_le low (greatest width) && nat_le high (greatest width) then between low high else full width
 
 -- what an operator makes of two intervals, the left of this width
 abbrev pub operated_interval : BinaryOperator → Width → Interval → Interval → Interval
@@ -54,10 +63,10 @@ operated_interval BitAnd w a b = between 0 (min a.high b.high)
 operated_interval ShiftLeft w a b = full w
 operated_interval ShiftRight w a b =
     if b.low == b.high then between (a.low / 2 ^ (b.low % 32)) (a.high / 2 ^ (b.low % 32)) else between 0 a.high
-operated_interval Add w a b = fitting w (between (a.low + b.low) (a.high + b.high))
+operated_interval Add w a b = fitting w (a.low + b.low) (a.high + b.high)
 operated_interval Subtract w a b = if nat_le b.high a.low then between (a.low - b.high) (a.high - b.low) else full w
-operated_interval Multiply w a b = fitting w (between (a.low * b.low) (a.high * b.high))
-operated_interval Divide w a b = if nat_le 1 b.low then between (a.low / b.high) (a.high / b.low) else full w
+operated_interval Multiply w a b = fitting w (a.low * b.low) (a.high * b.high)
+operated_interval Divide w a b = if nat_le 1 b.low && nat_le 1 b.high then between (a.low / b.high) (a.high / b.low) else full w
 operated_interval Remainder w a b = if nat_le 1 b.low then between 0 (min a.high (b.high - 1)) else full w
 
 abbrev pub prefix_interval : PrefixOperator → Width → Interval
@@ -81,7 +90,7 @@ full_at declared x = unwrap_or (option_map (λ (d : FlatVariable). full_of d.wor
 abbrev pub interval : List FlatVariable → Bounds → TermTree → Interval
 interval declared bounds (number value kind) = between value value
 interval declared bounds (truth value) = either_truth
-interval declared bounds (variable x) = unwrap_or (bounds x) (full_at declared x)
+interval declared bounds (variable x) = unwrap_or (known bounds x) (full_at declared x)
 interval declared bounds (prefix operator width operand) = prefix_interval operator width
 interval declared bounds (binary place operator width left right) =
     operated_interval operator width (interval declared bounds left) (interval declared bounds right)

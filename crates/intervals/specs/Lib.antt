@@ -1,4 +1,5 @@
 pub mod Ranged
+pub mod Codes
 pub mod Loose
 pub mod Intervals
 pub mod Narrowing

@@ -92,10 +92,10 @@ mutual
         → Turns types x body (b - a) a m t r
         → Leads types m (loop x low high body) t (p ++ q ++ bounded x a b ∷ r)
 
-  -- so many turns of a loop, the first at this number
-  pub data Turns (types : Types) (x : ℕ) (body : FlatBlock) : ℕ → ℕ → Values → Values → Path → Type 0 where
-    no_turn : {i : ℕ} {m : Values} → Turns types x body zero i m m []
-    a_turn : {n i : ℕ} {m s t : Values} {p q : Path}
+  -- so many turns of a loop with this counter and body, the first at this number
+  pub data Turns (types : Types) : ℕ → FlatBlock → ℕ → ℕ → Values → Values → Path → Type 0 where
+    no_turn : {x i : ℕ} {body : FlatBlock} {m : Values} → Turns types x body zero i m m []
+    a_turn : {x n i : ℕ} {body : FlatBlock} {m s t : Values} {p q : Path}
         → LeadAll types (with_value m x (i ∷ [])) body s p
         → Turns types x body n (i + 1) s t q
         → Turns types x body (suc n) i m t (p ++ q)

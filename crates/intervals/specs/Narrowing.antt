@@ -1,73 +1,114 @@
 -- What a public condition tells in its arms of names that keep their values.
-use Rattle.std.specs.Prelude.{ℕ, ◌+◌, ◌-◌, ◌==◌, ◌&&◌, Bool, true, false, nat_lt, nat_le, min, max, List, [], ◌∷◌, ◌++◌, Option, None, Some, if◌then◌else◌}
+use Rattle.std.specs.Prelude.{ℕ, ◌+◌, ◌-◌, Bool, true, false, nat_lt, nat_le, min, max, List, [], ◌∷◌, ◌++◌, Option, None, Some, if◌then◌else◌}
 use Rattle.inline.specs.declared.flat.FlatVariable.{FlatVariable}
 use Rattle.inline.specs.Flat.{TermTree, variable, binary, number, truth, prefix, rotate, convert, select, element}
 use Rattle.intervals.specs.declared.interval.Interval.{Interval}
-use Rattle.intervals.specs.Intervals.{Bounds, between, interval, full_at}
+use Rattle.intervals.specs.declared.said.Said.{Said}
+use Rattle.intervals.specs.Intervals.{Bounds, known, with_bound, between, interval, full_at}
 use Rattle.language.specs.declared.signature.Label.{Label}
 use Rattle.language.specs.declared.signature.Label.TheVariants.{Public, Secret}
 use Rattle.language.specs.declared.tree.BinaryOperator.{BinaryOperator}
-use Rattle.language.specs.declared.tree.BinaryOperator.TheVariants.{Either, Both, Equal, Unequal, Less, LessOrEqual, Greater, GreaterOrEqual, BitOr, BitXor, BitAnd, ShiftLeft, ShiftRight, Add, Subtract, Multiply, Divide, Remainder}
+use Rattle.language.specs.declared.tree.BinaryOperator.TheVariants.{Both, Equal, Less, LessOrEqual}
 
-abbrev pub with_bound : Bounds → ℕ → Interval → Bounds
-with_bound bounds x i = λ y. if y == x then Some i else bounds y
+-- What is said.
+
+-- that a variable lies from one number to another
+abbrev pub says : ℕ → ℕ → ℕ → Option Said
+says x low high = Some (record { variable = x; interval = between low high })
+
+-- what a comparison of a variable with a number of this interval tells where it is true: the number is above 0 where it
+-- is above another
+abbrev pub said_where_true : BinaryOperator → ℕ → Interval → Option Said
+said_where_true Less x e = if nat_lt 0 e.high then says x 0 (e.high - 1) else None
+said_where_true LessOrEqual x e = says x 0 e.high
+said_where_true Equal x e = says x e.low e.high
+said_where_true _ x e = None
+
+-- and where it is false; the greatest number that the variable may be is given
+abbrev pub said_where_false : BinaryOperator → ℕ → ℕ → Interval → Option Said
+said_where_false Less x greatest e = says x e.low greatest
+said_where_false LessOrEqual x greatest e = says x (e.low + 1) greatest
+said_where_false _ x greatest e = None
+
+-- the variable that an expression is
+abbrev pub named : TermTree → Option ℕ
+named (number value kind) = None
+named (truth value) = None
+named (variable x) = Some x
+named (prefix operator width operand) = None
+named (binary place operator width left right) = None
+named (rotate width operand amount) = None
+named (convert kind operand) = None
+named (select condition accepted otherwise) = None
+named (element place x size index) = None
+
+-- the same of a comparison whose left operand is this variable, or none
+abbrev pub told_where_true : BinaryOperator → Option ℕ → Interval → Option Said
+told_where_true operator None e = None
+told_where_true operator (Some x) e = said_where_true operator x e
+
+abbrev pub told_where_false : List FlatVariable → BinaryOperator → Option ℕ → Interval → Option Said
+told_where_false declared operator None e = None
+told_where_false declared operator (Some x) e = said_where_false operator x (full_at declared x).high e
+
+abbrev pub as_list : Option Said → List Said
+as_list None = []
+as_list (Some said) = said ∷ []
+
+abbrev pub is_both : BinaryOperator → Bool
+is_both Both = true
+is_both _ = false
+
+-- what a condition tells where it is true: it is taken apart at `&&`, from left to right. All parts are read by what is
+-- known before any of them
+abbrev pub told_true : List FlatVariable → Bounds → TermTree → List Said
+told_true declared bounds (number value kind) = []
+told_true declared bounds (truth value) = []
+told_true declared bounds (variable x) = []
+told_true declared bounds (prefix operator width operand) = []
+told_true declared bounds (binary place operator width left right) =
+    if is_both operator then told_true declared bounds left ++ told_true declared bounds right
+    else as_list (told_where_true operator (named left) (interval declared bounds right))
+told_true declared bounds (rotate width operand amount) = []
+told_true declared bounds (convert kind operand) = []
+told_true declared bounds (select condition accepted otherwise) = []
+told_true declared bounds (element place x size index) = []
+
+-- and where it is false: only as a whole
+abbrev pub told_false : List FlatVariable → Bounds → TermTree → Option Said
+told_false declared bounds (number value kind) = None
+told_false declared bounds (truth value) = None
+told_false declared bounds (variable x) = None
+told_false declared bounds (prefix operator width operand) = None
+told_false declared bounds (binary place operator width left right) =
+    told_where_false declared operator (named left) (interval declared bounds right)
+told_false declared bounds (rotate width operand amount) = None
+told_false declared bounds (convert kind operand) = None
+told_false declared bounds (select condition accepted otherwise) = None
+told_false declared bounds (element place x size index) = None
+
+-- What is known then.
 
 -- the common part of two intervals, where there is one
 abbrev pub meet : Interval → Interval → Option Interval
 meet a b = if nat_le (max a.low b.low) (min a.high b.high) then Some (between (max a.low b.low) (min a.high b.high)) else None
 
--- a name of which an interval is known is met with another; an empty meet is passed over
-abbrev pub set_met : Bounds → ℕ → Option Interval → Bounds
-set_met bounds x None = bounds
-set_met bounds x (Some i) = with_bound bounds x i
+-- an empty meet is passed over
+abbrev pub with_meet : Bounds → ℕ → Option Interval → Bounds
+with_meet bounds x None = bounds
+with_meet bounds x (Some i) = with_bound bounds x i
 
+-- what is said of a variable of which something is known is met with that
 abbrev pub met_at : Bounds → ℕ → Option Interval → Interval → Bounds
-met_at bounds x None wanted = bounds
-met_at bounds x (Some known) wanted = set_met bounds x (meet known wanted)
+met_at bounds x None i = bounds
+met_at bounds x (Some before) i = with_meet bounds x (meet before i)
 
--- what is said of a name: nothing, or that it lies in an interval
-pub record Said : Type 0 where
-  pub variable : ℕ
-  pub interval : Interval
+abbrev pub met : Bounds → Said → Bounds
+met bounds said = met_at bounds said.variable (known bounds said.variable) said.interval
 
-abbrev pub met : Bounds → Option Said → Bounds
-met bounds None = bounds
-met bounds (Some said) = met_at bounds said.variable (bounds said.variable) said.interval
-
-abbrev pub met_all : Bounds → List (Option Said) → Bounds
+abbrev pub met_all : Bounds → List Said → Bounds
 met_all bounds [] = bounds
-met_all bounds (one ∷ rest) = met_all (met bounds one) rest
-
--- that a name lies between two numbers, where the first is not above the second
-abbrev pub said_between : ℕ → Bool → ℕ → ℕ → Option Said
-said_between x holds low high = if holds then Some (record { variable = x; interval = between low high }) else None
-
--- what a comparison of a name with a number of this interval tells where it is true: of `<` the number may be 0 and then nothing
-abbrev pub said_where_true : BinaryOperator → ℕ → Interval → Option Said
-said_where_true Less x e = said_between x (nat_lt 0 e.high) 0 (e.high - 1)
-said_where_true LessOrEqual x e = said_between x true 0 e.high
-said_where_true Equal x e = said_between x true e.low e.high
-said_where_true _ x e = None
-
--- and where it is false; the greatest number that the name may be is given
-abbrev pub said_where_false : BinaryOperator → ℕ → ℕ → Interval → Option Said
-said_where_false Less x greatest e = said_between x true e.low greatest
-said_where_false LessOrEqual x greatest e = said_between x true (e.low + 1) greatest
-said_where_false _ x greatest e = None
-
--- a part of a condition, with what is known before any part
-abbrev pub told_by_part : List FlatVariable → Bounds → TermTree → Option Said
-told_by_part declared bounds (binary place operator width (variable x) e) = said_where_true operator x (interval declared bounds e)
-told_by_part declared bounds _ = None
-
--- a condition, taken apart at `&&`, from left to right
-abbrev pub told_true : List FlatVariable → Bounds → TermTree → List (Option Said)
-told_true declared bounds (binary place Both width left right) = told_true declared bounds left ++ told_true declared bounds right
-told_true declared bounds e = told_by_part declared bounds e ∷ []
-
-abbrev pub told_false : List FlatVariable → Bounds → TermTree → Option Said
-told_false declared bounds (binary place operator width (variable x) e) = said_where_false operator x (full_at declared x).high (interval declared bounds e)
-told_false declared bounds _ = None
+met_all bounds (said ∷ rest) = met_all (met bounds said) rest
 
 -- what is known in the arm where the condition is true, and in the other; a secret condition tells nothing
 abbrev pub where_true : List FlatVariable → Bounds → Label → TermTree → Bounds
@@ -75,5 +116,5 @@ where_true declared bounds Public condition = met_all bounds (told_true declared
 where_true declared bounds Secret condition = bounds
 
 abbrev pub where_false : List FlatVariable → Bounds → Label → TermTree → Bounds
-where_false declared bounds Public condition = met bounds (told_false declared bounds condition)
+where_false declared bounds Public condition = met_all bounds (as_list (told_false declared bounds condition))
 where_false declared bounds Secret condition = bounds

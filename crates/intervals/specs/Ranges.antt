@@ -1,17 +1,14 @@
 -- What is checked of ranges: each index is below the size of its array and no divisor may be 0, in all code, whether a run
 -- reaches it or not. And how many turns are counted for each loop.
-use Rattle.std.specs.Prelude.{ℕ, ◌+◌, ◌-◌, ◌==◌, ◌&&◌, Bool, true, false, not, nat_lt, nat_le, List, [], ◌∷◌, ◌++◌, length, map, replicate, Option, None, Some, if◌then◌else◌, slice_get, slice_set}
+use Rattle.std.specs.Prelude.{ℕ, ◌-◌, ◌==◌, ◌&&◌, ◌||◌, Bool, not, nat_lt, nat_le, List, [], ◌∷◌, ◌++◌, length, map, replicate, Option, None, Some, if◌then◌else◌, slice_set}
 use Rattle.inline.specs.declared.flat.FlatVariable.{FlatVariable}
 use Rattle.inline.specs.Flat.{TermTree, number, truth, variable, prefix, binary, rotate, convert, select, element, FlatTree, declare, array, assign, put, branch, loop, FlatBlock, nothing, first, FlatProgram, declaration_of}
 use Rattle.intervals.specs.declared.interval.Interval.{Interval}
-use Rattle.intervals.specs.Intervals.{Bounds, between, interval, full_of}
-use Rattle.intervals.specs.Narrowing.{with_bound, where_true, where_false}
+use Rattle.intervals.specs.Intervals.{Bounds, with_bound, between, interval, full_of}
+use Rattle.intervals.specs.Narrowing.{where_true, where_false}
 use Rattle.language.specs.Operators.{divides}
-use Rattle.language.specs.Types.{at, when}
-use Rattle.language.specs.declared.rule.Rule.{Rule}
+use Rattle.language.specs.Types.{at, is_secret, when}
 use Rattle.language.specs.declared.rule.Rule.TheVariants.{IndexOutOfRange, DivisorMayBeZero}
-use Rattle.language.specs.declared.signature.Label.{Label}
-use Rattle.language.specs.declared.signature.Label.TheVariants.{Public, Secret}
 use Rattle.language.specs.declared.signature.Param.{Param}
 use Rattle.language.specs.declared.typing.Violation.{Violation}
 use Rattle.language.specs.declared.typing.WordType.{WordType}
@@ -43,8 +40,7 @@ terms_violations declared bounds (e ∷ es) = term_violations declared bounds e 
 
 -- a public word that is not `mut` keeps its value
 abbrev pub is_steady : WordType → Bool → Bool
-is_steady (record { kind = kind; label = Public }) mutable = not mutable
-is_steady (record { kind = kind; label = Secret }) mutable = false
+is_steady word mutable = not (is_secret word.label || mutable)
 
 -- how many turns a loop makes at most, by the intervals of its bounds
 abbrev pub most_turns : Interval → Interval → ℕ
@@ -108,17 +104,16 @@ module _ (declared : List FlatVariable) where
     counted_all bounds turns (first statement rest) = counted_all (bounds_after bounds statement) (counted bounds turns statement) rest
 
 -- what is known of a parameter: a public word is something of its kind
-abbrev pub bound_of : WordType → Bool → Option ℕ → Option Interval
-bound_of word mutable None = if is_steady word mutable then Some (full_of word.kind) else None
-bound_of word mutable (Some size) = None
+abbrev pub first_bound : FlatVariable → Option ℕ → Option Interval
+first_bound d None = if is_steady d.word d.mutable then Some (full_of d.word.kind) else None
+first_bound d (Some size) = None
 
-abbrev pub bound_of_parameter : Option Param → Option Interval
-bound_of_parameter None = None
-bound_of_parameter (Some p) = bound_of (declaration_of p).word (declaration_of p).mutable (declaration_of p).elements
+abbrev pub bound_of : Param → Option Interval
+bound_of p = first_bound (declaration_of p) (declaration_of p).elements
 
--- what is known where the body begins
-abbrev pub first_bounds : List Param → Bounds
-first_bounds parameters = λ x. bound_of_parameter (slice_get parameters x)
+-- what is known where the body begins: nothing of what it declares
+abbrev pub first_bounds : FlatProgram → Bounds
+first_bounds p = map bound_of p.parameters ++ replicate (length p.declared - length p.parameters) None
 
 abbrev pub result_violations : List FlatVariable → Bounds → Option TermTree → List Violation
 result_violations declared bounds None = []
@@ -127,9 +122,9 @@ result_violations declared bounds (Some value) = term_violations declared bounds
 -- the violations in a program
 abbrev pub range_violations : FlatProgram → List Violation
 range_violations p =
-    violations_all p.declared (first_bounds p.parameters) p.body
-    ++ result_violations p.declared (bounds_after_all p.declared (first_bounds p.parameters) p.body) p.value
+    violations_all p.declared (first_bounds p) p.body
+    ++ result_violations p.declared (bounds_after_all p.declared (first_bounds p) p.body) p.value
 
 -- how many turns are counted for each counter of a program, at its number
 abbrev pub turns_of : FlatProgram → List ℕ
-turns_of p = counted_all p.declared (first_bounds p.parameters) (replicate (length p.declared) 0) p.body
+turns_of p = counted_all p.declared (first_bounds p) (replicate (length p.declared) 0) p.body

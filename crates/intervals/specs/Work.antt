@@ -1,10 +1,13 @@
 -- Work: how many nodes a run evaluates at most, and the limit on it.
-use Rattle.std.specs.Prelude.{ℕ, ◌+◌, ◌*◌, nat_lt, List, [], ◌∷◌, length, Option, None, Some, slice_index}
-use Rattle.inline.specs.Flat.{TermTree, FlatTree, declare, array, assign, put, branch, loop, FlatBlock, nothing, first, FlatProgram}
+use Rattle.std.specs.Prelude.{◌≡◌, ◌⊎◌, ℕ, ◌+◌, ◌*◌, nat_lt, List, length, Option, slice_index}
+use Rattle.inline.specs.Flat.{FlatTree, declare, array, assign, put, branch, loop, FlatBlock, nothing, first, FlatProgram}
 use Rattle.inline.specs.FlatSize.{term_nodes, terms_nodes, value_nodes}
 use Rattle.intervals.specs.Ranged.{RangedProgram}
-use Rattle.intervals.specs.Ranges.{turns_of}
-use Rattle.language.specs.declared.limits.TheConstants.{MOST_WORK}
+use Rattle.intervals.specs.Ranges.{range_violations, turns_of}
+use Rattle.language.specs.FirstViolation.{IsRefusedFor}
+use Rattle.word.specs.declared.place.Place.{Place}
+use Rattle.intervals.specs.declared.limits.TheConstants.{MOST_WORK}
+use Rattle.language.specs.declared.rule.Rule.{Rule}
 use Rattle.language.specs.declared.rule.Rule.TheVariants.{TooMuchWork}
 use Rattle.language.specs.declared.typing.Violation.{Violation}
 use Rattle.language.specs.Types.{at, when}
@@ -30,6 +33,12 @@ work_of p = body_work (turns_of p) p.body + value_nodes p.value
 -- the limit on work, at the name of the export
 abbrev pub work_violations : FlatProgram → List Violation
 work_violations p = at p.place (when (nat_lt MOST_WORK (work_of p)) TooMuchWork)
+
+-- the refusal is for a range, or else, where all ranges are kept, for the work
+abbrev pub IsRefusedByRanges : FlatProgram → Rule → Option Place → Type 0
+IsRefusedByRanges p rule place =
+    IsRefusedFor (range_violations p) rule place
+    ⊎ ((length (range_violations p) ≡ 0) × IsRefusedFor (work_violations p) rule place)
 
 -- a body with what is counted for it
 abbrev pub ranged : FlatProgram → RangedProgram

@@ -8,6 +8,3 @@ pub const MOST_DECLARED_BYTES: u32 = 32_768;
 
 /// The most elements of an array.
 pub const MOST_ELEMENTS: u16 = 4_096;
-
-/// The most work: how many nodes a run may evaluate at most.
-pub const MOST_WORK: u64 = 4_294_967_296;

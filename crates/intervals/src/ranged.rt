@@ -1,0 +1,53 @@
+ghost use Rattle.std.specs.Prelude.{◌≡◌};
+
+use inline::Flat;
+use std::marker::Model;
+
+/// A body with what is counted for it.
+#[derive(Debug, Drop)]
+pub struct Ranged<'f> {
+    flat: &'f Flat,
+    turns: Vec<u32>,
+    work: u64,
+}
+
+impl<'f> Model for Ranged<'f> {
+    ghost use Rattle.intervals.specs.Codes.{coded_ranged};
+    ghost use Rattle.intervals.specs.Ranged.{RangedProgram};
+
+    ghost Value = { RangedProgram };
+
+    ghost coded = { coded_ranged };
+
+    ghost view = { λ r. record { flat = r.flat.now; turns = r.turns.items; work = r.work } };
+}
+
+impl<'f> Ranged<'f> {
+    /// A body with what is counted for it.
+    pub(crate) fn new(flat: &'f Flat, turns: Vec<u32>, work: u64) -> Self
+        ensures { result ≡ record { flat = flat.now; turns = turns.items; work = work } }
+    {
+        Ranged { flat, turns, work }
+    }
+
+    /// The body.
+    pub fn flat(&self) -> &'f Flat
+        ensures { result.now ≡ self.now.flat }
+    {
+        self.flat
+    }
+
+    /// How many turns the loop of each counter makes at most, at the counter's number; 0 at all other numbers.
+    pub fn turns(&self) -> &[u32]
+        ensures { result.now ≡ self.now.turns }
+    {
+        self.turns.as_slice()
+    }
+
+    /// How many nodes a run evaluates at most.
+    pub fn work(&self) -> u64
+        ensures { result ≡ self.now.work }
+    {
+        self.work
+    }
+}

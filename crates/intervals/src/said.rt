@@ -1,0 +1,8 @@
+use crate::Interval;
+
+/// What a condition tells of a variable: its number, and where it lies.
+#[derive(Clone, Copy, Debug, PartialEq, Eq)]
+pub struct Said {
+    pub variable: u32,
+    pub interval: Interval,
+}
