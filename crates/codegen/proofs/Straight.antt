@@ -51,6 +51,13 @@ Placed-right code p (x ∷ xs) ys h =
     let e : p + 4 + 4 * length xs ≡ p + 4 * suc (length xs) = omega arith in
     subst (λ q. Placed code q ys) e (Placed-right code (p + 4) xs ys h.3)
 
+-- placed code ends below the last address
+pub Placed-below : (code : Code) (p : ℕ) (is : List Instr) → Placed code p is → p < 2 ^ 32 → p + 4 * length is < 2 ^ 32
+Placed-below code p [] h below = omega (arith, below)
+Placed-below code p (i ∷ is) h below =
+    let rest = Placed-below code (p + 4) is h.3 h.1 in
+    omega (arith, rest)
+
 -- what a piece of code asks of a state, and what it makes of it, beside a state of straight code
 abbrev pub Before : Type 1
 Before = StraightState → machine.State → Type 0
@@ -176,6 +183,26 @@ module _ (z : Setting) where
         at = e.at ∙ same;
         done = give e.end e.done;
       }
+
+  -- the same turns, to the same address, and giving less
+  pub ends_to : {m q r : ℕ} {leak : Leak} {path rest : Path} {Q R : machine.State → Type 0} {s : machine.State}
+      → Ends z m q leak path rest Q s → q ≡ r → ((t : machine.State) → Q t → R t) → Ends z m r leak path rest R s
+  ends_to e same give = ends_as e (omega arith) same give
+
+  -- on another path, off which the same is read otherwise
+  pub ends_by : {m q : ℕ} {leak leak' : Leak} {path path' rest : Path} {Q : machine.State → Type 0} {s : machine.State}
+      → Ends z m q leak path rest Q s → leak' path' ≡ leak path → Ends z m q leak' path' rest Q s
+  ends_by e same = record {
+    turns = e.turns;
+    end = e.end;
+    seen = e.seen;
+    leads = e.leads;
+    within = e.within;
+    shown = same ∙ e.shown;
+    inside = e.inside;
+    at = e.at;
+    done = e.done;
+  }
 
   -- on the same path, otherwise written
   pub ends_on : {m q : ℕ} {leak : Leak} {path other rest : Path} {Q : machine.State → Type 0} {s : machine.State}

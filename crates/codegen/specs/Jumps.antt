@@ -20,9 +20,9 @@ back n = Jump zero_register (2 ^ 20 - 2 * n)
 -- the first list where the value is not 0, and else the second
 abbrev pub branch_code : List Instr → List Instr → List Instr
 branch_code accepted otherwise =
-    skip ∷ over (length accepted + 1) ∷ accepted ++ over (length otherwise) ∷ otherwise
+    skip ∷ over (length accepted + 1) ∷ (accepted ++ over (length otherwise) ∷ otherwise)
 
 -- a test, and as long as its value is not 0 the body, and the test again
 abbrev pub loop_code : List Instr → List Instr → List Instr
 loop_code test body =
-    test ++ skip ∷ over (length body + 1) ∷ body ++ back (length test + 2 + length body) ∷ []
+    test ++ (skip ∷ over (length body + 1) ∷ (body ++ back (length test + 2 + length body) ∷ []))
