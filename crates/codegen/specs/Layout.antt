@@ -7,6 +7,12 @@ use Rattle.inline.specs.Flat.{declaration_of}
 use Rattle.inline.specs.FlatSize.{words_of, declared_words}
 use Rattle.language.specs.declared.signature.Param.{Param}
 
+-- what is laid out: variables, control values, and loops one in the other
+pub record Frame : Type 0 where
+  pub declared : List FlatVariable
+  pub controls : ℕ
+  pub depths : ℕ
+
 -- a variable, behind all of lower numbers
 abbrev pub variable_offset : List FlatVariable → ℕ → ℕ
 variable_offset declared x = 4 * declared_words (take x declared)
@@ -34,3 +40,8 @@ temporaries_offset declared controls depths = result_offset declared + 4 + 4 * c
 abbrev pub slots_from : ℕ → List Param → List Slot
 slots_from low [] = []
 slots_from low (p ∷ ps) = record { param = p; offset = low } ∷ slots_from (low + 4 * words_of (declaration_of p)) ps
+
+-- where variables lie, the first at `low`, and behind them what comes next
+abbrev pub offsets_from : ℕ → List FlatVariable → List ℕ
+offsets_from low [] = low ∷ []
+offsets_from low (d ∷ ds) = low ∷ offsets_from (low + 4 * words_of d) ds
