@@ -30,7 +30,7 @@ pub struct Layout<'f> {
 }
 
 impl<'f> Model for Layout<'f> {
-    ghost use Rattle.std.specs.Prelude.{◌≡◌, ◌≤◌, ◌×◌};
+    ghost use Rattle.std.specs.Prelude.{◌≡◌, ◌≤◌};
     ghost use Rattle.codegen.specs.Layout.{Frame, offsets_from, temporaries_offset};
 
     ghost Value = { Frame };

@@ -3,11 +3,4 @@
 // instructions, the machine and the image's fields.
 #![tactic(auto)]
 
-mod emit;
-mod expressions;
-mod generator;
 mod layout;
-mod operators;
-mod statements;
-
-pub use generator::generate;
