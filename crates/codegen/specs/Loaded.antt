@@ -1,5 +1,5 @@
 -- An image and its arguments, loaded: where the machine begins.
-use Rattle.std.specs.Prelude.{◌≡◌, ℕ, ◌+◌, ◌≤◌, true, is_some, List, [], ◌∷◌, map, unwrap_or}
+use Rattle.std.specs.Prelude.{◌≡◌, ℕ, ◌+◌, ◌*◌, ◌≤◌, zero, suc, true, is_some, List, [], ◌∷◌, ◌++◌, map, unwrap_or}
 use Rattle.std.specs.Option.{option_map}
 use Rattle.image.specs.Fields.{Fields}
 use Rattle.image.specs.declared.slot.Slot.{Slot}
@@ -7,6 +7,9 @@ use Rattle.rv_machine.specs.Bytes.{ByteMap, number_at, with_number, zeros}
 use Rattle.rv_machine.specs.Machine.{State, Code}
 use Rattle.rv_machine.specs.Registers.{initial_registers}
 use Rattle.language.specs.Results.{Results}
+use Rattle.language.specs.Size.{element_bytes}
+use Rattle.language.specs.declared.signature.Form.{Form}
+use Rattle.language.specs.declared.signature.Form.TheVariants.{SingleWord, FixedArray, MutableArray}
 use Rattle.language.specs.declared.signature.Param.{Param}
 use Rattle.language.specs.declared.values.Arg.{Arg}
 use Rattle.language.specs.declared.values.Arg.TheVariants.{Word, Array}
@@ -15,10 +18,15 @@ use Rattle.language.specs.declared.values.Arg.TheVariants.{Word, Array}
 abbrev pub params_of : Fields → List Param
 params_of image = map (λ slot. slot.param) image.slots
 
--- the bytes with an argument at its slot. Arrays have no images yet.
+-- the bytes with numbers of so many bytes each, one after another from an address on
+abbrev pub with_numbers : ByteMap → ℕ → ℕ → List ℕ → ByteMap
+with_numbers bytes size at [] = bytes
+with_numbers bytes size at (v ∷ vs) = with_numbers (with_number bytes size at v) size (at + size) vs
+
+-- the bytes with an argument at its slot: a word, or the elements of an array
 abbrev pub with_argument : ℕ → ByteMap → Slot → Arg → ByteMap
 with_argument frame bytes slot (Word word) = with_number bytes 4 (frame + slot.offset) word
-with_argument frame bytes slot (Array words) = bytes
+with_argument frame bytes slot (Array words) = with_numbers bytes (element_bytes slot.param.kind) (frame + slot.offset) words
 
 -- the bytes with each argument at its parameter's slot
 abbrev pub with_arguments : ℕ → ByteMap → List Slot → List Arg → ByteMap
@@ -43,9 +51,27 @@ loaded_at code_base frame_base image args = record {
 abbrev pub word_in : ℕ → ByteMap → ℕ → ℕ
 word_in frame bytes offset = unwrap_or (number_at bytes 4 (frame + offset)) 0
 
--- the outcome that the slots hold. No array is changed yet.
+-- so many numbers of so many bytes each, one after another from an address on
+abbrev pub numbers_at : ByteMap → ℕ → ℕ → ℕ → List ℕ
+numbers_at bytes size at zero = []
+numbers_at bytes size at (suc n) = unwrap_or (number_at bytes size at) 0 ∷ numbers_at bytes size (at + size) n
+
+-- the elements in a slot, where it holds an array that may be changed
+abbrev pub array_in : ℕ → ByteMap → Form → Slot → List (List ℕ)
+array_in frame bytes SingleWord slot = []
+array_in frame bytes FixedArray slot = []
+array_in frame bytes MutableArray slot = numbers_at bytes (element_bytes slot.param.kind) (frame + slot.offset) slot.param.length ∷ []
+
+abbrev pub arrays_in : ℕ → ByteMap → List Slot → List (List ℕ)
+arrays_in frame bytes [] = []
+arrays_in frame bytes (slot ∷ slots) = array_in frame bytes slot.param.form slot ++ arrays_in frame bytes slots
+
+-- the outcome that the slots hold
 abbrev pub results_in : ℕ → Fields → ByteMap → Results
-results_in frame image bytes = record { returned = option_map (λ slot. word_in frame bytes slot.offset) image.returned; arrays = [] }
+results_in frame image bytes = record {
+  returned = option_map (λ slot. word_in frame bytes slot.offset) image.returned;
+  arrays = arrays_in frame bytes image.slots;
+}
 
 -- the word of a slot is data, not far above the frame's base
 pub record HoldsWord (frame : ℕ) (bytes : ByteMap) (slot : Slot) : Type 0 where
