@@ -1,5 +1,5 @@
 -- Code that jumps: of two lists one is run, or a list is run again and again.
-use Rattle.std.proofs.Common.{◌≡◌, ◌≢◌, ℕ, zero, suc, ◌+◌, ◌-◌, ◌*◌, ◌%◌, ◌^◌, ◌<◌, ◌≤◌, ◌==◌, Bool, true, false, not, cond, nat_lt, if◌then◌else◌, List, [], ◌∷◌, ◌++◌, length, None, All, refl, sym, ap, ◌∙◌, subst, arith, length-append, append_assoc}
+use Rattle.std.proofs.Common.{◌≡◌, ◌≢◌, ℕ, zero, suc, ◌+◌, ◌-◌, ◌*◌, ◌%◌, ◌^◌, ◌<◌, ◌≤◌, ◌==◌, Bool, true, false, not, cond, if◌then◌else◌, List, [], ◌∷◌, ◌++◌, length, None, All, refl, sym, ap, ◌∙◌, subst, arith, length-append, append_assoc}
 use Rattle.std.proofs.Math.Path.{fun_ext}
 use Rattle.std.proofs.lemmas.Bool.{true≢false}
 use Rattle.std.proofs.lemmas.Bool.Decides.{nat_tests}
@@ -9,7 +9,7 @@ use Rattle.codegen.specs.Jumps.{skip, over, back, branch_code, loop_code}
 use Rattle.std.specs.Prelude.{slice_index}
 use Rattle.std.proofs.lemmas.Nat.{mul-le}
 use Rattle.inline.specs.FlatMeaning.{turns, path_of_turns}
-use Rattle.inline.specs.Path.{Mark, Path, AreFine, decided, bounded}
+use Rattle.inline.specs.Path.{Path, AreFine, decided, bounded}
 use Rattle.rv_code.specs.declared.instructions.Instr.{Instr}
 use Rattle.rv_code.specs.declared.instructions.Instr.TheVariants as instr
 use Rattle.rv_code.specs.declared.operations.BranchTest.TheVariants.{Bne}
@@ -18,7 +18,7 @@ use Rattle.rv_machine.specs.Effects.{jump_target, branch_target, sign_extended, 
 use Rattle.rv_machine.specs.Leakage.{Leads}
 use Rattle.rv_machine.specs.Machine as machine
 use Rattle.rv_machine.specs.Machine.{with_link, moved_to, next}
-use Rattle.rv_machine.specs.Registers.{register, with_register}
+use Rattle.rv_machine.specs.Registers.{with_register}
 use Rattle.rv_machine.proofs.TurnLaws.{with_link-pc, with_link-regs, with_link-bytes, moved_to-pc, moved_to-regs, moved_to-bytes, jump_leads, branch_leads, branch_passes}
 use Rattle.codegen.proofs.Steps.{All-one, stands}
 use Rattle.codegen.proofs.Straight.{Setting, Placed, Placed-left, Placed-right, Before, After, Steps, none, Leak, always, both, fine_left, fine_right, Ends, Straight, Runs, then_ends, ends_as, ends_to, ends_by, ends_on, Placed-below}

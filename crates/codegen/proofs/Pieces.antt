@@ -14,7 +14,7 @@ use Rattle.branch_removal.specs.StraightMeaning.{StraightState}
 use Rattle.codegen.proofs.Straight.{Setting, none, Runs, seq, weaken, cheaper}
 use Rattle.codegen.proofs.Arithmetic.{far_address, near_address, upper_fits, lower_fits}
 use Rattle.codegen.proofs.Held.{Held, held_regs, frame_there}
-use Rattle.codegen.proofs.Steps.{Always, Moves, Fit, Reads, Inside, computing, loading}
+use Rattle.codegen.proofs.Steps.{Always, Moves, Fit, Inside, computing, loading}
 
 -- a register other than x0 reads as what it has
 pub register-at : (regs : ℕ → ℕ) (r : ℕ) → r ≢ 0 → register regs r ≡ regs r

@@ -20,9 +20,9 @@ use Rattle.rv_machine.specs.Machine.{State, Code, ending_of, with_value, with_st
 use Rattle.rv_machine.specs.Registers.{register, with_register}
 use Rattle.rv_machine.proofs.TurnLaws.{turn_of, with_value-pc, with_value-regs, with_value-bytes, with_stored-pc, with_stored-regs, with_stored-bytes, load_leads, store_leads, divide_leads}
 use Rattle.branch_removal.specs.StraightMeaning.{StraightState}
-use Rattle.inline.specs.Path.{Path, Mark, indexed, divided}
+use Rattle.inline.specs.Path.{Path, indexed, divided}
 use Rattle.codegen.specs.Bases.{IsInside}
-use Rattle.codegen.proofs.Straight.{Setting, none, Steps, Leak, always, Placed, Before, Ends, Runs}
+use Rattle.codegen.proofs.Straight.{Setting, none, Leak, always, Placed, Before, Ends, Runs}
 use Rattle.word.specs.declared.place.Place.{Place}
 
 -- asked of no state

@@ -4,7 +4,7 @@
 -- path's next mark and choose by it. Each piece may count on it that its part of the path is fine.
 use Rattle.std.proofs.Common.{◌≡◌, ℕ, suc, ◌+◌, ◌*◌, ◌%◌, ◌^◌, ◌<◌, ◌≤◌, List, [], ◌∷◌, ◌++◌, length, Some, All, refl, sym, ap, ◌∙◌, subst, arith, length-append, append_assoc}
 use Rattle.std.proofs.lemmas.List.Elements.{All-append}
-use Rattle.inline.specs.Path.{Mark, Path, AreFine}
+use Rattle.inline.specs.Path.{Path, AreFine}
 use Rattle.inline.specs.declared.flat.FlatVariable.{FlatVariable}
 use Rattle.branch_removal.specs.StraightMeaning.{StraightState}
 use Rattle.codegen.specs.Bases.{IsInside}

@@ -1,5 +1,5 @@
 -- What is shown of the state of straight code, and what the code of an expression leaves.
-use Rattle.std.proofs.Common.{◌≡◌, ℕ, ◌+◌, ◌-◌, ◌*◌, ◌%◌, ◌^◌, ◌<◌, ◌≤◌, Some, slice_get, slice_index, ap, ◌∙◌, arith, subst, sym}
+use Rattle.std.proofs.Common.{◌≡◌, ℕ, ◌+◌, ◌-◌, ◌%◌, ◌^◌, ◌<◌, ◌≤◌, Some, slice_get, slice_index, ap, ◌∙◌, arith, sym}
 use Rattle.branch_removal.specs.StraightMeaning.{StraightState}
 use Rattle.codegen.specs.Layout.{control_offset}
 use Rattle.inline.specs.declared.flat.FlatVariable.{FlatVariable}

@@ -1,0 +1,184 @@
+-- Names, their types and their numbers, as they go together.
+use Rattle.std.proofs.Common.{◌≡◌, ℕ, ◌+◌, ◌<◌, ◌≤◌, Bool, true, false, if◌then◌else◌, List, Option, Some, None, unwrap_or, refl, sym, ap, ap₂, ◌∙◌, subst, arith, eq-eqb, ne_eqb}
+use Rattle.std.proofs.lemmas.Option.{none-some, same_Some}
+use Rattle.std.specs.Str.{bytes_eq}
+use lib.Pointwise.{bytes_decides}
+use Rattle.inline.specs.declared.flat.FlatVariable.{FlatVariable}
+use Rattle.inline.specs.declared.numbering.Numbered.{Numbered}
+use Rattle.inline.specs.Flat.{word_as, array_as}
+use Rattle.inline.specs.FlatTyping.{Types, with_type, counter_type}
+use Rattle.inline.specs.Numbering.{Numbers, numbered, naming}
+use Rattle.names.specs.Scope.{found, declared}
+use Rattle.language.specs.declared.typing.ArrayType.{ArrayType}
+use Rattle.language.specs.declared.typing.ValueType.{ValueType}
+use Rattle.language.specs.declared.typing.ValueType.TheVariants.{Word, Array}
+use Rattle.language.specs.declared.typing.VariableType.{VariableType}
+use Rattle.language.specs.declared.typing.WordType.{WordType}
+use Rattle.language.specs.declared.typing.Declared.TheVariants.{Variable}
+use Rattle.language.specs.Types.{Scope}
+use Rattle.language.specs.WellTyped.{IsVariable}
+use Rattle.inline.proofs.Lookup.{found-new, found-other}
+
+-- what a name stands for in the scope, where it is a variable that is declared so
+abbrev pub value_as : WordType → Option ℕ → ValueType
+value_as word None = Word word
+value_as word (Some size) = Array (record { element = word; length = size })
+
+abbrev pub variable_as : FlatVariable → VariableType
+variable_as d = record { value = value_as d.word d.elements; mutable = d.mutable }
+
+-- what stands for a variable of this number, declared so
+abbrev pub entry : ℕ → FlatVariable → Numbered
+entry n d = record { number = n; declaration = d }
+
+-- a variable: its number, and what it is declared as
+pub record Known (names : Numbers) (types : Types) (text : List ℕ) (v : VariableType) : Type 0 where
+  pub number : ℕ
+  pub declaration : FlatVariable
+  pub numbered : found names text ≡ Some (entry number declaration)
+  pub is : v ≡ variable_as declaration
+  pub typed : types number ≡ Some declaration
+
+-- the next number is n
+pub record Linked (scope : Scope) (names : Numbers) (types : Types) (n : ℕ) : Type 0 where
+  -- a variable's number has its type
+  pub known : (text : List ℕ) (v : VariableType) → found scope text ≡ Some (Variable v) → Known names types text v
+  -- only what is in scope has a number
+  pub none : (text : List ℕ) → found scope text ≡ None → found names text ≡ None
+  pub below : (text : List ℕ) (x : Numbered) → found names text ≡ Some x → x.number < n
+  -- no number is that of two names
+  pub apart : (a b : List ℕ) (x y : Numbered) → found names a ≡ Some x → found names b ≡ Some y → x.number ≡ y.number → a ≡ b
+  pub fresh : (x : ℕ) → n ≤ x → types x ≡ None
+
+pub later : (scope : Scope) (names : Numbers) (types : Types) (n m : ℕ) → n ≤ m → Linked scope names types n → Linked scope names types m
+later scope names types n m more linked = record {
+  known = linked.known;
+  none = linked.none;
+  below = λ text x is. let low = linked.below text x is in omega arith;
+  apart = linked.apart;
+  fresh = λ x high. linked.fresh x (omega arith);
+}
+
+pub with_type-same : (types : Types) (n : ℕ) (d : FlatVariable) → with_type types n d n ≡ Some d
+with_type-same types n d = ap (λ b. if b then Some d else types n) (eq-eqb n n refl)
+
+pub with_type-other : (types : Types) (n x : ℕ) (d : FlatVariable) → (x ≡ n → ⊥) → with_type types n d x ≡ types x
+with_type-other types n x d other = ap (λ b. if b then Some d else types x) (ne_eqb x n other)
+
+pub same_variable : (v w : VariableType) → Some (Variable v) ≡ Some (Variable w) → v ≡ w
+same_variable v w e = cc
+
+-- A declaration.
+
+module _ (scope : Scope) (names : Numbers) (types : Types) (n : ℕ) (linked : Linked scope names types n) (text : List ℕ) (own : FlatVariable) (new : found scope text ≡ None) where
+  after_scope : Scope
+  after_scope = declared scope text (Variable (variable_as own))
+
+  after_names : Numbers
+  after_names = naming names text n own
+
+  after_types : Types
+  after_types = with_type types n own
+
+  known_by : (other : List ℕ) (w : VariableType) (b : Bool) → bytes_eq other text ≡ b → found after_scope other ≡ Some (Variable w) → Known after_names after_types other w
+  unfolding after_scope after_names after_types
+  known_by other w true e is =
+      let same = same_variable (variable_as own) w (sym (found-new scope text (Variable (variable_as own)) other e new) ∙ is) in
+      record {
+        number = n;
+        declaration = own;
+        numbered = found-new names text (entry n own) other e (linked.none text new);
+        is = sym same;
+        typed = with_type-same types n own;
+      }
+  known_by other w false e is =
+      let old = linked.known other w (sym (found-other scope text (Variable (variable_as own)) other e) ∙ is) in
+      let low = linked.below other (entry old.number old.declaration) old.numbered in
+      record {
+        number = old.number;
+        declaration = old.declaration;
+        numbered = found-other names text (entry n own) other e ∙ old.numbered;
+        is = old.is;
+        typed = with_type-other types n old.number own (λ q. omega arith) ∙ old.typed;
+      }
+
+  none_by : (other : List ℕ) (b : Bool) → bytes_eq other text ≡ b → found after_scope other ≡ None → found after_names other ≡ None
+  unfolding after_scope after_names
+  none_by other true e is = absurd (none-some (Variable (variable_as own)) (sym is ∙ found-new scope text (Variable (variable_as own)) other e new))
+  none_by other false e is = found-other names text (entry n own) other e ∙ linked.none other (sym (found-other scope text (Variable (variable_as own)) other e) ∙ is)
+
+  below_by : (other : List ℕ) (x : Numbered) (b : Bool) → bytes_eq other text ≡ b → found after_names other ≡ Some x → x.number < n + 1
+  unfolding after_names
+  below_by other x true e is = let same = ap (λ (z : Numbered). z.number) (same_Some (entry n own) x (sym (found-new names text (entry n own) other e (linked.none text new)) ∙ is)) in omega arith
+  below_by other x false e is = let low = linked.below other x (sym (found-other names text (entry n own) other e) ∙ is) in omega arith
+
+  apart_by : (a b : List ℕ) (x y : Numbered) (s t : Bool) → bytes_eq a text ≡ s → bytes_eq b text ≡ t → found after_names a ≡ Some x → found after_names b ≡ Some y → x.number ≡ y.number → a ≡ b
+  unfolding after_names
+  apart_by a b x y true true d e is is' equal = (bytes_decides a text).0 d ∙ sym ((bytes_decides b text).0 e)
+  apart_by a b x y true false d e is is' equal =
+      let same = ap (λ (z : Numbered). z.number) (same_Some (entry n own) x (sym (found-new names text (entry n own) a d (linked.none text new)) ∙ is)) in
+      let low = linked.below b y (sym (found-other names text (entry n own) b e) ∙ is') in
+      absurd (omega arith)
+  apart_by a b x y false true d e is is' equal =
+      let same = ap (λ (z : Numbered). z.number) (same_Some (entry n own) y (sym (found-new names text (entry n own) b e (linked.none text new)) ∙ is')) in
+      let low = linked.below a x (sym (found-other names text (entry n own) a d) ∙ is) in
+      absurd (omega arith)
+  apart_by a b x y false false d e is is' equal =
+      linked.apart a b x y (sym (found-other names text (entry n own) a d) ∙ is) (sym (found-other names text (entry n own) b e) ∙ is') equal
+
+  pub linked_declared : Linked (declared scope text (Variable (variable_as own))) (naming names text n own) (with_type types n own) (n + 1)
+  unfolding after_scope after_names after_types
+  linked_declared = record {
+    known = λ other w. known_by other w (bytes_eq other text) refl;
+    none = λ other. none_by other (bytes_eq other text) refl;
+    below = λ other x. below_by other x (bytes_eq other text) refl;
+    apart = λ a b x y. apart_by a b x y (bytes_eq a text) (bytes_eq b text) refl refl;
+    fresh = λ x high. with_type-other types n x own (λ q. omega arith) ∙ linked.fresh x (omega arith);
+  }
+
+-- Variables that are known to be words or arrays.
+
+-- a name's number and its type, where it is declared so
+pub record KnownAs (names : Numbers) (types : Types) (text : List ℕ) (d : FlatVariable) : Type 0 where
+  pub number : ℕ
+  pub found : found names text ≡ Some (entry number d)
+  pub typed : types number ≡ Some d
+  pub here : numbered names text ≡ entry number d
+
+abbrev whole : WordType → Bool → Option ℕ → FlatVariable
+whole word mutable elements = record { word = word; mutable = mutable; elements = elements }
+
+as_word : (word : WordType) (mutable : Bool) (own : WordType) (free : Bool) (size : Option ℕ) → Word word ≡ value_as own size → mutable ≡ free
+    → whole own free size ≡ word_as word mutable
+as_word word mutable own free None e f =
+    let same : own ≡ word = cc in
+    ap₂ word_as same (sym f)
+as_word word mutable own free (Some size) e f = absurd cc
+
+as_array : (array : ArrayType) (mutable : Bool) (own : WordType) (free : Bool) (size : Option ℕ) → Array array ≡ value_as own size → mutable ≡ free
+    → whole own free size ≡ array_as array.element mutable array.length
+as_array array mutable own free None e f = absurd cc
+as_array array mutable own free (Some size) e f =
+    let same : record { element = own; length = size } ≡ array = cc in
+    ap₂ (λ (a : ArrayType) b. array_as a.element b a.length) same (sym f)
+
+module _ (scope : Scope) (names : Numbers) (types : Types) (n : ℕ) (linked : Linked scope names types n) where
+  known_as : (text : List ℕ) (v : VariableType) (d : FlatVariable) → ((own : FlatVariable) → v ≡ variable_as own → own ≡ d) → found scope text ≡ Some (Variable v) → KnownAs names types text d
+  known_as text v d so is =
+      let k = linked.known text v is in
+      subst (KnownAs names types text) (so k.declaration k.is) (record {
+        number = k.number;
+        found = k.numbered;
+        typed = k.typed;
+        here = ap (λ (o : Option Numbered). unwrap_or {T = Numbered} o (record { number = 0; declaration = word_as counter_type false })) k.numbered;
+      })
+
+  pub known_word : (text : List ℕ) (word : WordType) (mutable : Bool) → IsVariable scope text (Word word) mutable → KnownAs names types text (word_as word mutable)
+  known_word text word mutable =
+      known_as text (record { value = Word word; mutable = mutable }) (word_as word mutable)
+      (λ own e. as_word word mutable own.word own.mutable own.elements (ap (λ (v : VariableType). v.value) e) (ap (λ (v : VariableType). v.mutable) e))
+
+  pub known_array : (text : List ℕ) (array : ArrayType) (mutable : Bool) → IsVariable scope text (Array array) mutable → KnownAs names types text (array_as array.element mutable array.length)
+  known_array text array mutable =
+      known_as text (record { value = Array array; mutable = mutable }) (array_as array.element mutable array.length)
+      (λ own e. as_array array mutable own.word own.mutable own.elements (ap (λ (v : VariableType). v.value) e) (ap (λ (v : VariableType). v.mutable) e))

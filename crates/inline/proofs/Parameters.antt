@@ -1,0 +1,218 @@
+-- Where a body begins: the parameters have the first numbers, and hold the arguments.
+use Rattle.std.proofs.Common.{◌≡◌, ◌≢◌, ℕ, zero, suc, ◌+◌, ◌<◌, ◌≤◌, Bool, true, false, cond, List, [], ◌∷◌, ◌++◌, length, map, Option, Some, None, slice_get, refl, sym, ap, ◌∙◌, subst, arith}
+use Rattle.std.proofs.lemmas.Option.{none-some, same_Some}
+use Rattle.std.specs.Str.{bytes_eq}
+use lib.Pointwise.{bytes_decides}
+use Rattle.arguments.specs.Within.{AreWithin, IsWithin, HasShape, words_of}
+use Rattle.inline.specs.declared.flat.FlatVariable.{FlatVariable}
+use Rattle.inline.specs.declared.numbering.Numbered.{Numbered}
+use Rattle.inline.specs.Flat.{declaration_of, elements_by, numbers_in}
+use Rattle.inline.specs.FlatMeaning.{Values, given, array_of, arrays_from}
+use Rattle.inline.specs.FlatTyping.{Types, with_type, types_of}
+use Rattle.inline.specs.Numbering as numbering
+use Rattle.inline.specs.Numbering.{Numbers, param_of, naming}
+use Rattle.names.specs.Scope.{found, declared}
+use Rattle.language.specs.declared.signature.Form.{Form}
+use Rattle.language.specs.declared.signature.Form.TheVariants.{SingleWord, FixedArray, MutableArray}
+use Rattle.language.specs.declared.signature.Kind.{Kind}
+use Rattle.language.specs.declared.typing.Declared.{Declared}
+use Rattle.language.specs.declared.typing.Declared.TheVariants.{Variable}
+use Rattle.language.specs.declared.typing.VariableType.{VariableType}
+use Rattle.language.specs.declared.typing.WordType.{WordType}
+use Rattle.language.specs.declared.values.Arg.{Arg}
+use Rattle.language.specs.declared.values.Arg.TheVariants.{Word, Array}
+use Rattle.language.specs.Meaning.{holding, argument_value, final_array, final_arrays}
+use Rattle.language.specs.State.{State, Value}
+use Rattle.language.specs.Tree.{ParameterTree}
+use Rattle.language.specs.Types.{Scope}
+use Rattle.language.specs.Typing.{with_parameters, parameter_as, parameter_value, is_mutable}
+use Rattle.language.specs.WellTyped.{AreNew, no_parameter, one_is_new}
+use Rattle.inline.proofs.Lookup.{found-new, found-other, found-kept}
+use Rattle.inline.proofs.Linked.{Linked, entry, value_as, variable_as, linked_declared, with_type-same, with_type-other}
+use Rattle.inline.proofs.Terms.{held, Holds, Shows}
+
+-- what a parameter is declared as
+abbrev pub own : ParameterTree → FlatVariable
+own p = declaration_of (param_of p)
+
+abbrev pub all_own : List ParameterTree → List FlatVariable
+all_own ps = map declaration_of (map param_of ps)
+
+-- its name stands for that in the scope
+value_same : (p : ParameterTree) (form : Form) → parameter_value p form ≡ value_as (own p).word (elements_by form p.length)
+value_same p SingleWord = refl
+value_same p FixedArray = refl
+value_same p MutableArray = refl
+
+parameter_same : (p : ParameterTree) → Variable (variable_as (own p)) ≡ parameter_as p
+parameter_same p = ap (λ v. Variable (record { value = v; mutable = is_mutable p.form })) (sym (value_same p p.form))
+
+-- Numbers.
+
+-- types once more variables are declared
+abbrev pub typed_with : Types → ℕ → List FlatVariable → Types
+typed_with types n [] = types
+typed_with types n (d ∷ ds) = typed_with (with_type types n d) (n + 1) ds
+
+-- names of the one list keep what they stand for in a longer one
+pub kept_parameters : (ps : List ParameterTree) (names : Numbers) (n : ℕ) (text : List ℕ) (x : Numbered) → found names text ≡ Some x → found (numbering.with_parameters names n ps) text ≡ Some x
+kept_parameters [] names n text x is = is
+kept_parameters (p ∷ ps) names n text x is = kept_parameters ps (naming names p.name n (own p)) (n + 1) text x (found-kept names p.name (entry n (own p)) text x is)
+
+-- each parameter's name has its number
+abbrev pub Named : Numbers → ℕ → List ParameterTree → Type 0
+Named names n [] = Unit {0}
+Named names n (p ∷ ps) = (found names p.name ≡ Some (entry n (own p))) × Named names (n + 1) ps
+
+pub record Begins (scope : Scope) (names : Numbers) (types : Types) (n : ℕ) (ps : List ParameterTree) : Type 0 where
+  pub linked : Linked (with_parameters scope ps) (numbering.with_parameters names n ps) (typed_with types n (all_own ps)) (n + length ps)
+  pub named : Named (numbering.with_parameters names n ps) n ps
+
+itself : (text : List ℕ) → bytes_eq text text ≡ true
+itself text = (bytes_decides text text).1 refl
+
+begins : (ps : List ParameterTree) (scope : Scope) (names : Numbers) (types : Types) (n : ℕ) → AreNew scope ps → Linked scope names types n → Begins scope names types n ps
+begins [] scope names types n new linked =
+    let same : n ≡ n + 0 = omega arith in
+    record { linked = subst (Linked scope names types) same linked; named = tt }
+begins (p ∷ ps) scope names types n (one_is_new here there) linked =
+    let next = subst (λ d. Linked (declared scope p.name d) (naming names p.name n (own p)) (with_type types n (own p)) (n + 1)) (parameter_same p) (linked_declared scope names types n linked p.name (own p) here) in
+    let rest = begins ps _ (naming names p.name n (own p)) (with_type types n (own p)) (n + 1) there next in
+    let same : (n + 1) + length ps ≡ n + length (p ∷ ps) = omega arith in
+    record {
+      linked = subst (Linked (with_parameters scope (p ∷ ps)) (numbering.with_parameters names n (p ∷ ps)) (typed_with types n (all_own (p ∷ ps)))) same rest.linked;
+      named = (kept_parameters ps (naming names p.name n (own p)) (n + 1) p.name (entry n (own p)) (found-new names p.name (entry n (own p)) p.name (itself p.name) (linked.none p.name here)), rest.named);
+    }
+
+-- the types by number
+before_all : (ds : List FlatVariable) (types : Types) (n x : ℕ) → x < n → typed_with types n ds x ≡ types x
+before_all [] types n x low = refl
+before_all (d ∷ ds) types n x low = before_all ds (with_type types n d) (n + 1) x (omega arith) ∙ with_type-other types n x d (λ q. omega arith)
+
+from_all : (ds : List FlatVariable) (types : Types) (n i : ℕ) → ((x : ℕ) → n ≤ x → types x ≡ None) → typed_with types n ds (n + i) ≡ slice_get ds i
+from_all [] types n i fresh = fresh (n + i) (omega arith)
+from_all (d ∷ ds) types n zero fresh =
+    let same : n + 0 ≡ n = omega arith in
+    ap (typed_with types n (d ∷ ds)) same ∙ (before_all ds (with_type types n d) (n + 1) n (omega arith) ∙ with_type-same types n d)
+from_all (d ∷ ds) types n (suc i) fresh =
+    let same : n + suc i ≡ (n + 1) + i = omega arith in
+    ap (typed_with types n (d ∷ ds)) same ∙ from_all ds (with_type types n d) (n + 1) i (λ x high. with_type-other types n x d (λ q. omega arith) ∙ fresh x (omega arith))
+
+abbrev pub no_types : Types
+no_types = λ x. None
+
+types_same : (ds : List FlatVariable) (x : ℕ) → typed_with no_types 0 ds x ≡ types_of ds x
+types_same ds x =
+    let same : x ≡ 0 + x = omega arith in
+    ap (typed_with no_types 0 ds) same ∙ from_all ds no_types 0 x (λ y high. refl)
+
+-- types that are equal everywhere serve as well
+retyped : (scope : Scope) (names : Numbers) (types others : Types) (n : ℕ) → ((x : ℕ) → types x ≡ others x) → Linked scope names types n → Linked scope names others n
+retyped scope names types others n same linked = record {
+  known = λ text v is.
+      let k = linked.known text v is in
+      record { number = k.number; declaration = k.declaration; numbered = k.numbered; is = k.is; typed = sym (same k.number) ∙ k.typed };
+  none = linked.none;
+  below = linked.below;
+  apart = linked.apart;
+  fresh = λ x high. sym (same x) ∙ linked.fresh x high;
+}
+
+-- no variable stands in a scope of procedures
+abbrev pub NoVariables : Scope → Type 0
+NoVariables scope = (text : List ℕ) (v : VariableType) → found scope text ≢ Some (Variable v)
+
+pub where_begun : (scope : Scope) → NoVariables scope → (ps : List ParameterTree) → AreNew scope ps → Begins scope [] no_types 0 ps
+where_begun scope none ps new = begins ps scope [] no_types 0 new (record {
+  known = λ text v is. absurd (none text v is);
+  none = λ text is. refl;
+  below = λ text x is. absurd (none-some x is);
+  apart = λ a b x y is is' equal. absurd (none-some x is);
+  fresh = λ x high. refl;
+})
+
+pub linked_parameters : (scope : Scope) → NoVariables scope → (ps : List ParameterTree) → AreNew scope ps
+    → Linked (with_parameters scope ps) (numbering.with_parameters [] 0 ps) (types_of (all_own ps)) (length ps)
+linked_parameters scope none ps new =
+    let same : 0 + length ps ≡ length ps = omega arith in
+    retyped (with_parameters scope ps) (numbering.with_parameters [] 0 ps) (typed_with no_types 0 (all_own ps)) (types_of (all_own ps)) (length ps) (types_same (all_own ps))
+    (subst (Linked (with_parameters scope ps) (numbering.with_parameters [] 0 ps) (typed_with no_types 0 (all_own ps))) same (where_begun scope none ps new).linked)
+
+-- Arguments.
+
+-- an argument within the type is what its variable holds
+argument_held : (kind : Kind) (form : Form) (size : ℕ) (arg : Arg) → HasShape form size arg → Some (argument_value kind arg) ≡ Some (held kind (elements_by form size) (words_of arg))
+argument_held kind SingleWord size (Word word) shape = refl
+argument_held kind SingleWord size (Array words) shape = absurd shape
+argument_held kind FixedArray size (Word word) shape = absurd shape
+argument_held kind FixedArray size (Array words) shape = refl
+argument_held kind MutableArray size (Word word) shape = absurd shape
+argument_held kind MutableArray size (Array words) shape = refl
+
+pub argument_count : (form : Form) (size : ℕ) (arg : Arg) → HasShape form size arg → length (words_of arg) ≡ numbers_in (elements_by form size)
+argument_count SingleWord size (Word word) shape = refl
+argument_count SingleWord size (Array words) shape = absurd shape
+argument_count FixedArray size (Word word) shape = absurd shape
+argument_count FixedArray size (Array words) shape = shape
+argument_count MutableArray size (Word word) shape = absurd shape
+argument_count MutableArray size (Array words) shape = shape
+
+-- a parameter's number, and that it holds its argument
+record Passed (n : ℕ) (ps : List ParameterTree) (rest : List FlatVariable) (text : List ℕ) (x : Numbered) : Type 0 where
+  pub index : ℕ
+  pub number : x.number ≡ n + index
+  pub holds : (args : List Arg) → AreWithin (map param_of ps) args → Holds x.declaration (holding ps args text) (given (all_own ps ++ rest) args index)
+
+first_holds : (p : ParameterTree) (ps : List ParameterTree) (rest : List FlatVariable) (args : List Arg) (text : List ℕ) → bytes_eq text p.name ≡ true → AreWithin (map param_of (p ∷ ps)) args
+    → Holds (own p) (holding (p ∷ ps) args text) (given (all_own (p ∷ ps) ++ rest) args 0)
+first_holds p ps rest [] text e within = absurd within
+first_holds p ps rest (arg ∷ args) text e within = record {
+  is = ap (λ t. cond t (Some (argument_value p.kind arg)) (holding ps args text)) e ∙ argument_held p.kind p.form p.length arg within.0.shape;
+  count = argument_count p.form p.length arg within.0.shape;
+}
+
+later_holds : (p : ParameterTree) (ps : List ParameterTree) (rest : List FlatVariable) (args : List Arg) (text : List ℕ) (index : ℕ) (d : FlatVariable) → bytes_eq text p.name ≡ false → AreWithin (map param_of (p ∷ ps)) args
+    → ((more : List Arg) → AreWithin (map param_of ps) more → Holds d (holding ps more text) (given (all_own ps ++ rest) more index))
+    → Holds d (holding (p ∷ ps) args text) (given (all_own (p ∷ ps) ++ rest) args (suc index))
+later_holds p ps rest [] text index d e within holds = absurd within
+later_holds p ps rest (arg ∷ args) text index d e within holds =
+    subst (λ o. Holds d o (given (all_own ps ++ rest) args index)) (sym (ap (λ t. cond t (Some (argument_value p.kind arg)) (holding ps args text)) e)) (holds args within.1)
+
+passed : (ps : List ParameterTree) (names : Numbers) (n : ℕ) (rest : List FlatVariable) (text : List ℕ) (x : Numbered) → found names text ≡ None → found (numbering.with_parameters names n ps) text ≡ Some x → Passed n ps rest text x
+passed [] names n rest text x none is = absurd (none-some x (sym none ∙ is))
+passed (p ∷ ps) names n rest text x none is = by_name (bytes_eq text p.name) refl (λ old. passed ps (naming names p.name n (own p)) (n + 1) rest text x old is)
+  where
+    by_name : (b : Bool) → bytes_eq text p.name ≡ b → (found (naming names p.name n (own p)) text ≡ None → Passed (n + 1) ps rest text x) → Passed n (p ∷ ps) rest text x
+    by_name true e more =
+        let new = ap (found names) (sym ((bytes_decides text p.name).0 e)) ∙ none in
+        let here = kept_parameters ps (naming names p.name n (own p)) (n + 1) text (entry n (own p)) (found-new names p.name (entry n (own p)) text e new) in
+        let same = same_Some (entry n (own p)) x (sym here ∙ is) in
+        let zeroth : n ≡ n + 0 = omega arith in
+        subst (Passed n (p ∷ ps) rest text) same (record { index = 0; number = zeroth; holds = λ args. first_holds p ps rest args text e })
+    by_name false e more =
+        let r = more (found-other names p.name (entry n (own p)) text e ∙ none) in
+        let i = r.index in
+        let same : (n + 1) + i ≡ n + suc i = omega arith in
+        record { index = suc r.index; number = r.number ∙ same; holds = λ args within. later_holds p ps rest args text r.index x.declaration e within r.holds }
+
+-- the parameters hold the arguments
+pub shows_arguments : (ps : List ParameterTree) (rest : List FlatVariable) (args : List Arg) → AreWithin (map param_of ps) args → Shows (numbering.with_parameters [] 0 ps) (holding ps args) (given (all_own ps ++ rest) args)
+shows_arguments ps rest args within text x is =
+    let r = passed ps [] 0 rest text x refl is in
+    let i = r.index in
+    let e = r.number in
+    let same : i ≡ x.number = omega arith in
+    subst (λ y. Holds x.declaration (holding ps args text) (given (all_own ps ++ rest) args y)) same (r.holds args within)
+
+-- The `mut` arrays at the end.
+
+array_same : (kind : Kind) (form : Form) (size : ℕ) (o : Option Value) (numbers : List ℕ) → o ≡ Some (held kind (elements_by form size) numbers) → final_array form o ≡ array_of form numbers
+array_same kind SingleWord size o numbers is = refl
+array_same kind FixedArray size o numbers is = refl
+array_same kind MutableArray size o numbers is = ap (final_array MutableArray) is
+
+pub arrays_same : (ps : List ParameterTree) (names : Numbers) (n : ℕ) (t : State) (m : Values) → Named names n ps → Shows names t m → final_arrays t ps ≡ arrays_from n (map param_of ps) m
+arrays_same [] names n t m named shows = refl
+arrays_same (p ∷ ps) names n t m named shows =
+    ap (λ a. a ++ final_arrays t ps) (array_same p.kind p.form p.length (t p.name) (m n) (shows p.name (entry n (own p)) named.0).is)
+    ∙ ap (λ a. array_of p.form (m n) ++ a) (arrays_same ps names (n + 1) t m named.1 shows)
