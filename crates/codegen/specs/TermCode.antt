@@ -1,5 +1,5 @@
 -- The instructions that are emitted for slots, numbers, operators and expressions.
-use Rattle.std.specs.Prelude.{ℕ, zero, suc, ◌+◌, ◌-◌, ◌/◌, ◌%◌, ◌^◌, ◌==◌, Bool, List, [], ◌∷◌, ◌++◌, max, nat_lt, if◌then◌else◌}
+use Rattle.std.specs.Prelude.{ℕ, zero, suc, ◌+◌, ◌-◌, ◌/◌, ◌%◌, ◌^◌, ◌==◌, ◌<◌, Bool, List, [], ◌∷◌, ◌++◌, max, nat_lt, if◌then◌else◌}
 use Rattle.codegen.specs.Layout.{variable_offset}
 use Rattle.codegen.specs.Registers.{zero_register, frame_register, value_register, left_register, condition_register, address_register}
 use Rattle.inline.specs.declared.flat.FlatVariable.{FlatVariable}
@@ -200,3 +200,15 @@ height_of (convert kind operand) = height_of operand
 height_of (select condition accepted otherwise) =
     max (height_of condition) (1 + max (height_of accepted) (1 + height_of otherwise))
 height_of (element place x size index) = height_of index
+
+-- the variables that an expression names are among the first so many
+abbrev pub IsAmong : ℕ → TermTree → Type 0
+IsAmong count (number value kind) = Unit {0}
+IsAmong count (truth value) = Unit {0}
+IsAmong count (variable x) = x < count
+IsAmong count (prefix operator width operand) = IsAmong count operand
+IsAmong count (binary place operator width left right) = IsAmong count left × IsAmong count right
+IsAmong count (rotate width operand amount) = IsAmong count operand
+IsAmong count (convert kind operand) = IsAmong count operand
+IsAmong count (select condition accepted otherwise) = IsAmong count condition × IsAmong count accepted × IsAmong count otherwise
+IsAmong count (element place x size index) = (x < count) × IsAmong count index
