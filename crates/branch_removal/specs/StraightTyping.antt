@@ -17,6 +17,10 @@ pub record IsSet (declared : List FlatVariable) (x : ℕ) (value : TermTree) : T
   pub known : slice_get declared x ≡ Some (word_as word mutable)
   pub suits : Suits (types_of declared) word value
 
+-- not compiled yet
+abbrev pub IsCompiledYet : Type 0
+IsCompiledYet = ⊥
+
 -- all variables but one
 abbrev pub types_but : List FlatVariable → ℕ → Types
 types_but declared x = λ y. if y == x then None else slice_get declared y
@@ -27,6 +31,7 @@ pub record IsFilled (declared : List FlatVariable) (x size : ℕ) (values : List
   pub mutable : Bool
   pub known : slice_get declared x ≡ Some (array_as word mutable size)
   pub suit : AllSuit (types_but declared x) word values
+  pub compiled : IsCompiledYet
 
 -- an array of so many elements, a public index, and a value for the element
 pub record IsPut (declared : List FlatVariable) (x size : ℕ) (index value : TermTree) : Type 0 where
