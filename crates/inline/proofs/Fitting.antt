@@ -121,7 +121,6 @@ module _ (types : Types) (m : Values) (fits : Fits types m) where
   value_fits (of_conversion {kind = kind} {operand = operand} has numeric) = number_fits kind _ numeric (wrapped_fits (width_of kind) (value_in m operand))
   value_fits (of_selection {condition = condition} {accepted = accepted} {otherwise = otherwise} {kind = kind} chooser has more) =
       either_fits kind (value_in m condition == 0) (value_in m accepted) (value_in m otherwise) (value_fits has) (value_fits more)
-
   value_fits (of_element {x = x} {size = size} {index = index} {word = word} {mutable = mutable} is has) = element_fits word.kind (m x) (value_in m index) (fits x (array_as word mutable size) is).within
 
   -- and what suits is within the kind that is wanted
