@@ -3,15 +3,14 @@ use Rattle.std.proofs.Common.{◌≡◌, ℕ, zero, suc, ◌+◌, ◌-◌, ◌^�
 use Rattle.std.proofs.lemmas.List.{length-set, length-replicate, length-map}
 use Rattle.std.proofs.lemmas.List.Elements.{All-nil, All-cons, All-set, All-replicate}
 use Rattle.std.proofs.lemmas.Option.{none-some, same_Some}
-use Rattle.arguments.specs.Within.{AreWithin, IsWithin, HasShape, greatest_of, words_of}
+use Rattle.arguments.specs.Within.{AreWithin, IsWithin, greatest_of, words_of}
 use Rattle.inline.specs.declared.flat.FlatVariable.{FlatVariable}
 use Rattle.inline.specs.Fitting.{IsWithinKind, IsHeld, Fits}
 use Rattle.inline.specs.Flat.{TermTree, FlatTree, declare, array, assign, put, branch, loop, FlatBlock, nothing, first, FlatProgram, word_as, array_as, declaration_of}
 use Rattle.inline.specs.FlatMeaning.{Values, with_value, value_in, elements, turns, after, after_all, given, end_of}
-use Rattle.inline.specs.FlatTyping.{Types, with_type, types_of, AllSuit, HasCount, IsTyped, AreTyped, IsTypedProgram, IsResult, counter_type, types_after, types_after_all, parameter_types, end_types}
+use Rattle.inline.specs.FlatTyping.{Types, with_type, AllSuit, HasCount, IsTyped, AreTyped, IsTypedProgram, IsResult, counter_type, types_after, types_after_all, parameter_types, end_types}
 use Rattle.language.specs.declared.signature.Kind.{Kind}
 use Rattle.language.specs.declared.signature.Kind.TheVariants.{Boolean, Uint8, Uint16, Uint32}
-use Rattle.language.specs.declared.signature.Form.{Form}
 use Rattle.language.specs.declared.signature.Label.{Label}
 use Rattle.language.specs.declared.signature.Label.TheVariants.{Public}
 use Rattle.language.specs.declared.signature.Param.{Param}
@@ -25,17 +24,17 @@ use Rattle.inline.proofs.TypesKept.{types_kept, new_number}
 
 -- Values.
 
-one_held : (word : WordType) (mutable : Bool) (v : ℕ) → IsWithinKind word.kind v → IsHeld (word_as word mutable) (v ∷ [])
+pub one_held : (word : WordType) (mutable : Bool) (v : ℕ) → IsWithinKind word.kind v → IsHeld (word_as word mutable) (v ∷ [])
 one_held word mutable v below = record { count = refl; within = All-cons (IsWithinKind word.kind) v [] below (All-nil (IsWithinKind word.kind)) }
 
-fits_declared : (types : Types) (m : Values) (y : ℕ) (v : List ℕ) (own : FlatVariable) → IsHeld own v → Fits types m → Fits (with_type types y own) (with_value m y v)
+pub fits_declared : (types : Types) (m : Values) (y : ℕ) (v : List ℕ) (own : FlatVariable) → IsHeld own v → Fits types m → Fits (with_type types y own) (with_value m y v)
 fits_declared types m y v own here fits x d is = by_number (x == y) is
   where
     by_number : (b : Bool) → (if b then Some own else types x) ≡ Some d → IsHeld d (if b then v else m x)
     by_number true is = subst (λ (t : FlatVariable). IsHeld t v) (same_Some own d is) here
     by_number false is = fits x d is
 
-fits_assigned : (types : Types) (m : Values) (y : ℕ) (v : List ℕ) (own : FlatVariable) → types y ≡ Some own → IsHeld own v → Fits types m → Fits types (with_value m y v)
+pub fits_assigned : (types : Types) (m : Values) (y : ℕ) (v : List ℕ) (own : FlatVariable) → types y ≡ Some own → IsHeld own v → Fits types m → Fits types (with_value m y v)
 fits_assigned types m y v own there here fits x d is = by_number (x == y) refl
   where
     by_number : (b : Bool) → (x == y) ≡ b → IsHeld d (if b then v else m x)
@@ -96,8 +95,8 @@ module _ (all : List FlatVariable) where
         let turn = λ (i : ℕ) (t : Values). after_all (with_value t y (i ∷ [])) body in
         fits_turns types turn b
         (λ i t less held x d is.
-            fits_after_all body inside control typed.3 (with_value t y (i ∷ [])) (fits_declared types t y (i ∷ []) own (one_held counter_type false i (omega (arith, less, most))) held) x d
-            (types_kept all inside control body typed.3 x d (with_type-other types y x own (new_number types y x d typed.2.new is) ∙ is)))
+        fits_after_all body inside control typed.3 (with_value t y (i ∷ [])) (fits_declared types t y (i ∷ []) own (one_held counter_type false i (omega (arith, less, most))) held) x d
+        (types_kept all inside control body typed.3 x d (with_type-other types y x own (new_number types y x d typed.2.new is) ∙ is)))
         (b - a) a m refl fits
 
     pub fits_after_all : (b : FlatBlock) (types : Types) (control : Label) → AreTyped all types control b → (m : Values) → Fits types m → Fits (types_after_all types b) (after_all m b)

@@ -1,33 +1,31 @@
 -- A well-typed statement comes to the same once its names are numbers.
-use Rattle.std.proofs.Common.{◌≡◌, ℕ, zero, suc, ◌+◌, ◌-◌, ◌<◌, ◌≤◌, ◌==◌, Bool, true, false, not, if◌then◌else◌, nat_lt, List, [], ◌∷◌, ◌++◌, length, map, replicate, Option, Some, None, slice_index, slice_set, refl, sym, ap, ap₂, ◌∙◌, subst, arith}
+use Rattle.std.proofs.Common.{◌≡◌, ℕ, zero, suc, ◌+◌, ◌-◌, ◌<◌, ◌==◌, Bool, true, false, not, if◌then◌else◌, List, [], ◌∷◌, length, map, replicate, Option, Some, None, slice_index, slice_set, refl, sym, ap, ap₂, ◌∙◌, subst, arith}
 use Rattle.std.proofs.lemmas.List.{length-set, length-replicate, length-map}
 use Rattle.word.specs.declared.place.Place.{Place}
-use Rattle.inline.specs.declared.flat.FlatVariable.{FlatVariable}
 use Rattle.inline.specs.declared.numbering.Numbered.{Numbered}
 use Rattle.inline.specs.Flat.{word_as, array_as, numbers_in, TermTree}
 use Rattle.inline.specs.FlatMeaning.{Values, value_in, path_in, path_in_all, elements, after, after_all, path_at, path_along, path_of_turns, ending_by}
 use Rattle.inline.specs.FlatMeaning as flat
-use Rattle.inline.specs.FlatTyping.{Types, with_type, types_after, types_after_all, counter_type}
+use Rattle.inline.specs.FlatTyping.{Types, with_type, types_after, counter_type}
 use Rattle.inline.specs.Numbering as numbering
 use Rattle.inline.specs.Numbering.{Numbers, number_of, size_of, term, block, naming, names_after, names_after_all, numbers_taken, numbers_taken_all}
 use Rattle.inline.specs.Path.{Path, indexed, bounded, fault_at, either, first_fault}
 use Rattle.inline.specs.WithoutCalls.{CallsNothing, CallNothing}
-use Rattle.names.specs.Scope.{found}
 use Rattle.language.specs.declared.signature.Kind.{Kind}
-use Rattle.language.specs.declared.signature.Kind.TheVariants.{Boolean, Uint32}
+use Rattle.language.specs.declared.signature.Kind.TheVariants.{Uint32}
 use Rattle.language.specs.declared.signature.Label.{Label}
 use Rattle.language.specs.declared.typing.WordType.{WordType}
 use Rattle.language.specs.Grammatical.{AreAllSmall, IsPlain, ArePlain}
-use Rattle.language.specs.Meaning.{Ending, Evaluates, EvaluatesAll, by_operands, operand_faults, none_left, one_more, this_faults, gives, faults, element_held, made_array, counting, with_some, with_element, Rights, of_expr, expr_faults, Runs, RunsAll, Turns, no_turn, turn_faults, a_turn, declares, declaration_faults, declares_array, first_value_faults, assigns, assignment_faults, target_faults, right_faults, assigns_element, condition_faults, accepts, declines, bounds_fault, loops, ends, stops, goes_on}
+use Rattle.language.specs.Meaning.{Evaluates, EvaluatesAll, by_operands, operand_faults, none_left, one_more, this_faults, gives, faults, element_held, made_array, counting, with_some, with_element, of_expr, expr_faults, Runs, RunsAll, Turns, no_turn, turn_faults, a_turn, declares, declaration_faults, declares_array, first_value_faults, assigns, assignment_faults, target_faults, right_faults, assigns_element, condition_faults, accepts, declines, bounds_fault, loops, ends, stops, goes_on}
 use Rattle.language.specs.State.{State, Value, single, with_value}
 use Rattle.language.specs.State as state
-use Rattle.language.specs.Tree.{ExprTree, element, computed, StatementTree, conditional, loop, element_assignment, BlockTree, nothing, first, ProcedureTree, written}
+use Rattle.language.specs.Tree.{ExprTree, element, computed, StatementTree, conditional, loop, BlockTree, first, ProcedureTree, written}
 use Rattle.language.specs.Types.{Scope}
 use Rattle.language.specs.WellTyped as rules
 use Rattle.language.specs.WellTyped.{labelled}
 use Rattle.inline.proofs.Comes.{Comes, well, fails, then_comes, also, either-none, across, across₃}
 use Rattle.inline.proofs.FlatTypes.{linked_after, small_values}
-use Rattle.inline.proofs.Linked.{Linked, KnownAs, entry, later, linked_declared, known_word, known_array}
+use Rattle.inline.proofs.Linked.{Linked, entry, later, linked_declared, known_word, known_array}
 use Rattle.inline.proofs.Lookup.{found-kept}
 use Rattle.inline.proofs.States.{shows_declared, shows_changed, shows_before}
 use Rattle.inline.proofs.Terms.{Holds, Shows, word_at, element_found, means, no_values, more_values}
@@ -124,7 +122,6 @@ module _ (ps : List ProcedureTree) where
         subst (Comes (EvaluatesAll s (e ∷ es)) (λ vs. vs ≡ _)) (sym (across (path_in m (term names e)) (path_in_all m (map (term names) es))))
         (more_values s ((means scope names types n linked has small.0).value s m shows) (values_come all small.1))
 
-
   mutual
     pub same_end : {scope : Scope} {control : Label} {statement : StatementTree} → rules.IsWellTyped ps scope control statement → (names : Numbers) (types : Types) (n : ℕ) → Linked scope names types n
         → CallsNothing statement → IsPlain statement → (s : State) (m : Values) → Shows names s m → SameEnd names n statement s m
@@ -147,10 +144,10 @@ module _ (ps : List ProcedureTree) where
           with_value s text (made_array kind size vs),
           declares_array ps s place label mutable kind size text values vs is,
           shows_declared scope names types n linked s m shows text own (made_array kind size vs) (elements m size terms)
-          (record {
-            is = ap (λ us. Some (made_array kind size us)) same ∙ (ap Some (made_filled kind size (map (value_in m) terms)) ∙ ap (λ us. Some (state.array kind us)) (sym (elements_filled m size terms)));
-            count = filled_count m names count;
-          }) new,
+              (record {
+                is = ap (λ us. Some (made_array kind size us)) same ∙ (ap Some (made_filled kind size (map (value_in m) terms)) ∙ ap (λ us. Some (state.array kind us)) (sym (elements_filled m size terms)));
+                count = filled_count m names count;
+              }) new,
         ))
         (λ at is. first_value_faults ps s place at label mutable kind size text values is)
     same_end (rules.assigns {scope = scope} {place = place} {target = target} {text = text} is (rules.of_value {e = value} has) (rules.suits {kind = kind} {wanted = label} suits) flow) names types n linked calm plain s m shows =
@@ -162,7 +159,7 @@ module _ (ps : List ProcedureTree) where
           with_value s text (single w),
           assigns ps s place target text (computed value) (record { word = Some w; state = s }) (of_expr ps s value w is),
           shows_changed scope names types n linked s m shows text (word_as own true) (single w) (v ∷ []) (holds_word own true w v same) (number_of names text)
-          (x.found ∙ ap (λ (y : Numbered). Some (entry y.number (word_as own true))) (sym x.here)),
+              (x.found ∙ ap (λ (y : Numbered). Some (entry y.number (word_as own true))) (sym x.here)),
         ))
         (λ at is. assignment_faults ps s place target at text (computed value) (expr_faults ps s value at is))
     same_end (rules.assigns is (rules.of_call earlier) suit flow) names types n linked calm plain s m shows = absurd calm
@@ -180,18 +177,18 @@ module _ (ps : List ProcedureTree) where
         subst (Comes (Runs ps s _) (λ t. Shows names t (flat.with_value m y (slice_set (m y) i v)))) (sym (across p (indexed bracket (size_of names text) i ∷ q)))
         (then_comes ((means scope names types n linked has plain.0).value s m shows)
         (λ u is same.
-            then_comes (element_asked s bracket target text index own.element.kind (m y) (size_of names text) i holds.is count u is (ap (λ (w : state.Word). w.value) same))
-            (λ old there _.
-                also ((means scope names types n linked given plain.1).value s m shows)
-                (λ w are alike. (
-                  with_some s text (with_element (s text) u.value w),
-                  assigns_element ps s place bracket target text index (computed value) old u (record { word = Some w; state = s }) there is (of_expr ps s value w are),
-                  subst (λ t. Shows names t (flat.with_value m y (slice_set (m y) i v)))
-                  (sym (with_another s text own.element.kind (m y) u.value w holds.is ∙ ap₂ (λ j (z : state.Word). with_value s text (state.array own.element.kind (slice_set (m y) j z.value))) (ap (λ (z : state.Word). z.value) same) alike))
-                  (shows_changed scope names types n linked s m shows text d (state.array own.element.kind (slice_set (m y) i v)) (slice_set (m y) i v) (record { is = refl; count = length-set (m y) i v ∙ holds.count }) y known),
-                ))
-                (λ at are. right_faults ps s place bracket target at text index (computed value) old there (expr_faults ps s value at are)))
-            (λ at there. target_faults ps s place bracket target at text index (computed value) there))
+        then_comes (element_asked s bracket target text index own.element.kind (m y) (size_of names text) i holds.is count u is (ap (λ (w : state.Word). w.value) same))
+        (λ old there _.
+        also ((means scope names types n linked given plain.1).value s m shows)
+        (λ w are alike. (
+          with_some s text (with_element (s text) u.value w),
+          assigns_element ps s place bracket target text index (computed value) old u (record { word = Some w; state = s }) there is (of_expr ps s value w are),
+          subst (λ t. Shows names t (flat.with_value m y (slice_set (m y) i v)))
+              (sym (with_another s text own.element.kind (m y) u.value w holds.is ∙ ap₂ (λ j (z : state.Word). with_value s text (state.array own.element.kind (slice_set (m y) j z.value))) (ap (λ (z : state.Word). z.value) same) alike))
+              (shows_changed scope names types n linked s m shows text d (state.array own.element.kind (slice_set (m y) i v)) (slice_set (m y) i v) (record { is = refl; count = length-set (m y) i v ∙ holds.count }) y known),
+        ))
+        (λ at are. right_faults ps s place bracket target at text index (computed value) old there (expr_faults ps s value at are)))
+        (λ at there. target_faults ps s place bracket target at text index (computed value) there))
         (λ at is. target_faults ps s place bracket target at text index (computed value) (operand_faults (element bracket target text index) at (this_faults index [] at is))))
     same_end (rules.assigns_element is has (rules.of_call earlier) suit flow) names types n linked calm plain s m shows = absurd calm
     same_end (rules.calls is) names types n linked calm plain s m shows = absurd calm
@@ -220,9 +217,9 @@ module _ (ps : List ProcedureTree) where
         let p = path_in m (term names low) in
         let q = path_in m (term names high) in
         let step = λ (i : ℕ) (s : State) (m : Values) (shows : Shows names s m).
-            also (same_ends inner inside (with_type types n own) (n + 1) (linked_declared scope names types n linked text own new) calm plain.2 (counting s text i) (flat.with_value m n (i ∷ []))
-            (shows_declared scope names types n linked s m shows text own (single (word_at Uint32 i)) (i ∷ []) (holds_word counter_type false (word_at Uint32 i) i refl) new))
-            (λ t is good. (t, is, (λ other x is. shows_before body inside (n + 1) t (turn i m) good other x (found-kept names text (entry n own) other x is)))) (λ at is. is) in
+        also (same_ends inner inside (with_type types n own) (n + 1) (linked_declared scope names types n linked text own new) calm plain.2 (counting s text i) (flat.with_value m n (i ∷ []))
+        (shows_declared scope names types n linked s m shows text own (single (word_at Uint32 i)) (i ∷ []) (holds_word counter_type false (word_at Uint32 i) i refl) new))
+        (λ t is good. (t, is, (λ other x is. shows_before body inside (n + 1) t (turn i m) good other x (found-kept names text (entry n own) other x is)))) (λ at is. is) in
         subst (Comes (Runs ps s (loop place counter text low high body)) (λ t. Shows names t (flat.turns (b - a) a turn m)))
         (ap (λ f. either f (first_fault (path_of_turns (b - a) a turn path m))) (ap (either (first_fault p)) (either-none (first_fault q))) ∙ sym (across₃ p q (bounded n a b ∷ path_of_turns (b - a) a turn path m)))
         (then_comes (more_values s ((means scope names types n linked one plain.0).value s m shows) (more_values s ((means scope names types n linked other plain.1).value s m shows) (no_values s)))
@@ -247,5 +244,5 @@ module _ (ps : List ProcedureTree) where
         (sym (across (path_at m tree) (path_along (after m tree) (block later_names k rest))))
         (then_comes (same_end here names types n linked calm.0 plain.0 s m shows)
         (λ t is good. also (same_ends there later_names (types_after types tree) k next calm.1 plain.1 t (after m tree) good)
-            (λ u are shows. (u, goes_on ps s t statement rest (gives u) is are, shows)) (λ at are. goes_on ps s t statement rest (faults at) is are))
+        (λ u are shows. (u, goes_on ps s t statement rest (gives u) is are, shows)) (λ at are. goes_on ps s t statement rest (faults at) is are))
         (λ at is. stops ps s statement rest at is))

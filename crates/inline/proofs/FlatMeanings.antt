@@ -1,9 +1,9 @@
 -- A program that violates no rule comes to what the flat program comes to.
-use Rattle.std.proofs.Common.{◌≡◌, ℕ, ◌+◌, List, [], ◌∷◌, ◌++◌, length, map, Option, None, Some, refl, sym, ap, ap₂, ◌∙◌, subst}
+use Rattle.std.proofs.Common.{◌≡◌, ℕ, ◌+◌, List, [], ◌∷◌, ◌++◌, length, map, Option, None, Some, refl, sym, ap, ap₂, subst}
 use Rattle.std.specs.Option.{option_map}
 use Rattle.word.specs.declared.place.Place.{Place}
 use Rattle.arguments.specs.Within.{AreWithin}
-use Rattle.inline.specs.FlatMeaning.{Values, given, value_in, path_in, path_along, path_of_result, after_all, results_of, outcome_of, ending_by, ending_of}
+use Rattle.inline.specs.FlatMeaning.{Values, given, value_in, path_along, path_of_result, after_all, outcome_of, ending_by, ending_of}
 use Rattle.inline.specs.FlatTyping.{Types, parameter_types, types_after_all}
 use Rattle.inline.specs.Numbering.{Numbers, param_of, parameter_names, return_names, flattened, block, term, declared_in_all, numbers_taken_all}
 use Rattle.inline.specs.Path.{first_fault}
@@ -11,7 +11,7 @@ use Rattle.inline.specs.WithoutCalls.{IsWithoutCalls}
 use Rattle.language.specs.declared.typing.WordType.{WordType}
 use Rattle.language.specs.declared.values.Arg.{Arg}
 use Rattle.language.specs.Grammatical.{IsGrammatical, IsSmallReturn}
-use Rattle.language.specs.Meaning.{Bodies, statements_fault, returns, returns_nothing, return_faults, Gives, ends_well, meets_fault, RunsAll, exported, final_arrays, gives, faults, holding, Returned}
+use Rattle.language.specs.Meaning.{Bodies, statements_fault, returns, returns_nothing, return_faults, Gives, ends_well, meets_fault, RunsAll, exported, final_arrays, gives, holding, Returned}
 use Rattle.language.specs.Results.{Results}
 use Rattle.language.specs.State.{State, Word}
 use Rattle.names.specs.Scope.{found}
@@ -22,7 +22,7 @@ use Rattle.language.specs.Typing.{body_scope, scope_after_all, violations, with_
 use Rattle.language.specs.WellTyped as rules
 use Rattle.inline.proofs.Comes.{Comes, well, fails, then_comes, also, across}
 use Rattle.inline.proofs.FlatEnds.{same_ends}
-use Rattle.inline.proofs.FlatPrograms.{own_typing, linked_body, linked_return, Exported, no_variables}
+use Rattle.inline.proofs.FlatPrograms.{own_typing, linked_body, linked_return, no_variables}
 use Rattle.inline.proofs.Linked.{Linked}
 use Rattle.inline.proofs.Parameters.{Named, shows_arguments, arrays_same, all_own, where_begun}
 use Rattle.inline.proofs.States.{kept_numbers}
@@ -75,7 +75,7 @@ flat_keeps_meaning program before p args h is calm plain within =
     (subst (Comes (Bodies before p start) (λ r. _ ≡ outcome_of (flattened p) args)) (sym (across (path_along from body) (path_of_result m value)))
     (then_comes end
     (λ t run good.
-        also (result_comes before p start t (scope_after_all scope p.body) names (types_after_all types body) (n + numbers_taken_all p.body) m (linked_return before p e calm) good run e.typed.returns refl plain.returned)
-        (λ r bodies agrees. (r, bodies, ap₂ (λ o arrays. record { returned = o; arrays = arrays }) agrees.word (arrays_same p.parameters names 0 r.state m named agrees.shows)))
-        (λ at bodies. bodies))
+    also (result_comes before p start t (scope_after_all scope p.body) names (types_after_all types body) (n + numbers_taken_all p.body) m (linked_return before p e calm) good run e.typed.returns refl plain.returned)
+    (λ r bodies agrees. (r, bodies, ap₂ (λ o arrays. record { returned = o; arrays = arrays }) agrees.word (arrays_same p.parameters names 0 r.state m named agrees.shows)))
+    (λ at bodies. bodies))
     (λ at run. statements_fault before p start at run)))

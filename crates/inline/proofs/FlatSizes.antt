@@ -5,7 +5,7 @@ use Rattle.std.proofs.lemmas.List.{length-map}
 use Rattle.std.specs.List.{AllByRecursion}
 use Rattle.std.specs.Option.{option_map}
 use Rattle.inline.specs.declared.flat.FlatVariable.{FlatVariable}
-use Rattle.inline.specs.Flat.{elements_by, declaration_of, word_as}
+use Rattle.inline.specs.Flat.{elements_by, word_as}
 use Rattle.inline.specs.FlatSize as flat
 use Rattle.inline.specs.FlatSize.{term_nodes, terms_nodes, tree_nodes, body_nodes, value_nodes, words_by, words_of, declared_words, IsSized}
 use Rattle.inline.specs.FlatTyping.{counter_type}
@@ -114,6 +114,10 @@ mutual
   block_takes nothing = refl
   block_takes (first s rest) = omega (arith, words-append (declared_in s) (declared_in_all rest), statement_takes s, block_takes rest)
 
+-- all variables of a procedure
+pub flat_takes : (p : ProcedureTree) → declared_words (flattened p).declared ≡ parameter_words p.parameters + block_words p.body
+flat_takes p = omega (arith, words-append (all_own p.parameters) (declared_in_all p.body), parameters_take p.parameters, block_takes p.body)
+
 -- Parameters.
 
 has_length : (form : Form) (length : ℕ) → HasLength form length → flat.HasLength form length
@@ -130,7 +134,7 @@ flat_is_sized p calm grammatical small =
     let few = limits p small in
     record {
       lengths = have_lengths p.parameters grammatical.parameters;
-      declared = omega (arith, words-append (all_own p.parameters) (declared_in_all p.body), parameters_take p.parameters, block_takes p.body, few.1);
+      declared = omega (arith, flat_takes p, few.1);
       counted = omega (arith, same_body (parameter_names p) (length p.parameters) p.body calm, same_result (return_names p) p.returned);
       nodes = few.0;
     }

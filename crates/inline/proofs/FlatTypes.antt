@@ -6,13 +6,13 @@ use Rattle.inline.specs.declared.numbering.Numbered.{Numbered}
 use Rattle.inline.specs.Flat.{word_as, array_as, numbers_in}
 use Rattle.inline.specs.FlatTyping.{Types, IsTyped, AreTyped, types_after, types_after_all, with_type, counter_type}
 use Rattle.inline.specs.FlatTyping as flat
-use Rattle.inline.specs.Numbering.{Numbers, statement, block, names_after, names_after_all, naming, declared_in, declared_in_all, numbers_taken, numbers_taken_all, term, label_in}
+use Rattle.inline.specs.Numbering.{Numbers, statement, block, names_after, names_after_all, naming, declared_in, declared_in_all, numbers_taken, numbers_taken_all, term}
 use Rattle.inline.specs.WithoutCalls.{CallsNothing, CallNothing}
 use Rattle.language.specs.declared.signature.Kind.TheVariants.{Boolean}
 use Rattle.language.specs.declared.signature.Label.{Label}
 use Rattle.language.specs.declared.signature.Label.TheVariants.{Secret}
 use Rattle.language.specs.declared.typing.WordType.{WordType}
-use Rattle.language.specs.Grammatical.{AreSmall, AreAllSmall, AreSmallValues, IsPlain, ArePlain}
+use Rattle.language.specs.Grammatical.{AreAllSmall, AreSmallValues, IsPlain, ArePlain}
 use Rattle.language.specs.Tree.{ExprTree, StatementTree, BlockTree, ProcedureTree, written}
 use Rattle.language.specs.Types.{Scope, joined}
 use Rattle.language.specs.Typing.{scope_after, scope_after_all}

@@ -13,3 +13,6 @@ pub mod TypesKept
 pub mod Fitting
 pub mod FittingBodies
 pub mod FlatSizes
+mod SizeLemmas
+mod RowLemmas
+mod NumberingLemmas

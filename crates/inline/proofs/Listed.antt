@@ -2,7 +2,6 @@
 use Rattle.std.proofs.Common.{◌≡◌, ℕ, zero, suc, ◌+◌, false, List, [], ◌∷◌, ◌++◌, length, Some, refl, ap, ◌∙◌, sym, subst, arith, slice_get, length-append}
 use Rattle.std.proofs.lemmas.Option.{none-some}
 use Rattle.inline.specs.declared.flat.FlatVariable.{FlatVariable}
-use Rattle.inline.specs.Flat.{FlatTree, FlatBlock}
 use Rattle.inline.specs.FlatTyping.{declarations_in, declarations_in_all, IsNumbered, AreNumbered}
 use Rattle.inline.specs.Numbering.{Numbers, declared_in, declared_in_all, numbers_taken, numbers_taken_all, names_after, naming, statement, block}
 use Rattle.inline.specs.Flat.{word_as}

@@ -3,7 +3,7 @@ use Rattle.std.proofs.Common.{◌≡◌, ◌≢◌, ℕ, zero, suc, ◌+◌, ◌
 use Rattle.std.proofs.lemmas.Option.{none-some, same_Some}
 use Rattle.std.specs.Str.{bytes_eq}
 use lib.Pointwise.{bytes_decides}
-use Rattle.arguments.specs.Within.{AreWithin, IsWithin, HasShape, words_of}
+use Rattle.arguments.specs.Within.{AreWithin, HasShape, words_of}
 use Rattle.inline.specs.declared.flat.FlatVariable.{FlatVariable}
 use Rattle.inline.specs.declared.numbering.Numbered.{Numbered}
 use Rattle.inline.specs.Flat.{declaration_of, elements_by, numbers_in}
@@ -15,10 +15,8 @@ use Rattle.names.specs.Scope.{found, declared}
 use Rattle.language.specs.declared.signature.Form.{Form}
 use Rattle.language.specs.declared.signature.Form.TheVariants.{SingleWord, FixedArray, MutableArray}
 use Rattle.language.specs.declared.signature.Kind.{Kind}
-use Rattle.language.specs.declared.typing.Declared.{Declared}
 use Rattle.language.specs.declared.typing.Declared.TheVariants.{Variable}
 use Rattle.language.specs.declared.typing.VariableType.{VariableType}
-use Rattle.language.specs.declared.typing.WordType.{WordType}
 use Rattle.language.specs.declared.values.Arg.{Arg}
 use Rattle.language.specs.declared.values.Arg.TheVariants.{Word, Array}
 use Rattle.language.specs.Meaning.{holding, argument_value, final_array, final_arrays}
@@ -26,7 +24,7 @@ use Rattle.language.specs.State.{State, Value}
 use Rattle.language.specs.Tree.{ParameterTree}
 use Rattle.language.specs.Types.{Scope}
 use Rattle.language.specs.Typing.{with_parameters, parameter_as, parameter_value, is_mutable}
-use Rattle.language.specs.WellTyped.{AreNew, no_parameter, one_is_new}
+use Rattle.language.specs.WellTyped.{AreNew, one_is_new}
 use Rattle.inline.proofs.Lookup.{found-new, found-other, found-kept}
 use Rattle.inline.proofs.Linked.{Linked, entry, value_as, variable_as, linked_declared, with_type-same, with_type-other}
 use Rattle.inline.proofs.Terms.{held, Holds, Shows}

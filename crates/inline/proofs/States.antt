@@ -1,5 +1,5 @@
 -- States of the source beside the values of numbered variables, as declarations and assignments change both.
-use Rattle.std.proofs.Common.{◌≡◌, ℕ, ◌+◌, ◌==◌, Bool, true, false, if◌then◌else◌, List, length, Option, Some, None, refl, sym, ap, ◌∙◌, subst, arith, true≢false, ne_eqb, eq-eqb}
+use Rattle.std.proofs.Common.{◌≡◌, ℕ, ◌+◌, Bool, true, false, if◌then◌else◌, List, Option, Some, None, refl, sym, ap, ◌∙◌, subst, arith, true≢false, ne_eqb, eq-eqb}
 use Rattle.std.proofs.lemmas.Option.{same_Some}
 use Rattle.std.specs.Str.{bytes_eq}
 use lib.Pointwise.{bytes_decides}
@@ -8,7 +8,7 @@ use Rattle.inline.specs.declared.numbering.Numbered.{Numbered}
 use Rattle.inline.specs.Flat.{word_as, array_as}
 use Rattle.inline.specs.FlatMeaning.{Values}
 use Rattle.inline.specs.FlatMeaning as flat
-use Rattle.inline.specs.FlatTyping.{Types, counter_type}
+use Rattle.inline.specs.FlatTyping.{Types}
 use Rattle.inline.specs.Numbering.{Numbers, naming, names_after, names_after_all, numbers_taken}
 use Rattle.names.specs.Scope.{found}
 use Rattle.language.specs.State.{State, Value, with_value}

@@ -1,14 +1,13 @@
 -- A well-typed expression keeps its type, and comes to the same, once its names are numbers.
-use Rattle.std.proofs.Common.{◌≡◌, ℕ, ◌==◌, ◌&&◌, ◌<◌, Bool, true, false, not, if◌then◌else◌, nat_lt, List, [], ◌∷◌, ◌++◌, length, Option, Some, None, slice_index, refl, sym, ap, ap₂, ◌∙◌, subst}
+use Rattle.std.proofs.Common.{◌≡◌, ℕ, ◌==◌, ◌&&◌, Bool, true, false, not, if◌then◌else◌, nat_lt, List, [], ◌∷◌, length, Option, Some, None, slice_index, refl, sym, ap, ap₂, ◌∙◌, subst}
 use Rattle.word.specs.declared.place.Place.{Place}
 use Rattle.word.specs.Operators.{rotated_left}
 use Rattle.inline.specs.declared.flat.FlatVariable.{FlatVariable}
 use Rattle.inline.specs.declared.numbering.Numbered.{Numbered}
-use Rattle.inline.specs.Flat.{word_as, array_as, numbers_in}
+use Rattle.inline.specs.Flat.{array_as, numbers_in}
 use Rattle.inline.specs.FlatMeaning.{Values, value_in, path_in, division, ending_by}
 use Rattle.inline.specs.FlatTyping as flat
 use Rattle.inline.specs.FlatTyping.{Types, HasType, Suits}
-use Rattle.inline.specs.Numbering as numbering
 use Rattle.inline.specs.Numbering.{Numbers, number_of, size_of, kind_in, label_in, term}
 use Rattle.inline.specs.Path.{indexed, divided, either, first_fault}
 use Rattle.names.specs.Scope.{found}
@@ -16,13 +15,12 @@ use Rattle.language.specs.declared.signature.Kind.{Kind}
 use Rattle.language.specs.declared.signature.Kind.TheVariants.{Boolean, Uint32}
 use Rattle.language.specs.declared.signature.Label.{Label}
 use Rattle.language.specs.declared.signature.Label.TheVariants.{Public}
-use Rattle.language.specs.declared.tree.BinaryOperator.{BinaryOperator}
 use Rattle.language.specs.declared.typing.Operation.{Operation}
 use Rattle.language.specs.declared.typing.ValueType.TheVariants.{Word}
 use Rattle.language.specs.declared.typing.WordType.{WordType}
 use Rattle.language.specs.ExprTyping.{operation_of, operation_kind}
 use Rattle.language.specs.Grammatical.{AreSmall}
-use Rattle.language.specs.Meaning.{Ending, Evaluates, EvaluatesAll, by_operands, operand_faults, none_left, one_more, this_faults, later_faults, gives, faults, word_held, element_held, operands, applied}
+use Rattle.language.specs.Meaning.{Evaluates, EvaluatesAll, by_operands, operand_faults, none_left, one_more, this_faults, later_faults, gives, faults, word_held, element_held, operands, applied}
 use Rattle.language.specs.Operators.{divides, operated, prefix_value, width_of, binary_word}
 use Rattle.language.specs.State.{State, Value, single, array}
 use Rattle.language.specs.State as state

@@ -1,4 +1,6 @@
-use language::{BinaryOperator, Kind, Label, Place, PrefixOperator, WordType};
+ghost use Rattle.std.specs.Prelude.{◌≡◌};
+
+use language::{BinaryOperator, Form, Kind, Label, Param, Place, PrefixOperator, WordType};
 use word::Width;
 
 /// What a variable is declared as: its type, or that of its elements where it is an array.
@@ -9,6 +11,58 @@ pub struct FlatVariable {
     pub mutable: bool,
     /// How many elements an array has; a word has none.
     pub elements: Option<u32>,
+}
+
+impl FlatVariable {
+    ghost use Rattle.inline.specs.Flat.{array_as, declaration_of, numbers_in, word_as};
+
+    /// A word.
+    pub(crate) fn word(word: WordType, mutable: bool) -> Self
+        ensures { result ≡ word_as word mutable }
+    {
+        FlatVariable {
+            word,
+            mutable,
+            elements: None,
+        }
+    }
+
+    /// An array of so many elements.
+    pub(crate) fn array(word: WordType, mutable: bool, size: u32) -> Self
+        ensures { result ≡ array_as word mutable size }
+    {
+        FlatVariable {
+            word,
+            mutable,
+            elements: Some(size),
+        }
+    }
+
+    /// A parameter: an array may be assigned to where its form says so, a word may not.
+    pub(crate) fn parameter(param: Param) -> Self
+        ensures { result ≡ declaration_of param }
+    {
+        let word = WordType {
+            kind: param.kind,
+            label: param.label,
+        };
+        let size = u32::from(param.length);
+        match param.form {
+            Form::SingleWord => FlatVariable::word(word, false),
+            Form::FixedArray => FlatVariable::array(word, false, size),
+            Form::MutableArray => FlatVariable::array(word, true, size),
+        }
+    }
+
+    /// How many numbers it holds.
+    pub fn numbers(&self) -> u32
+        ensures { result ≡ numbers_in self.now.elements }
+    {
+        match self.elements {
+            Some(size) => size,
+            None => 1,
+        }
+    }
 }
 
 /// An expression over numbered variables. Where the width of an operand decides what a node means, the

@@ -3,8 +3,15 @@
 #![tactic(auto)]
 
 mod flat;
+mod inlining;
+mod laws;
 mod numbering;
 mod program;
+mod sizes;
 
 pub use flat::{FlatStatement, FlatVariable, Term};
+pub use inlining::inline;
+pub use laws::{
+    flat_is_sized, flat_is_typed, flat_keeps_meaning, flat_values_fit, typed_values_fit,
+};
 pub use program::Flat;

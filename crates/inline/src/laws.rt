@@ -1,0 +1,61 @@
+// The laws, which hold of the definitions alone.
+
+ghost use Rattle.std.specs.Prelude.{◌≡◌, [], List, Some, length, map};
+ghost use Rattle.arguments.specs.Within.{AreWithin};
+ghost use Rattle.inline.specs.declared.flat.FlatVariable.{FlatVariable};
+ghost use Rattle.inline.specs.Fitting.{Fits, IsWithinKind};
+ghost use Rattle.inline.specs.Flat.{FlatBlock, FlatProgram, FlatTree, TermTree};
+ghost use Rattle.inline.specs.FlatMeaning.{Values, after, after_all, end_of, ending_of, given, value_in};
+ghost use Rattle.inline.specs.FlatSize.{IsSized};
+ghost use Rattle.inline.specs.FlatTyping.{AreTyped, HasType, IsTyped, IsTypedProgram, Suits, Types, end_types, parameter_types, types_after, types_after_all};
+ghost use Rattle.inline.specs.Numbering.{flattened, param_of};
+ghost use Rattle.inline.specs.WithoutCalls.{IsWithoutCalls};
+ghost use Rattle.language.specs.declared.signature.Label.{Label};
+ghost use Rattle.language.specs.declared.typing.WordType.{WordType};
+ghost use Rattle.language.specs.declared.values.Arg.{Arg};
+ghost use Rattle.language.specs.Grammatical.{IsGrammatical};
+ghost use Rattle.language.specs.Meaning.{Gives, exported};
+ghost use Rattle.language.specs.Size.{size_violations};
+ghost use Rattle.language.specs.Tree.{ProcedureTree, ProgramTree};
+ghost use Rattle.language.specs.Typing.{violations};
+
+/// The export of a program that violates no rule is well typed once its names are numbers.
+pub fn flat_is_typed()
+    ensures { (program : ProgramTree) (before : List ProcedureTree) (p : ProcedureTree) → length (violations program) ≡ 0
+        → exported [] program.procedures ≡ Some (before, p) → IsWithoutCalls p → IsGrammatical p → IsTypedProgram (flattened p) }
+{}
+
+/// And it keeps the limits on size, where the procedure passes none.
+pub fn flat_is_sized()
+    ensures { (p : ProcedureTree) → IsWithoutCalls p → IsGrammatical p → length (size_violations p) ≡ 0 → IsSized (flattened p) }
+{}
+
+/// The program comes to what it came to: on arguments within the parameter types it has the flat program's
+/// outcome, or meets the first fault on that one's path.
+pub fn flat_keeps_meaning()
+    ensures { (program : ProgramTree) (before : List ProcedureTree) (p : ProcedureTree) (args : List Arg) → length (violations program) ≡ 0
+        → exported [] program.procedures ≡ Some (before, p) → IsWithoutCalls p → IsGrammatical p
+        → AreWithin (map param_of p.parameters) args → Gives program args (ending_of (flattened p) args) }
+{}
+
+/// Where each variable holds what it is declared as, each expression has a value of its own kind, and
+/// each well-typed statement leaves it so, also where it meets a fault.
+pub fn typed_values_fit()
+    ensures value { (types : Types) (m : Values) (e : TermTree) (word : WordType) → Fits types m
+        → HasType types e word → IsWithinKind word.kind (value_in m e) }
+    ensures suited { (types : Types) (m : Values) (e : TermTree) (wanted : WordType) → Fits types m
+        → Suits types wanted e → IsWithinKind wanted.kind (value_in m e) }
+    ensures statement { (declared : List FlatVariable) (types : Types) (control : Label) (s : FlatTree) (m : Values) → IsTyped declared types control s
+        → Fits types m → Fits (types_after types s) (after m s) }
+    ensures body { (declared : List FlatVariable) (types : Types) (control : Label) (b : FlatBlock) (m : Values) → AreTyped declared types control b
+        → Fits types m → Fits (types_after_all types b) (after_all m b) }
+{}
+
+/// So it is throughout a well-typed program, on arguments within its parameter types.
+pub fn flat_values_fit()
+    ensures parameters { (p : FlatProgram) (args : List Arg) → IsTypedProgram p → AreWithin p.parameters args
+        → Fits (parameter_types p.parameters) (given p.declared args) }
+    ensures end { (p : FlatProgram) (args : List Arg) → IsTypedProgram p → AreWithin p.parameters args → Fits (end_types p) (end_of p args) }
+    ensures result { (p : FlatProgram) (args : List Arg) (word : WordType) (value : TermTree) → IsTypedProgram p → AreWithin p.parameters args
+        → p.returned ≡ Some word → p.value ≡ Some value → IsWithinKind word.kind (value_in (end_of p args) value) }
+{}
