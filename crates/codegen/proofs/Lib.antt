@@ -6,6 +6,14 @@ pub mod Pieces
 pub mod Stores
 pub mod Jumps
 pub mod Computing
+pub mod OperatorRuns
+pub mod Operations
 pub mod Masks
 pub mod Places
 pub mod Values
+pub mod TermLengths
+pub mod TermTypes
+pub mod Elements
+pub mod ExpressionRuns
+pub mod Offsets
+pub mod Slots

@@ -77,7 +77,8 @@ impl<'f> Layout<'f> {
 
     /// The result's slot, behind the variables.
     pub fn result(&self) -> u32
-        ensures { result ≡ result_offset self.now.declared }
+        ensures place { result ≡ result_offset self.now.declared }
+        ensures room { temporaries_offset self.now.declared self.now.controls self.now.depths ≤ 65536 }
     {
         self.offsets[self.declared.len()]
     }

@@ -3,4 +3,7 @@
 // instructions, the machine and the image's fields.
 #![tactic(auto)]
 
+mod emit;
+mod expressions;
 mod layout;
+mod operators;
