@@ -70,6 +70,8 @@ module _ (p : StraightProgram) (typed : IsTypedStraight p) (is : IsBounded p) wh
     declared = is.declared;
     nodes = is.nodes;
     work = is.work_fits;
+    worked = is.worked;
+    counted = let h = is.counted in omega (arith, h);
     frame = frame;
     code = code;
   }
