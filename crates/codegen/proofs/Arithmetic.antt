@@ -2,7 +2,7 @@
 use Rattle.std.proofs.Common.{◌≡◌, ℕ, ◌+◌, ◌*◌, ◌^◌, ◌<◌, ◌≤◌, Bool, true, false, nat_lt, refl, ap, ◌∙◌, arith}
 use Rattle.std.proofs.lemmas.Bool.Decides.{nat_tests}
 use Rattle.rv_machine.specs.Effects.{sum_of, sign_extended}
-use Rattle.codegen.specs.Emitted.{upper_part, lower_part}
+use Rattle.codegen.specs.TermCode.{upper_part, lower_part}
 
 -- a field of twelve bits with its sign
 

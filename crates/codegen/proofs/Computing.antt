@@ -1,5 +1,5 @@
 -- Code that only computes: what the registers are after it, and that the machine follows it.
-use Rattle.std.proofs.Common.{◌≡◌, ◌≢◌, ℕ, ◌+◌, ◌*◌, ◌%◌, ◌^◌, ◌<◌, Bool, true, false, ◌&&◌, ◌==◌, cond, nat_lt, List, [], ◌∷◌, refl, sym, ap, ◌∙◌, arith, ne_eqb}
+use Rattle.std.proofs.Common.{◌≡◌, ◌≢◌, ℕ, ◌*◌, ◌^◌, ◌<◌, Bool, true, false, ◌&&◌, ◌||◌, ◌==◌, cond, nat_lt, List, [], ◌∷◌, length, refl, sym, ap, ◌∙◌, arith, ne_eqb}
 use Rattle.std.proofs.lemmas.Bool.{false≢true}
 use Rattle.std.proofs.lemmas.Bool.Decides.{nat_tests}
 use Rattle.std.proofs.Math.Path.{fun_ext}
@@ -9,13 +9,12 @@ use Rattle.rv_code.specs.declared.operations.UpperOperation.TheVariants.{Lui, Au
 use Rattle.rv_code.specs.Words.{IsInstr}
 use Rattle.rv_machine.specs.declared.effects.Effect.TheVariants.{Computes}
 use Rattle.rv_machine.specs.Effects.{effect_of, sign_extended, immediate_value, shift_value, register_value, multiply_value}
-use Rattle.rv_machine.specs.Machine.{State, Code}
+use Rattle.rv_machine.specs.Machine.{State}
 use Rattle.rv_machine.specs.Registers.{register, with_register}
 use Rattle.branch_removal.specs.StraightMeaning.{StraightState}
-use Rattle.codegen.proofs.Held.{Held}
-use Rattle.codegen.proofs.Pieces.{held-regs}
+use Rattle.codegen.proofs.Held.{Held, held_regs}
 use Rattle.codegen.proofs.Steps.{Always, Moves, computing}
-use Rattle.codegen.proofs.Straight.{none, After, Then, Runs, seq, weaken, idle}
+use Rattle.codegen.proofs.Straight.{Setting, none, Runs, seq, weaken, cheaper, idle}
 
 -- the register that an instruction writes, where it only computes
 abbrev pub written_register : Instr → ℕ
@@ -40,9 +39,9 @@ abbrev pub registers_after : List Instr → (ℕ → ℕ) → ℕ → ℕ
 registers_after [] regs = regs
 registers_after (i ∷ is) regs = registers_after is (with_register regs (written_register i) (computed_value i regs))
 
--- x5, x6 and x7, the only ones that are written
+-- x5, x6, x7 and x28, the only ones that are written
 abbrev pub is_working : ℕ → Bool
-is_working rd = nat_lt 4 rd && nat_lt rd 8
+is_working rd = (nat_lt 4 rd && nat_lt rd 8) || (rd == 28)
 
 -- an instruction that only computes, with its fields in range
 abbrev pub computes : Instr → Bool
@@ -61,8 +60,8 @@ only_computes (i ∷ is) = computes i && only_computes is
 working : (rd : ℕ) → is_working rd ≡ true → (rd ≢ 0) × (rd ≢ 2) × (rd < 32)
 working rd h =
     let low : 4 < rd = grind (arith, nat_tests) in
-    let high : rd < 8 = grind (arith, nat_tests) in
-    (λ e. omega (arith, low, e), λ e. omega (arith, low, e), omega (arith, high))
+    let high : rd < 32 = grind (arith, nat_tests) in
+    (λ e. omega (arith, low, e), λ e. omega (arith, low, e), high)
 
 below : (n most : ℕ) → nat_lt n most ≡ true → n < most
 below n most h = grind (arith, nat_tests)
@@ -149,8 +148,8 @@ base_kept (i ∷ is) h regs =
     ∙ unwritten regs (written_register i) (computed_value i regs) (plain i (both_left (computes i) (only_computes is) h)).other
 
 -- the registers are those after the instructions, and nothing else has changed
-pub record Computed (frame size : ℕ) (is : List Instr) (env : StraightState) (s t : State) : Type 0 where
-  pub held : Held frame size env t
+pub record Computed (z : Setting) (is : List Instr) (env : StraightState) (s t : State) : Type 0 where
+  pub held : Held z env t
   pub registers : t.regs ≡ registers_after is s.regs
   pub same : t.bytes ≡ s.bytes
 
@@ -158,37 +157,37 @@ record Follows (is : List Instr) (env : StraightState) (s t : State) : Type 0 wh
   registers : t.regs ≡ registers_after is s.regs
   same : t.bytes ≡ s.bytes
 
-module _ (code : Code) (frame size : ℕ) (even : frame % 4 ≡ 0) (ends : frame + size < 2 ^ 32) where
-  follows : (is : List Instr) → only_computes is ≡ true → Runs code frame size none is Always (Follows is)
+module _ (z : Setting) where
+  follows : (is : List Instr) → only_computes is ≡ true → Runs z (length is) none is Always (Follows is)
   follows [] h =
-      weaken code frame size none [] Always Always (λ env s t. t ≡ s) (Follows [])
-      (λ env s fit. fit)
-      (λ env s t fit still. record { registers = ap (λ (u : State). u.regs) still; same = ap (λ (u : State). u.bytes) still })
-      (idle code frame size Always)
+      weaken z
+      (λ env s fine fit. fit)
+      (λ env s t fine fit still. record { registers = ap (λ (u : State). u.regs) still; same = ap (λ (u : State). u.bytes) still })
+      (idle z)
   follows (i ∷ is) h =
       let one = plain i (both_left (computes i) (only_computes is) h) in
       let rd = written_register i in
-      let Q : After = λ env s t. Moves rd (computed_value i s.regs) s t in
-      weaken code frame size none (i ∷ is) Always Always (Then Q (Follows is)) (Follows (i ∷ is))
-      (λ env s fit. fit)
-      (λ env s t fit done.
+      cheaper z (omega arith)
+      (weaken z {P = Always}
+      (λ env s fine fit. fit)
+      (λ env s t fine fit done.
       let m = done.middle in
       record {
         registers = done.second.registers ∙ ap (registers_after is) (all_registers rd (computed_value i s.regs) s m one.nonzero done.first);
         same = done.second.same ∙ done.first.same;
       })
-      (seq code frame size none none (i ∷ []) is Always Always Q (Follows is)
-      (computing code frame size i rd (computed_value i) one.in_range one.nonzero one.effect)
+      (seq z
+      (computing z i rd (computed_value i) one.in_range one.nonzero one.effect)
       (follows is (both_right (computes i) (only_computes is) h))
-      (λ env s t fit done. tt))
+      (λ env s t fit done. tt)))
 
   -- code that only computes, where the frame is held
-  pub computing_runs : (is : List Instr) → only_computes is ≡ true → Runs code frame size none is (Held frame size) (Computed frame size is)
+  pub computing_runs : (is : List Instr) → only_computes is ≡ true → Runs z (length is) none is (Held z) (Computed z is)
   computing_runs is h =
-      weaken code frame size none is Always (Held frame size) (Follows is) (Computed frame size is)
-      (λ env s held. tt)
-      (λ env s t held done. record {
-        held = held-regs code frame size even ends env s t (ap (λ (regs : ℕ → ℕ). regs 2) done.registers ∙ base_kept is h s.regs) done.same held;
+      weaken z {P = Always}
+      (λ env s fine held. tt)
+      (λ env s t fine held done. record {
+        held = held_regs z s t (ap (λ (regs : ℕ → ℕ). regs 2) done.registers ∙ base_kept is h s.regs) done.same held;
         registers = done.registers;
         same = done.same;
       })

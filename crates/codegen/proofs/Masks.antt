@@ -1,15 +1,10 @@
--- What the choice by a mask and control values compute; the values of expressions are words.
+-- What the choice by a mask and control values compute.
 use Rattle.std.proofs.Common.{◌≡◌, ℕ, Bool, true, false, not, ◌&&◌, zero, suc, ◌+◌, ◌%◌, ◌^◌, ◌<◌, ◌≤◌, ◌==◌, if◌then◌else◌, bit_and, bit_xor, refl, sym, ap, ◌∙◌, arith, ne_eqb}
 use Rattle.std.specs.Int.{bit_at}
 use Rattle.std.specs.Int.Bits.{and_zero_r, xor_zero_r}
 use Rattle.std.proofs.lemmas.Nat.{and_mask, xor_of_32}
 use Rattle.std.proofs.lemmas.Nat.Bits.{bit_at_xor, bit_at-lt, same_from_bits}
 use Rattle.rv_machine.specs.Effects.{sum_of, difference_of}
-use Rattle.language.specs.Operators.{width_of}
-use Rattle.branch_removal.specs.Fitness.{IsFit}
-use Rattle.inline.specs.Flat.{TermTree, number, truth, variable, prefix, binary, rotate, convert, select}
-use Rattle.inline.specs.FlatMeaning.{Values, value_in}
-use Rattle.codegen.proofs.OperatorRuns.{truth_fits, prefix_fits, operated_fits, rotated_fits, converted_fits}
 
 -- the choice of a where c is 1, of b where c is 0
 abbrev pub chosen : ℕ → ℕ → ℕ → ℕ
@@ -83,20 +78,3 @@ all_ones x below =
 pub merge : (b : Bool) (old new : ℕ) → old < 2 ^ 32 → new < 2 ^ 32 → merged (mask_of b) old new ≡ (if b then new else old)
 merge true old new p q = ap (λ x. bit_xor old x) (all_ones (bit_xor new old) (xor_of_32 new old q p)) ∙ xor_back new old
 merge false old new p q = ap (λ x. bit_xor old x) (and_zero_r (bit_xor new old)) ∙ xor_zero_r old
-
--- Values that are words.
-
-picked : (c a b : ℕ) → a < 2 ^ 32 → b < 2 ^ 32 → (if c == 0 then b else a) < 2 ^ 32
-picked zero a b p q = q
-picked (suc c) a b p q = rw (ne_eqb (suc c) 0 (λ z. omega arith)) p
-
--- an expression that is fit has a word for its value
-pub value_fits : (m : Values) (e : TermTree) → IsFit m e → value_in m e < 2 ^ 32
-value_fits m (number value kind) fit = fit
-value_fits m (truth value) fit = truth_fits value
-value_fits m (variable x) fit = fit
-value_fits m (prefix operator width operand) fit = prefix_fits operator width (value_in m operand)
-value_fits m (binary operator width left right) fit = operated_fits operator width (value_in m left) (value_in m right) (value_fits m left fit.1) (value_fits m right fit.2)
-value_fits m (rotate width operand amount) fit = rotated_fits width (value_in m operand) amount
-value_fits m (convert kind operand) fit = converted_fits (width_of kind) (value_in m operand)
-value_fits m (select condition accepted otherwise) fit = picked (value_in m condition) (value_in m accepted) (value_in m otherwise) (value_fits m accepted fit.2) (value_fits m otherwise fit.3)

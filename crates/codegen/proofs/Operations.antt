@@ -10,7 +10,7 @@ use Rattle.rv_code.specs.declared.operations.ImmediateOperation.TheVariants.{Add
 use Rattle.rv_code.specs.declared.operations.ShiftOperation.TheVariants.{Slli, Srli}
 use Rattle.rv_code.specs.declared.operations.RegisterOperation.TheVariants as register
 use Rattle.rv_machine.specs.Effects.{sum_of, sign_extended, register_value, shift_value}
-use Rattle.codegen.specs.Emitted.{upper_part, lower_part, constant_code, cut_code, operator_code, prefix_code, around_code, rotate_code}
+use Rattle.codegen.specs.TermCode.{upper_part, lower_part, constant_code, cut_code, operator_code, prefix_code, around_code, rotate_code}
 use Rattle.language.specs.declared.tree.BinaryOperator.{BinaryOperator}
 use Rattle.language.specs.declared.tree.BinaryOperator.TheVariants.{Either, Both, Equal, Unequal, Less, LessOrEqual, Greater, GreaterOrEqual, BitOr, BitXor, BitAnd, ShiftLeft, ShiftRight, Add, Subtract, Multiply, Divide, Remainder}
 use Rattle.language.specs.declared.tree.PrefixOperator.{PrefixOperator}

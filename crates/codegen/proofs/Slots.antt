@@ -1,66 +1,196 @@
--- What is shown once a slot is written.
-use Rattle.std.proofs.Common.{◌≡◌, ℕ, ◌+◌, ◌*◌, ◌^◌, ◌<◌, ◌≤◌, ◌==◌, Bool, true, false, cond, if◌then◌else◌, nat_lt, Some, refl, sym, ap, ◌∙◌, subst, arith, inl, inr, ◌⊎◌, ne_eqb}
+-- What is shown once a number of a variable, or a control value, is written.
+use Rattle.std.proofs.Common.{◌≡◌, ◌≢◌, ℕ, zero, suc, ◌+◌, ◌-◌, ◌*◌, ◌%◌, ◌^◌, ◌<◌, ◌≤◌, ◌==◌, Bool, true, false, cond, if◌then◌else◌, nat_lt, List, [], ◌∷◌, length, Some, slice_get, slice_index, refl, sym, ap, ◌∙◌, subst, arith, inl, inr, ◌⊎◌, ne_eqb}
+use Rattle.std.specs.Prelude.{slice_set}
 use Rattle.std.proofs.lemmas.Bool.Decides.{nat_tests}
-use Rattle.branch_removal.specs.StraightMeaning.{StraightState, with_variable, with_controls}
-use Rattle.codegen.specs.Layout.{variable_offset, control_offset}
-use Rattle.rv_machine.specs.Bytes.{ByteMap, number_at}
-use Rattle.rv_machine.proofs.ByteLaws.{number_at_apart}
+use Rattle.std.proofs.lemmas.List.{length-set, get_or-set_same, get_or-set_other}
+use Rattle.std.proofs.lemmas.List.Elements.{All-set}
+use Rattle.std.proofs.lemmas.Option.{same_Some}
+use Rattle.branch_removal.specs.StraightMeaning.{StraightState, with_variable, with_element, with_controls}
+use Rattle.codegen.specs.Layout.{variable_offset, result_offset, control_offset, next_offset}
+use Rattle.inline.specs.declared.flat.FlatVariable.{FlatVariable}
+use Rattle.inline.specs.Fitting.{IsWithinKind, IsHeld}
+use Rattle.inline.specs.Flat.{numbers_in, word_as}
+use Rattle.inline.specs.FlatSize.{words_of}
+use Rattle.language.specs.declared.signature.Kind.{Kind}
+use Rattle.language.specs.declared.signature.Kind.TheVariants.{Boolean, Uint8, Uint16, Uint32}
+use Rattle.language.specs.declared.typing.WordType.{WordType}
+use Rattle.language.specs.Types.{bits_of}
+use Rattle.rv_machine.specs.Bytes.{ByteMap, number_at, with_number}
+use Rattle.rv_machine.proofs.ByteLaws.{number_at_apart, number_at_same, number_at-with_number, with_number_below, with_number_above}
 use Rattle.rv_machine.specs.Machine as machine
 use Rattle.codegen.proofs.Computing.{same_number}
+use Rattle.codegen.proofs.Held.{HeldAt}
 use Rattle.codegen.proofs.Masks.{mask_of, mask_fits}
 use Rattle.codegen.proofs.Pieces.{Put}
-use Rattle.codegen.proofs.Values.{Ready, put_there}
+use Rattle.codegen.proofs.Places.{bytes_by, bytes_of, place_of, place_within, ends_before_result, apart_from, elements_apart}
+use Rattle.codegen.proofs.Straight.{Setting, base_of}
+use Rattle.codegen.proofs.Values.{Kept, Ready, put_there}
 
--- two numbers that are not the same, as words apart
-sides : (y x : ℕ) → (y == x) ≡ false → (4 * y + 4 ≤ 4 * x) ⊎ (4 * x + 4 ≤ 4 * y)
-sides y x h = by_order (nat_lt y x) refl
-  where
-    by_order : (b : Bool) → nat_lt y x ≡ b → (4 * y + 4 ≤ 4 * x) ⊎ (4 * x + 4 ≤ 4 * y)
-    by_order true e =
-        let below : y < x = grind (arith, nat_tests) in
-        inl (omega (arith, below))
-    by_order false e =
-        let above : x < y = grind (arith, nat_tests) in
-        inr (omega (arith, above))
+-- a number of so many bytes is written into the frame
+pub record Wrote (z : Setting) (n o w : ℕ) (s t : machine.State) : Type 0 where
+  pub held : HeldAt z t
+  pub written : t.bytes ≡ with_number s.bytes n (z.frame + o) w
 
-apart : (a b c d : ℕ) → (a + 4 ≤ b) ⊎ (b + 4 ≤ a) → c ≡ a → d ≡ b → (frame : ℕ) → (frame + c + 4 ≤ frame + d) ⊎ (frame + d + 4 ≤ frame + c)
-apart a b c d (inl h) e f frame = inl (omega (arith, h, e, f))
-apart a b c d (inr h) e f frame = inr (omega (arith, h, e, f))
+-- the words of the loops that are around are as they were
+abbrev pub Hidden : Setting → ℕ → machine.State → machine.State → Type 0
+Hidden z depth s t = (o : ℕ) → next_offset z.declared z.controls 0 ≤ o → o < next_offset z.declared z.controls depth → t.bytes (z.frame + o) ≡ s.bytes (z.frame + o)
 
-module _ (frame size variables controls : ℕ) where
-  -- another word is as it was
-  other_word : (r o x : ℕ) (env : StraightState) (s t : machine.State) → Put frame size r o env s t → (frame + x + 4 ≤ frame + o) ⊎ (frame + o + 4 ≤ frame + x) → number_at t.bytes 4 (frame + x) ≡ number_at s.bytes 4 (frame + x)
-  other_word r o x env s t put sides =
-      ap (λ (b : ByteMap). number_at b 4 (frame + x)) put.written ∙ number_at_apart s.bytes 4 (frame + o) (s.regs r) 4 (frame + x) sides
+pub hidden_then : (z : Setting) (depth : ℕ) (s t u : machine.State) → Hidden z depth s t → Hidden z depth t u → Hidden z depth s u
+hidden_then z depth s t u one other o low high = other o low high ∙ one o low high
 
-  -- a state that is shown by the same words
-  pub ready_same : (one other : StraightState) (s : machine.State) → ((x : ℕ) → one.variables x ≡ other.variables x) → ((c : ℕ) → one.controls c ≡ other.controls c) → Ready frame size variables controls one s → Ready frame size variables controls other s
+pub hidden_less : (z : Setting) (less depth : ℕ) (s t : machine.State) → less ≤ depth → Hidden z depth s t → Hidden z less s t
+hidden_less z less depth s t h hidden o low high = hidden o low (omega (arith, high, h))
+
+pub hidden_by : (z : Setting) (depth : ℕ) (s t : machine.State) → t.bytes ≡ s.bytes → Hidden z depth s t
+hidden_by z depth s t same o low high = ap (λ (b : ByteMap). b (z.frame + o)) same
+
+pub hidden_kept : (z : Setting) (depth : ℕ) (s t : machine.State) → depth ≤ z.depths → Kept z (base_of z) s t → Hidden z depth s t
+hidden_kept z depth s t within kept o low high = kept o (omega (arith, high, within))
+
+-- a number that is written below the loops' words
+pub hidden_wrote : (z : Setting) (depth n o w : ℕ) (s t : machine.State) → o + n ≤ next_offset z.declared z.controls 0 → Wrote z n o w s t → Hidden z depth s t
+hidden_wrote z depth n o w s t before wrote x low high =
+    ap (λ (b : ByteMap). b (z.frame + x)) wrote.written ∙ with_number_above s.bytes n (z.frame + o) w (z.frame + x) (omega (arith, before, low))
+
+-- or behind them
+pub hidden_beyond : (z : Setting) (depth n o w : ℕ) (s t : machine.State) → next_offset z.declared z.controls depth ≤ o → Wrote z n o w s t → Hidden z depth s t
+hidden_beyond z depth n o w s t behind wrote x low high =
+    ap (λ (b : ByteMap). b (z.frame + x)) wrote.written ∙ with_number_below s.bytes n (z.frame + o) w (z.frame + x) (omega (arith, behind, high))
+
+-- a loop's word is the number that it was
+pub hidden_number : (z : Setting) (depth : ℕ) (s t : machine.State) → Hidden z depth s t → (o : ℕ) → next_offset z.declared z.controls 0 ≤ o → o + 4 ≤ next_offset z.declared z.controls depth → number_at t.bytes 4 (z.frame + o) ≡ number_at s.bytes 4 (z.frame + o)
+hidden_number z depth s t hidden o low high =
+    number_at_same s.bytes t.bytes 4 (z.frame + o)
+    (λ x above below.
+    let e : z.frame + (x - z.frame) ≡ x = omega (arith, above) in
+    ap t.bytes (sym e) ∙ (hidden (x - z.frame) (omega (arith, above, low)) (omega (arith, above, below, high)) ∙ ap s.bytes e))
+
+pub put_wrote : (z : Setting) (n r o : ℕ) (env : StraightState) (s t : machine.State) → Put z n r o env s t → Wrote z n o (s.regs r) s t
+put_wrote z n r o env s t put = record { held = put.held; written = put.written }
+
+-- what is written as a value of its kind is that value again
+pub cut_kind : (kind : Kind) (v : ℕ) → v < 2 ^ bits_of kind → v < 2 ^ 32
+cut_kind Boolean v h = omega (arith, h)
+cut_kind Uint8 v h = omega (arith, h)
+cut_kind Uint16 v h = omega (arith, h)
+cut_kind Uint32 v h = h
+
+pub cut_element : (kind : Kind) (size v : ℕ) → v < 2 ^ bits_of kind → v % 256 ^ bytes_by kind (Some size) ≡ v
+cut_element Boolean size v h = omega (arith, h)
+cut_element Uint8 size v h = omega (arith, h)
+cut_element Uint16 size v h = omega (arith, h)
+cut_element Uint32 size v h = omega (arith, h)
+
+alone : (l : List ℕ) (v : ℕ) → length l ≡ 1 → slice_set l 0 v ≡ v ∷ []
+alone [] v one = absurd (omega (arith, one))
+alone (x ∷ []) v one = refl
+alone (x ∷ y ∷ l) v one = absurd (omega (arith, one))
+
+module _ (z : Setting) where
+  -- a number elsewhere is as it was
+  pub other_number : (n o w m x : ℕ) (s t : machine.State) → Wrote z n o w s t → (x + m ≤ o) ⊎ (o + n ≤ x) → number_at t.bytes m (z.frame + x) ≡ number_at s.bytes m (z.frame + x)
+  other_number n o w m x s t wrote (inl h) =
+      ap (λ (b : ByteMap). number_at b m (z.frame + x)) wrote.written ∙ number_at_apart s.bytes n (z.frame + o) w m (z.frame + x) (inl (omega (arith, h)))
+  other_number n o w m x s t wrote (inr h) =
+      ap (λ (b : ByteMap). number_at b m (z.frame + x)) wrote.written ∙ number_at_apart s.bytes n (z.frame + o) w m (z.frame + x) (inr (omega (arith, h)))
+
+  -- a state that is shown by the same values
+  pub ready_same : (one other : StraightState) (s : machine.State) → ((x : ℕ) → one.variables x ≡ other.variables x) → ((c : ℕ) → one.controls c ≡ other.controls c) → Ready z one s → Ready z other s
   ready_same one other s same_variables same_controls ready = record {
     held = ready.held;
-    words = λ x below. subst (λ v. v < 2 ^ 32) (same_variables x) (ready.words x below);
-    variables_there = λ x below. ready.variables_there x below ∙ ap Some (same_variables x);
+    fits = λ x d is. subst (λ (l : List ℕ). IsHeld d l) (same_variables x) (ready.fits x d is);
+    variables_there = λ x d i is below. ready.variables_there x d i is below ∙ ap (λ (l : List ℕ). Some (slice_index l i)) (same_variables x);
     controls_there = λ c below. ready.controls_there c below ∙ ap (λ b. Some (mask_of b)) (same_controls c);
   }
 
-  module _ (x w : ℕ) (known : x ≤ variables) (fits : w < 2 ^ 32) (env : StraightState) (s t : machine.State) (ready : Ready frame size variables controls env s) (put : Put frame size 5 (variable_offset x) env s t) (value : s.regs 5 ≡ w) where
-    set_word : (y : ℕ) → y ≤ variables → (b : Bool) → cond b w (env.variables y) < 2 ^ 32
-    set_word y below true = fits
-    set_word y below false = ready.words y below
+  module _ (x i v w : ℕ) (d : FlatVariable) (known : slice_get z.declared x ≡ Some d) (below : i < numbers_in d.elements) (fits : v < 2 ^ bits_of d.word.kind)
+      (env : StraightState) (s t : machine.State) (ready : Ready z env s) (wrote : Wrote z (bytes_of d) (place_of z.declared x d i) w s t) (cut : w % 256 ^ bytes_of d ≡ v) where
+    abbrev old : List ℕ
+    old = env.variables x
 
-    set_there : (y : ℕ) → y ≤ variables → (b : Bool) → (y == x) ≡ b → number_at t.bytes 4 (frame + variable_offset y) ≡ Some (cond b w (env.variables y))
-    set_there y below true e =
-        ap (λ z. number_at t.bytes 4 (frame + variable_offset z)) (same_number y x e) ∙ put_there frame size 5 (variable_offset x) w env s t put value fits
-    set_there y below false e =
-        other_word 5 (variable_offset x) (variable_offset y) env s t put (apart (4 * y) (4 * x) (variable_offset y) (variable_offset x) (sides y x e) refl refl frame) ∙ ready.variables_there y below
+    inside : i < length old
+    inside = let e = (ready.fits x d known).count in omega (arith, e, below)
 
-    -- a variable is set
-    pub ready_set : Ready frame size variables controls (with_variable env x w) t
-    ready_set = record {
-      held = put.held;
-      words = λ y below. set_word y below (y == x);
-      variables_there = λ y below. set_there y below (y == x) refl;
-      controls_there = λ c below. other_word 5 (variable_offset x) (control_offset variables c) env s t put (inr (omega (arith, known))) ∙ ready.controls_there c below;
-    }
+    fits_at : (y : ℕ) (e : FlatVariable) → slice_get z.declared y ≡ Some e → (b : Bool) → (y == x) ≡ b → IsHeld e (cond b (slice_set old i v) (env.variables y))
+    fits_at y e is true q =
+        let same : slice_get z.declared x ≡ Some e = ap (λ n. slice_get z.declared n) (sym (same_number y x q)) ∙ is in
+        let kind : d ≡ e = same_Some d e (sym known ∙ same) in
+        let before = ready.fits x e same in
+        record {
+          count = length-set old i v ∙ before.count;
+          within = All-set (IsWithinKind e.word.kind) old i v (subst (λ (f : FlatVariable). v < 2 ^ bits_of f.word.kind) kind fits) before.within;
+        }
+    fits_at y e is false q = ready.fits y e is
+
+    same_there : (j : ℕ) → j < numbers_in d.elements → (b : Bool) → (j == i) ≡ b → number_at t.bytes (bytes_of d) (z.frame + place_of z.declared x d j) ≡ Some (slice_index (slice_set old i v) j)
+    same_there j more true q =
+        let e = same_number j i q in
+        let here : number_at t.bytes (bytes_of d) (z.frame + place_of z.declared x d i) ≡ Some v =
+            ap (λ (b : ByteMap). number_at b (bytes_of d) (z.frame + place_of z.declared x d i)) wrote.written ∙ (number_at-with_number s.bytes (bytes_of d) (z.frame + place_of z.declared x d i) w ∙ ap Some cut) in
+        ap (λ k. number_at t.bytes (bytes_of d) (z.frame + place_of z.declared x d k)) e ∙ (here ∙ ap Some (sym (ap (λ k. slice_index (slice_set old i v) k) e ∙ get_or-set_same old i v 0 inside)))
+    same_there j more false q =
+        other_number (bytes_of d) (place_of z.declared x d i) w (bytes_of d) (place_of z.declared x d j) s t wrote (elements_apart z.declared x d i j q)
+        ∙ (ready.variables_there x d j known more ∙ ap Some (sym (get_or-set_other old i j v 0 (λ e. differ e q))))
+      where
+        differ : j ≡ i → (j == i) ≡ false → ⊥
+        differ e h = grind (arith, nat_tests)
+
+    there_at : (y : ℕ) (e : FlatVariable) (j : ℕ) → slice_get z.declared y ≡ Some e → j < numbers_in e.elements → (b : Bool) → (y == x) ≡ b
+        → number_at t.bytes (bytes_of e) (z.frame + place_of z.declared y e j) ≡ Some (slice_index (cond b (slice_set old i v) (env.variables y)) j)
+    there_at y e j is more true q =
+        let at = same_number y x q in
+        let same : slice_get z.declared x ≡ Some e = ap (λ n. slice_get z.declared n) (sym at) ∙ is in
+        let kind : d ≡ e = same_Some d e (sym known ∙ same) in
+        let fewer : j < numbers_in d.elements = subst (λ (f : FlatVariable). j < numbers_in f.elements) (sym kind) more in
+        ap (λ n. number_at t.bytes (bytes_of e) (z.frame + place_of z.declared n e j)) at
+        ∙ subst (λ (f : FlatVariable). number_at t.bytes (bytes_of f) (z.frame + place_of z.declared x f j) ≡ Some (slice_index (slice_set old i v) j)) kind (same_there j fewer (j == i) refl)
+    there_at y e j is more false q =
+        other_number (bytes_of d) (place_of z.declared x d i) w (bytes_of e) (place_of z.declared y e j) s t wrote (by_side (apart_from z.declared x y d e j known is more q))
+        ∙ ready.variables_there y e j is more
+      where
+        by_side : (place_of z.declared y e j + bytes_of e ≤ variable_offset z.declared x) ⊎ (variable_offset z.declared x + 4 * words_of d ≤ place_of z.declared y e j) → (place_of z.declared y e j + bytes_of e ≤ place_of z.declared x d i) ⊎ (place_of z.declared x d i + bytes_of d ≤ place_of z.declared y e j)
+        by_side (inl h) = inl (omega (arith, h))
+        by_side (inr h) =
+            let w = place_within z.declared x d i below in
+            inr (omega (arith, h, w))
+
+    -- before the result
+    pub put_before : place_of z.declared x d i + bytes_of d ≤ result_offset z.declared
+    put_before =
+        let w = place_within z.declared x d i below in
+        let e = ends_before_result z.declared x d known in
+        omega (arith, w, e)
+
+    -- a number of a variable is set
+    pub ready_put : Ready z (with_element env x i v) t
+    ready_put =
+        let low = put_before in
+        record {
+          held = wrote.held;
+          fits = λ y e is. fits_at y e is (y == x) refl;
+          variables_there = λ y e j is more. there_at y e j is more (y == x) refl;
+          controls_there = λ c among. other_number (bytes_of d) (place_of z.declared x d i) w 4 (control_offset z.declared c) s t wrote (inr (omega (arith, low))) ∙ ready.controls_there c among;
+        }
+
+  -- a word is set
+  module _ (x v : ℕ) (word : WordType) (mutable : Bool) (known : slice_get z.declared x ≡ Some (word_as word mutable)) (fits : v < 2 ^ bits_of word.kind)
+      (env : StraightState) (s t : machine.State) (ready : Ready z env s) (wrote : Wrote z 4 (variable_offset z.declared x) v s t) where
+    first_place : place_of z.declared x (word_as word mutable) 0 ≡ variable_offset z.declared x
+    first_place = omega arith
+
+    wrote_first : Wrote z 4 (place_of z.declared x (word_as word mutable) 0) v s t
+    wrote_first = subst (λ o. Wrote z 4 o v s t) (sym first_place) wrote
+
+    pub ready_set : Ready z (with_variable env x (v ∷ [])) t
+    ready_set =
+        let small = cut_kind word.kind v fits in
+        let put = ready_put x 0 v v (word_as word mutable) known (omega arith) fits env s t ready wrote_first (omega (arith, small)) in
+        ready_same (with_element env x 0 v) (with_variable env x (v ∷ [])) t (λ y. ap (λ (l : List ℕ). if y == x then l else env.variables y) (alone (env.variables x) v (ready.fits x (word_as word mutable) known).count)) (λ c. refl) put
+
+    pub set_before : variable_offset z.declared x + 4 ≤ result_offset z.declared
+    set_before =
+        let e = ends_before_result z.declared x (word_as word mutable) known in
+        omega (arith, e)
 
   -- a variable that is set to what it holds
   same_again : (x : ℕ) (env : StraightState) (y : ℕ) (b : Bool) → (y == x) ≡ b → cond b (env.variables x) (env.variables y) ≡ env.variables y
@@ -68,30 +198,44 @@ module _ (frame size variables controls : ℕ) where
   same_again x env y false e = refl
 
   -- a variable is set or kept
-  pub ready_under : (b : Bool) (x v : ℕ) (env : StraightState) (t : machine.State) → Ready frame size variables controls (with_variable env x (cond b v (env.variables x))) t → Ready frame size variables controls (cond b (with_variable env x v) env) t
-  ready_under true x v env t ready = ready
-  ready_under false x v env t ready = ready_same (with_variable env x (env.variables x)) env t (λ y. same_again x env y (y == x) refl) (λ c. refl) ready
+  pub ready_under : (b : Bool) (x : ℕ) (l : List ℕ) (env : StraightState) (t : machine.State) → Ready z (with_variable env x (cond b l (env.variables x))) t → Ready z (cond b (with_variable env x l) env) t
+  ready_under true x l env t ready = ready
+  ready_under false x l env t ready = ready_same (with_variable env x (env.variables x)) env t (λ y. same_again x env y (y == x) refl) (λ c. refl) ready
 
   -- one control value is set
   abbrev with_control : StraightState → ℕ → Bool → StraightState
   with_control env c b = record { variables = env.variables; controls = λ y. if y == c then b else env.controls y }
 
-  module _ (c r : ℕ) (b : Bool) (among : c < controls) (env : StraightState) (s t : machine.State) (ready : Ready frame size variables controls env s) (put : Put frame size r (control_offset variables c) env s t) (value : s.regs r ≡ mask_of b) where
-    control_there : (y : ℕ) → y < controls → (e : Bool) → (y == c) ≡ e → number_at t.bytes 4 (frame + control_offset variables y) ≡ Some (mask_of (cond e b (env.controls y)))
+  spaced : (y c : ℕ) → (y == c) ≡ false → (y + 1 ≤ c) ⊎ (c + 1 ≤ y)
+  spaced y c h = by_order (nat_lt y c) refl
+    where
+      by_order : (b : Bool) → nat_lt y c ≡ b → (y + 1 ≤ c) ⊎ (c + 1 ≤ y)
+      by_order true e =
+          let below : y < c = grind (arith, nat_tests) in
+          inl (omega (arith, below))
+      by_order false e =
+          let above : c < y = grind (arith, nat_tests) in
+          inr (omega (arith, above))
+
+  module _ (c r : ℕ) (b : Bool) (among : c < z.controls) (env : StraightState) (s t : machine.State) (ready : Ready z env s) (put : Put z 4 r (control_offset z.declared c) env s t) (value : s.regs r ≡ mask_of b) where
+    control_there : (y : ℕ) → y < z.controls → (e : Bool) → (y == c) ≡ e → number_at t.bytes 4 (z.frame + control_offset z.declared y) ≡ Some (mask_of (cond e b (env.controls y)))
     control_there y below true e =
-        ap (λ z. number_at t.bytes 4 (frame + control_offset variables z)) (same_number y c e) ∙ put_there frame size r (control_offset variables c) (mask_of b) env s t put value (mask_fits b)
+        ap (λ n. number_at t.bytes 4 (z.frame + control_offset z.declared n)) (same_number y c e) ∙ put_there z r (control_offset z.declared c) (mask_of b) env s t put value (mask_fits b)
     control_there y below false e =
-        other_word r (control_offset variables c) (control_offset variables y) env s t put (by_side (sides y c e)) ∙ ready.controls_there y below
+        other_number 4 (control_offset z.declared c) (s.regs r) 4 (control_offset z.declared y) s t (put_wrote z 4 r (control_offset z.declared c) env s t put) (by_side (spaced y c e)) ∙ ready.controls_there y below
       where
-        by_side : (4 * y + 4 ≤ 4 * c) ⊎ (4 * c + 4 ≤ 4 * y) → (frame + control_offset variables y + 4 ≤ frame + control_offset variables c) ⊎ (frame + control_offset variables c + 4 ≤ frame + control_offset variables y)
+        by_side : (y + 1 ≤ c) ⊎ (c + 1 ≤ y) → (control_offset z.declared y + 4 ≤ control_offset z.declared c) ⊎ (control_offset z.declared c + 4 ≤ control_offset z.declared y)
         by_side (inl h) = inl (omega (arith, h))
         by_side (inr h) = inr (omega (arith, h))
 
-    one_control : Ready frame size variables controls (with_control env c b) t
+    one_control : Ready z (with_control env c b) t
     one_control = record {
       held = put.held;
-      words = ready.words;
-      variables_there = λ x below. other_word r (control_offset variables c) (variable_offset x) env s t put (inl (omega (arith, below))) ∙ ready.variables_there x below;
+      fits = ready.fits;
+      variables_there = λ x d i is below.
+          let w = place_within z.declared x d i below in
+          let e = ends_before_result z.declared x d is in
+          other_number 4 (control_offset z.declared c) (s.regs r) (bytes_of d) (place_of z.declared x d i) s t (put_wrote z 4 r (control_offset z.declared c) env s t put) (inl (omega (arith, w, e))) ∙ ready.variables_there x d i is below;
       controls_there = λ y below. control_there y below (y == c) refl;
     }
 
@@ -99,11 +243,11 @@ module _ (frame size variables controls : ℕ) where
   swapped : (y c : ℕ) (f g h : Bool) (e : Bool) → (y == c) ≡ e → (if y == c + 1 then g else cond e f h) ≡ cond e f (if y == c + 1 then g else h)
   swapped y c f g h true e =
       let same = same_number y c e in
-      rw (ne_eqb y (c + 1) (λ z. omega (arith, same, z))) refl
+      rw (ne_eqb y (c + 1) (λ q. omega (arith, same, q))) refl
   swapped y c f g h false e = refl
 
   -- both control values of a condition are set, from x7 and x5
-  pub ready_taken : (c : ℕ) (f g : Bool) → c + 1 < controls → (env : StraightState) (s t u : machine.State) → Ready frame size variables controls env s → Put frame size 7 (control_offset variables c) env s t → Put frame size 5 (control_offset variables (c + 1)) env t u → s.regs 7 ≡ mask_of f → s.regs 5 ≡ mask_of g → Ready frame size variables controls (with_controls env c f g) u
+  pub ready_taken : (c : ℕ) (f g : Bool) → c + 1 < z.controls → (env : StraightState) (s t u : machine.State) → Ready z env s → Put z 4 7 (control_offset z.declared c) env s t → Put z 4 5 (control_offset z.declared (c + 1)) env t u → s.regs 7 ≡ mask_of f → s.regs 5 ≡ mask_of g → Ready z (with_controls env c f g) u
   ready_taken c f g among env s t u ready one two when otherwise =
       let first = one_control c 7 f (omega (arith, among)) env s t ready one when in
       let second = one_control (c + 1) 5 g among (with_control env c f) t u first (record { held = two.held; written = two.written; others = two.others }) (one.others 5 (λ e. omega arith) ∙ otherwise) in

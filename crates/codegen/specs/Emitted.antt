@@ -1,168 +1,22 @@
--- The instructions that are emitted for slots, numbers, expressions and statements.
-use Rattle.std.specs.Prelude.{ℕ, ◌+◌, ◌-◌, ◌/◌, ◌%◌, ◌^◌, ◌==◌, Bool, List, [], ◌∷◌, ◌++◌, Option, None, Some, max, nat_lt, if◌then◌else◌}
-use Rattle.branch_removal.specs.Straight.{StraightTree, set, take, set_under}
-use Rattle.codegen.specs.Layout.{variable_offset, control_offset, temporaries_offset}
-use Rattle.inline.specs.Flat.{TermTree, number, truth, variable, prefix, binary, rotate, convert, select}
+-- The instructions that are emitted for statements.
+use Rattle.std.specs.Prelude.{ℕ, ◌+◌, ◌*◌, List, [], ◌∷◌, ◌++◌, length, Option, None, Some, max, if◌then◌else◌}
+use Rattle.branch_removal.specs.Straight.{StraightTree, set, clear, fill, put, take, set_under, put_under, branch, repeats, StraightBlock, nothing, first}
+use Rattle.codegen.specs.Jumps.{branch_code, loop_code}
+use Rattle.codegen.specs.Layout.{variable_offset, control_offset, next_offset, bound_offset, temporaries_offset}
+use Rattle.codegen.specs.Registers.{zero_register, frame_register, value_register, left_register, condition_register, address_register}
+use Rattle.codegen.specs.TermCode.{is_near, upper_part, lower_part, load_code, store_code, constant_code, address_code, load_by, kind_at, expr_code, height_of}
+use Rattle.inline.specs.declared.flat.FlatVariable.{FlatVariable}
+use Rattle.inline.specs.Flat.{TermTree}
 use Rattle.rv_code.specs.declared.instructions.Instr.{Instr}
-use Rattle.rv_code.specs.declared.instructions.Instr.TheVariants.{Upper, Immediate, Shift, Register, Multiply, Divide, Load, Store}
+use Rattle.rv_code.specs.declared.instructions.Instr.TheVariants.{Upper, Immediate, Register, Load, Store}
 use Rattle.rv_code.specs.declared.operations.UpperOperation.TheVariants.{Lui}
-use Rattle.rv_code.specs.declared.operations.ImmediateOperation.TheVariants.{Addi, Sltiu, Andi}
-use Rattle.rv_code.specs.declared.operations.ShiftOperation.TheVariants.{Slli, Srli}
-use Rattle.rv_code.specs.declared.operations.RegisterOperation.TheVariants.{Add, Sub, Sll, Sltu, Xor, Srl, Or, And}
-use Rattle.rv_code.specs.declared.operations.MultiplyOperation.TheVariants.{Mul}
-use Rattle.rv_code.specs.declared.operations.DivideOperation.TheVariants.{Divu, Remu}
-use Rattle.rv_code.specs.declared.operations.LoadOperation.TheVariants.{Lw}
-use Rattle.rv_code.specs.declared.operations.StoreOperation.TheVariants.{Sw}
-use Rattle.language.specs.declared.tree.BinaryOperator.{BinaryOperator}
-use Rattle.language.specs.declared.tree.BinaryOperator.TheVariants as operators
-use Rattle.language.specs.declared.tree.PrefixOperator.{PrefixOperator}
-use Rattle.language.specs.declared.tree.PrefixOperator.TheVariants as prefixes
-use Rattle.language.specs.Operators.{width_of}
-use Rattle.word.specs.declared.width.Width.{Width}
-use Rattle.word.specs.declared.width.Width.TheVariants.{W8, W16, W32}
-use Rattle.word.specs.Operators.{word_of}
-use Rattle.word.specs.Widths.{bits}
-
--- The registers: the frame's base, an expression's value, its left operand, a condition or a mask, and an address.
-
-abbrev pub zero_register : ℕ
-zero_register = 0
-
-abbrev pub frame_register : ℕ
-frame_register = 2
-
-abbrev pub value_register : ℕ
-value_register = 5
-
-abbrev pub left_register : ℕ
-left_register = 6
-
-abbrev pub condition_register : ℕ
-condition_register = 7
-
-abbrev pub address_register : ℕ
-address_register = 28
-
--- A number as an upper part, in units of 4096, and a lower part that is sign-extended.
-
-abbrev pub upper_part : ℕ → ℕ
-upper_part n = (n + 2048) / 4096 % 2 ^ 20
-
-abbrev pub lower_part : ℕ → ℕ
-lower_part n = n % 4096
-
--- what 12 bits hold as a number that is not negative
-abbrev pub is_near : ℕ → Bool
-is_near n = nat_lt n 2048
-
--- a slot's word into a register
-abbrev pub load_code : ℕ → ℕ → List Instr
-load_code register offset =
-    if is_near offset
-    then Load Lw register frame_register offset ∷ []
-    else Upper Lui register (upper_part offset) ∷ Register Add register register frame_register
-    ∷ Load Lw register register (lower_part offset) ∷ []
-
--- a register into a slot
-abbrev pub store_code : ℕ → ℕ → List Instr
-store_code register offset =
-    if is_near offset
-    then Store Sw register frame_register offset ∷ []
-    else Upper Lui address_register (upper_part offset) ∷ Register Add address_register address_register frame_register
-    ∷ Store Sw register address_register (lower_part offset) ∷ []
-
--- a number into a register
-abbrev pub constant_code : ℕ → ℕ → List Instr
-constant_code register n =
-    if is_near n
-    then Immediate Addi register zero_register n ∷ []
-    else Upper Lui register (upper_part n) ∷ Immediate Addi register register (lower_part n) ∷ []
-
--- the value, cut to a width
-abbrev pub cut_code : Width → List Instr
-cut_code W8 = Immediate Andi value_register value_register 255 ∷ []
-cut_code W16 = Shift Slli value_register value_register 16 ∷ Shift Srli value_register value_register 16 ∷ []
-cut_code W32 = []
-
--- 1 where the value is 0, and else 0
-abbrev pub is_zero_code : List Instr
-is_zero_code = Immediate Sltiu value_register value_register 1 ∷ []
-
--- 0 where the value is 0, and else 1
-abbrev pub is_not_zero_code : List Instr
-is_not_zero_code = Register Sltu value_register zero_register value_register ∷ []
-
--- 0 where the left operand is 0, and else 1; and so of the value
-abbrev pub both_truths_code : List Instr
-both_truths_code = Register Sltu left_register zero_register left_register ∷ is_not_zero_code
-
--- 0 less the value
-abbrev pub negation_code : List Instr
-negation_code = Register Sub value_register zero_register value_register ∷ []
-
--- an operator between the left operand and the value, into the value. Whether numbers are equal is read off their
--- difference, and an order that takes equal numbers too is the other order, turned round.
-abbrev pub operator_code : BinaryOperator → Width → List Instr
-operator_code operators.Either w = both_truths_code ++ Register Or value_register left_register value_register ∷ []
-operator_code operators.Both w = both_truths_code ++ Register And value_register left_register value_register ∷ []
-operator_code operators.Equal w = Register Sub value_register left_register value_register ∷ is_zero_code
-operator_code operators.Unequal w = Register Sub value_register left_register value_register ∷ is_not_zero_code
-operator_code operators.Less w = Register Sltu value_register left_register value_register ∷ []
-operator_code operators.LessOrEqual w = Register Sltu value_register value_register left_register ∷ is_zero_code
-operator_code operators.Greater w = Register Sltu value_register value_register left_register ∷ []
-operator_code operators.GreaterOrEqual w = Register Sltu value_register left_register value_register ∷ is_zero_code
-operator_code operators.BitOr w = Register Or value_register left_register value_register ∷ []
-operator_code operators.BitXor w = Register Xor value_register left_register value_register ∷ []
-operator_code operators.BitAnd w = Register And value_register left_register value_register ∷ []
-operator_code operators.ShiftLeft w = Register Sll value_register left_register value_register ∷ cut_code w
-operator_code operators.ShiftRight w = Register Srl value_register left_register value_register ∷ cut_code w
-operator_code operators.Add w = Register Add value_register left_register value_register ∷ cut_code w
-operator_code operators.Subtract w = Register Sub value_register left_register value_register ∷ cut_code w
-operator_code operators.Multiply w = Multiply Mul value_register left_register value_register ∷ cut_code w
-operator_code operators.Divide w = Divide Divu value_register left_register value_register ∷ []
-operator_code operators.Remainder w = Divide Remu value_register left_register value_register ∷ []
-
--- an operator before the value. The complement is one less than the number's negative.
-abbrev pub prefix_code : PrefixOperator → Width → List Instr
-prefix_code prefixes.Not w = is_zero_code
-prefix_code prefixes.Complement w = negation_code ++ Immediate Addi value_register value_register 4095 ∷ cut_code w
-prefix_code prefixes.Negate w = negation_code ++ cut_code w
-
--- the value's bits moved up by an amount below the width, and those that go past its end back in at the bottom
-abbrev pub around_code : Width → ℕ → List Instr
-around_code w amount =
-    if amount == 0 then [] else
-    Shift Slli left_register value_register amount ∷ Shift Srli value_register value_register (bits w - amount)
-    ∷ Register Add value_register left_register value_register ∷ cut_code w
-
-abbrev pub rotate_code : Width → ℕ → List Instr
-rotate_code w amount = cut_code w ++ around_code w (amount % bits w)
-
--- of the left operand and the value, the left where the condition is 1 and the value where it is 0
-abbrev pub choice_code : List Instr
-choice_code =
-    Register Sub condition_register zero_register condition_register
-    ∷ Register Xor left_register left_register value_register
-    ∷ Register And left_register left_register condition_register
-    ∷ Register Xor value_register value_register left_register ∷ []
-
--- an expression into the value register; temporaries lie in slots from this offset on
-abbrev pub expr_code : ℕ → TermTree → List Instr
-expr_code free (number value kind) = constant_code value_register value
-expr_code free (truth value) = constant_code value_register (word_of value)
-expr_code free (variable x) = load_code value_register (variable_offset x)
-expr_code free (prefix operator width operand) = expr_code free operand ++ prefix_code operator width
-expr_code free (binary operator width left right) =
-    expr_code free left ++ store_code value_register free
-    ++ expr_code (free + 4) right
-    ++ load_code left_register free ++ operator_code operator width
-expr_code free (rotate width operand amount) = expr_code free operand ++ rotate_code width amount
-expr_code free (convert kind operand) = expr_code free operand ++ cut_code (width_of kind)
-expr_code free (select condition accepted otherwise) =
-    expr_code free condition ++ store_code value_register free
-    ++ expr_code (free + 4) accepted ++ store_code value_register (free + 4)
-    ++ expr_code (free + 8) otherwise
-    ++ load_code left_register (free + 4) ++ load_code condition_register free ++ choice_code
+use Rattle.rv_code.specs.declared.operations.ImmediateOperation.TheVariants.{Addi}
+use Rattle.rv_code.specs.declared.operations.RegisterOperation.TheVariants.{Add, Sub, Sltu, Xor, And}
+use Rattle.rv_code.specs.declared.operations.StoreOperation.{StoreOperation}
+use Rattle.rv_code.specs.declared.operations.StoreOperation.TheVariants.{Sb, Sh, Sw}
+use Rattle.language.specs.declared.signature.Kind.{Kind}
+use Rattle.language.specs.declared.signature.Kind.TheVariants.{Boolean, Uint8, Uint16, Uint32}
+use Rattle.language.specs.Size.{element_bytes, array_words}
 
 -- A control value is a mask: all ones where it is true, and 0 where it is not.
 
@@ -180,9 +34,9 @@ join_code offset =
     ∷ Register And value_register value_register left_register ∷ []
 
 -- both masks joined with the enclosing control value, where there is one
-abbrev pub within_code : ℕ → Option ℕ → List Instr
-within_code variables None = []
-within_code variables (Some control) = join_code (control_offset variables control)
+abbrev pub within_code : List FlatVariable → Option ℕ → List Instr
+within_code declared None = []
+within_code declared (Some control) = join_code (control_offset declared control)
 
 -- the value where the mask is all ones, and what was there before where it is 0
 abbrev pub merge_code : List Instr
@@ -191,42 +45,152 @@ merge_code =
     ∷ Register And value_register value_register condition_register
     ∷ Register Xor value_register left_register value_register ∷ []
 
--- a statement of a program with so many variables and control values
-abbrev pub statement_code : ℕ → ℕ → StraightTree → List Instr
-statement_code variables controls (set x value) =
-    expr_code (temporaries_offset variables controls) value ++ store_code value_register (variable_offset x)
-statement_code variables controls (take control within condition) =
-    expr_code (temporaries_offset variables controls) condition ++ masks_code ++ within_code variables within
-    ++ store_code condition_register (control_offset variables control)
-    ++ store_code value_register (control_offset variables (control + 1))
-statement_code variables controls (set_under control x value) =
-    expr_code (temporaries_offset variables controls) value
-    ++ load_code left_register (variable_offset x) ++ load_code condition_register (control_offset variables control)
-    ++ merge_code ++ store_code value_register (variable_offset x)
+-- Arrays.
 
-abbrev pub statements_code : ℕ → ℕ → List StraightTree → List Instr
-statements_code variables controls [] = []
-statements_code variables controls (statement ∷ rest) =
-    statement_code variables controls statement ++ statements_code variables controls rest
+-- an element's store is as wide as the element
+abbrev pub store_by : Kind → StoreOperation
+store_by Boolean = Sb
+store_by Uint8 = Sb
+store_by Uint16 = Sh
+store_by Uint32 = Sw
 
--- how many slots the temporaries of an expression take
-abbrev pub height_of : TermTree → ℕ
-height_of (number value kind) = 0
-height_of (truth value) = 0
-height_of (variable x) = 0
-height_of (prefix operator width operand) = height_of operand
-height_of (binary operator width left right) = max (height_of left) (1 + height_of right)
-height_of (rotate width operand amount) = height_of operand
-height_of (convert kind operand) = height_of operand
-height_of (select condition accepted otherwise) =
-    max (height_of condition) (1 + max (height_of accepted) (1 + height_of otherwise))
+-- the value into an element of a fixed place
+abbrev pub element_store_code : Kind → ℕ → List Instr
+element_store_code kind offset =
+    if is_near offset
+    then Store (store_by kind) value_register frame_register offset ∷ []
+    else Upper Lui address_register (upper_part offset) ∷ Register Add address_register address_register frame_register
+    ∷ Store (store_by kind) value_register address_register (lower_part offset) ∷ []
 
-abbrev pub height_in : StraightTree → ℕ
-height_in (set x value) = height_of value
-height_in (take control within condition) = height_of condition
-height_in (set_under control x value) = height_of value
+-- all words of an array become 0: from the address in one register up to that in another
+abbrev pub clear_code : ℕ → ℕ → List Instr
+clear_code offset words =
+    constant_code address_register offset
+    ++ Register Add address_register address_register frame_register ∷ []
+    ++ constant_code condition_register (4 * words)
+    ++ Register Add condition_register condition_register address_register ∷ []
+    ++ loop_code
+    (Register Sub value_register condition_register address_register ∷ [])
+    (Store Sw zero_register address_register 0 ∷ Immediate Addi address_register address_register 4 ∷ [])
 
--- how many those of statements take, which share them
-abbrev pub height_in_all : List StraightTree → ℕ
-height_in_all [] = 0
-height_in_all (statement ∷ rest) = max (height_in statement) (height_in_all rest)
+-- values into the elements from this one on
+abbrev pub fill_code : List FlatVariable → ℕ → Kind → ℕ → List TermTree → List Instr
+fill_code declared free kind offset [] = []
+fill_code declared free kind offset (e ∷ es) =
+    expr_code declared free e ++ element_store_code kind offset ++ fill_code declared free kind (offset + element_bytes kind) es
+
+-- an index and a value: the index in the left operand's register, the value in its own
+abbrev pub index_code : List FlatVariable → ℕ → TermTree → TermTree → List Instr
+index_code declared free index value =
+    expr_code declared free index ++ store_code value_register free ++ expr_code declared (free + 4) value ++ load_code left_register free
+
+-- the value into the element whose address is in the left operand's register
+abbrev pub put_code : Kind → ℕ → List Instr
+put_code kind offset =
+    address_code left_register kind offset ++ Store (store_by kind) value_register left_register (lower_part offset) ∷ []
+
+-- the value where the control value is true, and else the old one, into the element
+abbrev pub put_under_code : ℕ → Kind → ℕ → List Instr
+put_under_code control kind offset =
+    address_code left_register kind offset
+    ++ Register Add address_register left_register zero_register ∷ Load (load_by kind) left_register left_register (lower_part offset) ∷ []
+    ++ load_code condition_register control
+    ++ merge_code
+    ++ Store (store_by kind) value_register address_register (lower_part offset) ∷ []
+
+-- Loops.
+
+-- both bounds into the loop's words, the first one first
+abbrev pub bounds_code : List FlatVariable → ℕ → ℕ → TermTree → TermTree → List Instr
+bounds_code declared next free low high =
+    expr_code declared free low ++ store_code value_register next ++ expr_code declared free high ++ store_code value_register (next + 4)
+
+-- whether the next number is below the bound
+abbrev pub test_code : ℕ → List Instr
+test_code next =
+    load_code left_register next ++ load_code value_register (next + 4) ++ Register Sltu value_register left_register value_register ∷ []
+
+-- the next number into the counter, and one more for the turn after this one
+abbrev pub count_code : ℕ → ℕ → List Instr
+count_code next counter =
+    store_code left_register counter ++ Immediate Addi left_register left_register 1 ∷ [] ++ store_code left_register next
+
+-- Statements of a program with these variables, so many control values, and room for so many loops, one in the other.
+module _ (declared : List FlatVariable) (controls depths : ℕ) where
+  abbrev mutual
+    -- of a statement that so many loops are around
+    pub statement_code : ℕ → StraightTree → List Instr
+    statement_code depth (set x value) =
+        expr_code declared (temporaries_offset declared controls depths) value ++ store_code value_register (variable_offset declared x)
+    statement_code depth (clear x size) = clear_code (variable_offset declared x) (array_words (kind_at declared x) size)
+    statement_code depth (fill x values) =
+        fill_code declared (temporaries_offset declared controls depths) (kind_at declared x) (variable_offset declared x) values
+    statement_code depth (put place x size index value) =
+        index_code declared (temporaries_offset declared controls depths) index value ++ put_code (kind_at declared x) (variable_offset declared x)
+    statement_code depth (take control within condition) =
+        expr_code declared (temporaries_offset declared controls depths) condition ++ masks_code ++ within_code declared within
+        ++ store_code condition_register (control_offset declared control)
+        ++ store_code value_register (control_offset declared (control + 1))
+    statement_code depth (set_under control x value) =
+        expr_code declared (temporaries_offset declared controls depths) value
+        ++ load_code left_register (variable_offset declared x) ++ load_code condition_register (control_offset declared control)
+        ++ merge_code ++ store_code value_register (variable_offset declared x)
+    statement_code depth (put_under control place x size index value) =
+        index_code declared (temporaries_offset declared controls depths) index value
+        ++ put_under_code (control_offset declared control) (kind_at declared x) (variable_offset declared x)
+    statement_code depth (branch condition accepted otherwise) =
+        expr_code declared (temporaries_offset declared controls depths) condition
+        ++ branch_code (block_code depth accepted) (block_code depth otherwise)
+    statement_code depth (repeats x low high body) =
+        bounds_code declared (next_offset declared controls depth) (temporaries_offset declared controls depths) low high
+        ++ loop_code
+        (test_code (next_offset declared controls depth))
+        (count_code (next_offset declared controls depth) (variable_offset declared x) ++ block_code (depth + 1) body)
+
+    -- of statements, one after the other
+    pub block_code : ℕ → StraightBlock → List Instr
+    block_code depth nothing = []
+    block_code depth (first statement rest) = statement_code depth statement ++ block_code depth rest
+
+-- how many slots the temporaries of expressions take that share them
+abbrev pub height_of_all : List TermTree → ℕ
+height_of_all [] = 0
+height_of_all (e ∷ es) = max (height_of e) (height_of_all es)
+
+-- and those of an index and a value
+abbrev pub height_of_put : TermTree → TermTree → ℕ
+height_of_put index value = max (height_of index) (1 + height_of value)
+
+abbrev mutual
+  -- those of a statement
+  pub height_in : StraightTree → ℕ
+  height_in (set x value) = height_of value
+  height_in (clear x size) = 0
+  height_in (fill x values) = height_of_all values
+  height_in (put place x size index value) = height_of_put index value
+  height_in (take control within condition) = height_of condition
+  height_in (set_under control x value) = height_of value
+  height_in (put_under control place x size index value) = height_of_put index value
+  height_in (branch condition accepted otherwise) = max (height_of condition) (max (height_in_all accepted) (height_in_all otherwise))
+  height_in (repeats x low high body) = max (max (height_of low) (height_of high)) (height_in_all body)
+
+  pub height_in_all : StraightBlock → ℕ
+  height_in_all nothing = 0
+  height_in_all (first statement rest) = max (height_in statement) (height_in_all rest)
+
+abbrev mutual
+  -- how many loops stand in one another at most
+  pub depth_in : StraightTree → ℕ
+  depth_in (set x value) = 0
+  depth_in (clear x size) = 0
+  depth_in (fill x values) = 0
+  depth_in (put place x size index value) = 0
+  depth_in (take control within condition) = 0
+  depth_in (set_under control x value) = 0
+  depth_in (put_under control place x size index value) = 0
+  depth_in (branch condition accepted otherwise) = max (depth_in_all accepted) (depth_in_all otherwise)
+  depth_in (repeats x low high body) = 1 + depth_in_all body
+
+  pub depth_in_all : StraightBlock → ℕ
+  depth_in_all nothing = 0
+  depth_in_all (first statement rest) = max (depth_in statement) (depth_in_all rest)

@@ -7,21 +7,27 @@ use Rattle.rv_code.specs.declared.instructions.Instr.TheVariants.{Ecall}
 use Rattle.rv_code.specs.Words.{word_of}
 use Rattle.image.specs.Fields.{Fields}
 use Rattle.image.specs.declared.slot.ResultSlot.{ResultSlot}
+use Rattle.inline.specs.declared.flat.FlatVariable.{FlatVariable}
 use Rattle.inline.specs.Flat.{TermTree}
 use Rattle.language.specs.declared.typing.WordType.{WordType}
-use Rattle.codegen.specs.Emitted.{expr_code, store_code, statements_code, height_of, height_in_all, value_register}
+use Rattle.codegen.specs.Emitted.{block_code, height_in_all, depth_in_all}
 use Rattle.codegen.specs.Layout.{slots_from, result_offset, temporaries_offset}
+use Rattle.codegen.specs.Registers.{value_register}
+use Rattle.codegen.specs.TermCode.{expr_code, store_code, height_of}
 
 -- the value into the result's slot, where there is one
-abbrev pub result_code : ℕ → ℕ → Option TermTree → List Instr
-result_code variables controls None = []
-result_code variables controls (Some value) =
-    expr_code (temporaries_offset variables controls) value ++ store_code value_register (result_offset variables)
+abbrev pub result_code : List FlatVariable → ℕ → Option TermTree → List Instr
+result_code declared free None = []
+result_code declared free (Some value) = expr_code declared free value ++ store_code value_register (result_offset declared)
+
+-- where the temporaries of a program begin
+abbrev pub program_base : StraightProgram → ℕ
+program_base p = temporaries_offset p.declared p.controls (depth_in_all p.body)
 
 -- the statements, the result, and the end
 abbrev pub program_code : StraightProgram → List Instr
 program_code p =
-    statements_code p.variables p.controls p.statements ++ result_code p.variables p.controls p.value ++ Ecall ∷ []
+    block_code p.declared p.controls (depth_in_all p.body) 0 p.body ++ result_code p.declared (program_base p) p.value ++ Ecall ∷ []
 
 abbrev pub result_height : Option TermTree → ℕ
 result_height None = 0
@@ -29,21 +35,21 @@ result_height (Some value) = height_of value
 
 -- how many slots the temporaries take
 abbrev pub program_height : StraightProgram → ℕ
-program_height p = max (height_in_all p.statements) (result_height p.value)
+program_height p = max (height_in_all p.body) (result_height p.value)
 
--- the result's slot, after so many variables
-abbrev pub result_slot : ℕ → WordType → ResultSlot
-result_slot variables word = record { kind = word.kind; label = word.label; offset = result_offset variables }
+-- the result's slot, behind the variables
+abbrev pub result_slot : List FlatVariable → WordType → ResultSlot
+result_slot declared word = record { kind = word.kind; label = word.label; offset = result_offset declared }
 
--- how many instructions a run may take, by how many nodes the source has
+-- how many instructions a run may take, by the work
 abbrev pub step_limit : ℕ → ℕ
-step_limit nodes = 32 * nodes + 64
+step_limit work = 32 * work + 64
 
 abbrev pub image_of : StraightProgram → Fields
 image_of p = record {
   slots = slots_from 0 p.parameters;
-  returned = option_map (result_slot p.variables) p.returned;
-  frame_bytes = temporaries_offset p.variables p.controls + 4 * program_height p;
-  max_steps = step_limit p.nodes;
+  returned = option_map (result_slot p.declared) p.returned;
+  frame_bytes = program_base p + 4 * program_height p;
+  max_steps = step_limit p.work;
   words = map word_of (program_code p);
 }

@@ -1,7 +1,9 @@
 pub mod Layout
+pub mod Registers
+pub mod TermCode
+pub mod Jumps
 pub mod Emitted
 pub mod Generated
-pub mod Room
 pub mod Loaded
 pub mod Bases
 pub mod Followed

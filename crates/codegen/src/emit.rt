@@ -1,11 +1,13 @@
 // Instructions for slots, numbers and masks, each appended to the code so far.
 
 ghost use Rattle.std.specs.Prelude.{◌≡◌, ◌++◌, OnOk};
-ghost use Rattle.codegen.specs.Emitted.{upper_part, lower_part, load_code, store_code, constant_code, choice_code, masks_code, join_code, merge_code};
+ghost use Rattle.codegen.specs.TermCode.{upper_part, lower_part, load_code, store_code, constant_code, choice_code, scale_code, raise_code, address_code, load_by, element_code};
+ghost use Rattle.codegen.specs.Emitted.{masks_code, join_code, merge_code};
 
+use language::Kind;
 use rv_code::{
-    Immediate12, ImmediateOperation, Instr, LoadOperation, Reg, RegisterOperation, StoreOperation,
-    UpperImmediate, UpperOperation,
+    Immediate12, ImmediateOperation, Instr, LoadOperation, Reg, RegisterOperation, ShiftAmount,
+    ShiftOperation, StoreOperation, UpperImmediate, UpperOperation,
 };
 use std::alloc::AllocError;
 
@@ -70,6 +72,67 @@ pub fn constant(code: &mut Vec<Instr>, register: Reg, n: u32) -> Result<(), Allo
     }
     code.push(Instr::Upper(UpperOperation::Lui, register, upper_part(n)))?;
     code.push(Instr::Immediate(ImmediateOperation::Addi, register, register, low))?;
+    Ok(())
+}
+
+/// An index in a register, times the bytes of an element.
+fn scale(code: &mut Vec<Instr>, register: Reg, kind: Kind) -> Result<(), AllocError>
+    ensures { OnOk result (code.new.items ≡ code.old.items ++ scale_code register kind) }
+{
+    let times = match kind {
+        Kind::Boolean | Kind::Uint8 => return Ok(()),
+        Kind::Uint16 => ShiftAmount::from_bits(1),
+        Kind::Uint32 => ShiftAmount::from_bits(2),
+    };
+    code.push(Instr::Shift(ShiftOperation::Slli, register, register, times))?;
+    Ok(())
+}
+
+/// The upper part of an offset added to a register, where it has one.
+fn raise(code: &mut Vec<Instr>, register: Reg, offset: u32) -> Result<(), AllocError>
+    ensures { OnOk result (code.new.items ≡ code.old.items ++ raise_code register offset) }
+{
+    if offset < NEAR {
+        return Ok(());
+    }
+    let upper = Instr::Upper(UpperOperation::Lui, Reg::X28, upper_part(offset));
+    code.push(upper)?;
+    code.push(Instr::Register(RegisterOperation::Add, register, register, Reg::X28))?;
+    Ok(())
+}
+
+/// An index in a register becomes its element's address, but for the lower part of the array's offset.
+pub fn address(
+    code: &mut Vec<Instr>,
+    register: Reg,
+    kind: Kind,
+    offset: u32,
+) -> Result<(), AllocError>
+    ensures { OnOk result (code.new.items ≡ code.old.items ++ address_code register kind offset) }
+{
+    scale(code, register, kind)?;
+    code.push(Instr::Register(RegisterOperation::Add, register, register, Reg::X2))?;
+    raise(code, register, offset)
+}
+
+/// How an element is loaded: as wide as it is.
+pub fn load_by(kind: Kind) -> LoadOperation
+    ensures { result ≡ load_by kind }
+{
+    match kind {
+        Kind::Boolean | Kind::Uint8 => LoadOperation::Lbu,
+        Kind::Uint16 => LoadOperation::Lhu,
+        Kind::Uint32 => LoadOperation::Lw,
+    }
+}
+
+/// The element at the index in the value, of an array at an offset.
+pub fn element(code: &mut Vec<Instr>, kind: Kind, offset: u32) -> Result<(), AllocError>
+    ensures { OnOk result (code.new.items ≡ code.old.items ++ element_code kind offset) }
+{
+    address(code, Reg::X5, kind, offset)?;
+    let low = lower_part(offset);
+    code.push(Instr::Load(load_by(kind), Reg::X5, Reg::X5, low))?;
     Ok(())
 }
 

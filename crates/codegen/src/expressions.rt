@@ -1,8 +1,7 @@
 // An expression's code, and how many slots its temporaries take.
 
-ghost use Rattle.std.specs.Prelude.{◌≡◌, ◌++◌, ◌+◌, ◌*◌, ◌≤◌, OnOk};
-ghost use Rattle.codegen.specs.Emitted.{expr_code, height_of};
-ghost use Rattle.inline.specs.FlatSize.{IsUpTo};
+ghost use Rattle.std.specs.Prelude.{◌≡◌, ◌++◌, ◌+◌, ◌*◌, ◌≤◌, length, OnOk};
+ghost use Rattle.codegen.specs.TermCode.{expr_code, height_of, IsAmong};
 ghost use Rattle.inline.specs.Flat.{term_tree};
 
 use crate::layout::Layout;
@@ -18,10 +17,11 @@ pub fn height(term: &Term) -> u32
 {
     match term {
         Term::Number(_, _) | Term::Truth(_) | Term::Variable(_) => 0,
-        Term::Prefix(_, _, operand) | Term::Rotate(_, operand, _) | Term::Convert(_, operand) => {
-            height(operand)
-        }
-        Term::Binary(_, _, left, right) => {
+        Term::Prefix(_, _, operand)
+        | Term::Rotate(_, operand, _)
+        | Term::Convert(_, operand)
+        | Term::Element(_, _, _, operand) => height(operand),
+        Term::Binary(_, _, _, left, right) => {
             let left = height(left);
             let right = height(right);
             left.max(1 + right)
@@ -38,14 +38,13 @@ pub fn height(term: &Term) -> u32
 /// An expression into the value register; its temporaries lie in slots from `free` on.
 pub fn expression(
     code: &mut Vec<Instr>,
-    layout: Layout,
+    layout: &Layout<'_>,
     free: u32,
     term: &Term,
 ) -> Result<(), AllocError>
-    requires variables { layout.variables ≤ 8192 }
-    requires places { IsUpTo layout.variables (term_tree term.now) }
+    requires among { IsAmong (length layout.now.declared) (term_tree term.now) }
     requires room { free + 4 * height_of (term_tree term.now) ≤ 65536 }
-    ensures { OnOk result (code.new.items ≡ code.old.items ++ expr_code free (term_tree term.now)) }
+    ensures { OnOk result (code.new.items ≡ code.old.items ++ expr_code layout.now.declared free (term_tree term.now)) }
 {
     match term {
         Term::Number(value, _) => emit::constant(code, Reg::X5, *value),
@@ -55,7 +54,7 @@ pub fn expression(
             expression(code, layout, free, operand)?;
             operators::prefix(code, *operator, *width)
         }
-        Term::Binary(operator, width, left, right) => {
+        Term::Binary(_, operator, width, left, right) => {
             expression(code, layout, free, left)?;
             emit::store(code, Reg::X5, free)?;
             expression(code, layout, free + 4, right)?;
@@ -79,6 +78,10 @@ pub fn expression(
             emit::load(code, Reg::X6, free + 4)?;
             emit::load(code, Reg::X7, free)?;
             emit::choice(code)
+        }
+        Term::Element(_, array, _, index) => {
+            expression(code, layout, free, index)?;
+            emit::element(code, layout.kind(*array), layout.variable(*array))
         }
     }
 }

@@ -5,9 +5,5 @@
 
 mod emit;
 mod expressions;
-mod generator;
 mod layout;
 mod operators;
-mod statements;
-
-pub use generator::generate;

@@ -3,7 +3,8 @@
 ghost use Rattle.std.specs.Prelude.{◌≡◌, ◌++◌, ◌∷◌, ◌<◌, [], OnOk};
 ghost use Rattle.rv_code.specs.declared.instructions.Instr.TheVariants.{Register, Multiply, Divide};
 ghost use Rattle.rv_code.specs.declared.operations.MultiplyOperation.TheVariants.{Mul};
-ghost use Rattle.codegen.specs.Emitted.{left_register, value_register, cut_code, is_zero_code, is_not_zero_code, both_truths_code, negation_code, operator_code, prefix_code, around_code, rotate_code};
+ghost use Rattle.codegen.specs.Registers.{left_register, value_register};
+ghost use Rattle.codegen.specs.TermCode.{cut_code, is_zero_code, is_not_zero_code, both_truths_code, negation_code, operator_code, prefix_code, around_code, rotate_code};
 ghost use Rattle.language.specs.Operators.{width_of};
 ghost use Rattle.word.specs.Widths.{bits};
 

@@ -1,0 +1,286 @@
+-- The code of a loop.
+use Rattle.std.proofs.Common.{◌≡◌, ◌≢◌, ℕ, zero, suc, ◌+◌, ◌-◌, ◌*◌, ◌%◌, ◌^◌, ◌<◌, ◌≤◌, true, false, nat_lt, List, [], ◌∷◌, ◌++◌, length, Some, slice_get, slice_index, refl, sym, ap, ap₂, ◌∙◌, arith, inr, append_assoc}
+use Rattle.std.proofs.lemmas.Bool.Decides.{nat_tests}
+use Rattle.std.proofs.lemmas.Option.{same_Some}
+use Rattle.inline.specs.Flat.{TermTree, word_as}
+use Rattle.inline.specs.FlatMeaning.{value_in, path_in, turns, path_of_turns}
+use Rattle.inline.specs.Path.{bounded}
+use Rattle.inline.specs.FlatSize.{term_nodes}
+use Rattle.inline.specs.FlatTyping.{types_of, HasType, counter_type}
+use Rattle.branch_removal.specs.Straight.{StraightBlock, repeats}
+use Rattle.branch_removal.specs.StraightMeaning.{StraightState, counted, after, after_all, path_at, path_along}
+use Rattle.codegen.specs.Emitted.{bounds_code, test_code, count_code}
+use Rattle.codegen.specs.Jumps.{loop_code}
+use Rattle.codegen.specs.Layout.{variable_offset, next_offset}
+use Rattle.codegen.specs.TermCode.{load_code, store_code, expr_code, height_of}
+use Rattle.word.specs.Operators.{word_of}
+use Rattle.rv_code.specs.declared.instructions.Instr.{Instr}
+use Rattle.rv_code.specs.declared.instructions.Instr.TheVariants as instr
+use Rattle.rv_code.specs.declared.operations.ImmediateOperation.TheVariants.{Addi}
+use Rattle.rv_code.specs.declared.operations.RegisterOperation.TheVariants.{Sltu}
+use Rattle.rv_machine.specs.Bytes.{ByteMap, number_at}
+use Rattle.rv_machine.specs.Effects.{sum_of}
+use Rattle.rv_machine.specs.Machine as machine
+use Rattle.codegen.proofs.Computing.{computing_runs}
+use Rattle.codegen.proofs.ExpressionRuns.{steps_of, expr_runs, pushed, value_word}
+use Rattle.codegen.proofs.Held.{HeldAt, held_regs}
+use Rattle.codegen.proofs.Jumps.{Still, looping}
+use Rattle.codegen.proofs.Pieces.{load_runs}
+use Rattle.codegen.proofs.Showing.{Shown, ready_with, ready_below, ready_behind, word_before, wrote_as}
+use Rattle.codegen.proofs.Slots.{Wrote, Hidden, hidden_then, hidden_less, hidden_by, hidden_wrote, hidden_beyond, hidden_number, put_wrote, other_number, ready_set}
+use Rattle.codegen.proofs.Stores.{store_runs}
+use Rattle.codegen.proofs.Straight.{Setting, base_of, none, Runs, seq, quiet, quietly, weaken, as_code, beside}
+use Rattle.codegen.proofs.Values.{Kept, Ready, Valued, kept_number, kept_less, put_there}
+
+-- So many turns are left, the next of them for this number: both of the loop's words tell it.
+pub record AtLoop (z : Setting) (next left i : ℕ) (env : StraightState) (s : machine.State) : Type 0 where
+  pub ready : Ready z env s
+  pub next_there : number_at s.bytes 4 (z.frame + next) ≡ Some i
+  pub bound : ℕ
+  pub left_is : bound - i ≡ left
+  pub bound_small : bound < 2 ^ 32
+  pub bound_there : number_at s.bytes 4 (z.frame + (next + 4)) ≡ Some bound
+
+-- whether a turn is left is in the value's register, and the number in the left operand's
+pub record TestedFor (z : Setting) (left i : ℕ) (env : StraightState) (s t : machine.State) : Type 0 where
+  pub held : HeldAt z t
+  pub six : t.regs 6 ≡ i
+  pub five : t.regs 5 ≡ word_of (nat_lt 0 left)
+  pub same : t.bytes ≡ s.bytes
+
+-- what is below a bound is as it was
+pub hidden_below : (z : Setting) (depth free : ℕ) (s t : machine.State) → next_offset z.declared z.controls depth ≤ free → Kept z free s t → Hidden z depth s t
+hidden_below z depth free s t above kept o low high = kept o (omega (arith, high, above))
+
+is_left : (bound i left : ℕ) → bound - i ≡ left → nat_lt i bound ≡ nat_lt 0 left
+is_left bound i zero e =
+    let no : bound ≤ i = omega (arith, e) in
+    grind (arith, nat_tests)
+is_left bound i (suc left) e =
+    let yes : i < bound = omega (arith, e) in
+    grind (arith, nat_tests)
+
+some_left : (left : ℕ) → word_of (nat_lt 0 (suc left)) ≡ 1
+some_left left =
+    let more : nat_lt 0 (suc left) ≡ true = grind (arith, nat_tests) in
+    ap word_of more
+
+module _ (z : Setting) (depth : ℕ) (within : depth < z.depths) where
+  abbrev next : ℕ
+  next = next_offset z.declared z.controls depth
+
+  next_inside : next + 8 ≤ z.size
+  next_inside = let room = z.room in omega (arith, room, within)
+
+  at_same : (left i : ℕ) (env : StraightState) (s t : machine.State) → AtLoop z next left i env s → HeldAt z t → t.bytes ≡ s.bytes → AtLoop z next left i env t
+  at_same left i env s t at held same = record {
+    ready = ready_with z env s t at.ready held same;
+    next_there = ap (λ (b : ByteMap). number_at b 4 (z.frame + next)) same ∙ at.next_there;
+    bound = at.bound;
+    left_is = at.left_is;
+    bound_small = at.bound_small;
+    bound_there = ap (λ (b : ByteMap). number_at b 4 (z.frame + (next + 4))) same ∙ at.bound_there;
+  }
+
+  held_still : (s t : machine.State) → HeldAt z s → Still s t → HeldAt z t
+  held_still s t held still = held_regs z s t (ap (λ (regs : ℕ → ℕ). regs 2) still.regs) still.bytes held
+
+  test_runs : (left i : ℕ) → Runs z 7 none (test_code next) (AtLoop z next left i) (TestedFor z left i)
+  test_runs left i =
+      let inside = next_inside in
+      weaken z {P = AtLoop z next left i}
+      (λ env s fine at. at)
+      (λ env s t fine at done.
+      let m2 = done.middle in
+      let m1 = done.first.middle in
+      let one = done.first.first in
+      let two = done.first.second in
+      let three = done.second in
+      let x6 : m2.regs 6 ≡ i = two.others 6 (λ e. omega arith) ∙ same_Some (m1.regs 6) i (sym one.there ∙ at.next_there) in
+      let x5 : m2.regs 5 ≡ at.bound = same_Some (m2.regs 5) at.bound (sym two.there ∙ (ap (λ (b : ByteMap). number_at b 4 (z.frame + (next + 4))) one.same ∙ at.bound_there)) in
+      record {
+        held = three.held;
+        six = ap (λ (regs : ℕ → ℕ). regs 6) three.registers ∙ x6;
+        five = ap (λ (regs : ℕ → ℕ). regs 5) three.registers ∙ (ap₂ (λ a b. word_of (nat_lt a b)) x6 x5 ∙ ap word_of (is_left at.bound i left at.left_is));
+        same = three.same ∙ (two.same ∙ one.same);
+      })
+      (quiet z
+      (quiet z
+      (weaken z {P' = AtLoop z next left i}
+      (λ env s fine at. at.ready.held)
+      (λ env s t fine at took. took)
+      (load_runs z 6 next (omega arith) (omega (arith, inside)) (omega arith) (λ e. omega arith) (λ e. omega arith)))
+      (load_runs z 5 (next + 4) (omega arith) (omega (arith, inside)) (omega arith) (λ e. omega arith) (λ e. omega arith))
+      (λ env s t at took. took.held))
+      (computing_runs z (instr.Register Sltu 5 6 5 ∷ []) refl)
+      (λ env s t at done. done.second.held))
+
+  -- The counter.
+
+  abbrev Turns : ℕ → ℕ → StraightState → machine.State → Type 0
+  Turns left i env u = AtLoop z next (suc left) i env u × (u.regs 6 ≡ i)
+
+  abbrev Counted : ℕ → ℕ → ℕ → StraightState → machine.State → machine.State → Type 0
+  Counted x left i env u v = AtLoop z next left (i + 1) (counted x i env) v × Hidden z depth u v
+
+  count_runs : (x left i : ℕ) → slice_get z.declared x ≡ Some (word_as counter_type false) → Runs z 7 none (count_code next (variable_offset z.declared x)) (Turns left i) (Counted x left i)
+  count_runs x left i known =
+      let o = variable_offset z.declared x in
+      let before = word_before z x counter_type false known in
+      let inside = next_inside in
+      let room = z.room in
+      weaken z {P = Turns left i}
+      (λ env s fine given. given)
+      (λ env u v fine given done.
+      let at = given.0 in
+      let m2 = done.middle in
+      let m1 = done.first.middle in
+      let one = done.first.first in
+      let two = done.first.second in
+      let three = done.second in
+      let small = at.bound_small in
+      let more = at.left_is in
+      let below : i < 2 ^ 32 = omega (arith, small, more) in
+      let below' : i + 1 < 2 ^ 32 = omega (arith, small, more) in
+      let wrote1 = wrote_as z 4 o (u.regs 6) i u m1 given.1 (put_wrote z 4 6 o env u m1 one) in
+      let ready1 = ready_set z x i counter_type false known below env u m1 at.ready wrote1 in
+      let ready2 = ready_with z (counted x i env) m1 m2 ready1 two.held two.same in
+      let six : m2.regs 6 ≡ i + 1 = ap (λ (regs : ℕ → ℕ). regs 6) two.registers ∙ (ap (λ a. sum_of a 1) (one.others 6 (λ e. omega arith) ∙ given.1) ∙ omega (arith, below')) in
+      let wrote2 = wrote_as z 4 next (m2.regs 6) (i + 1) m2 v six (put_wrote z 4 6 next env m2 v three) in
+      (record {
+        ready = ready_behind z 4 next (i + 1) (omega arith) (counted x i env) m2 v ready2 wrote2;
+        next_there = put_there z 6 next (i + 1) env m2 v three six below';
+        bound = at.bound;
+        left_is = omega (arith, more);
+        bound_small = at.bound_small;
+        bound_there =
+            other_number z 4 next (i + 1) 4 (next + 4) m2 v wrote2 (inr (omega arith))
+            ∙ (ap (λ (b : ByteMap). number_at b 4 (z.frame + (next + 4))) two.same
+            ∙ (other_number z 4 o i 4 (next + 4) u m1 wrote1 (inr (omega (arith, before))) ∙ at.bound_there));
+      },
+      hidden_then z depth u m2 v
+      (hidden_then z depth u m1 m2 (hidden_wrote z depth 4 o i u m1 (omega (arith, before)) wrote1) (hidden_by z depth m1 m2 two.same))
+      (hidden_beyond z depth 4 next (i + 1) m2 v (omega arith) wrote2)))
+      (quiet z
+      (quiet z
+      (weaken z {P' = Turns left i}
+      (λ env s fine given. given.0.ready.held)
+      (λ env s t fine given put. put)
+      (store_runs z 6 (omega arith) (λ e. omega arith) (λ e. omega arith) o (omega arith) (omega (arith, before, room))))
+      (computing_runs z (instr.Immediate Addi 6 6 1 ∷ []) refl)
+      (λ env s t given put. put.held))
+      (store_runs z 6 (omega arith) (λ e. omega arith) (λ e. omega arith) next (omega arith) (omega (arith, inside)))
+      (λ env s t given done. done.second.held))
+
+  -- Both bounds.
+
+  abbrev Begun : TermTree → TermTree → StraightState → machine.State → machine.State → Type 0
+  Begun low high env s t = AtLoop z next (value_in env.variables high - value_in env.variables low) (value_in env.variables low) env t × Hidden z depth s t
+
+  bounds_runs : (low high : TermTree) → HasType (types_of z.declared) low counter_type → HasType (types_of z.declared) high counter_type → base_of z + 4 * height_of low ≤ z.size → base_of z + 4 * height_of high ≤ z.size
+      → Runs z (16 * term_nodes low + 3 + (16 * term_nodes high + 3)) (λ env. path_in env.variables low ++ path_in env.variables high) (bounds_code z.declared next (base_of z) low high) (Ready z) (Begun low high)
+  bounds_runs low high has_low has_high room_low room_high =
+      let inside = next_inside in
+      let base : next + 8 ≤ base_of z = omega (arith, within) in
+      weaken z {P = Ready z}
+      (λ env s fine ready. ready)
+      (λ env s t fine ready done.
+      let m = done.middle in
+      let one = done.first in
+      let two = done.second in
+      let ready1 = ready_below z next (omega arith) env s m ready one.held one.kept in
+      (record {
+        ready = ready_below z (next + 4) (omega arith) env m t ready1 two.held two.kept;
+        next_there = kept_number z (next + 4) m t two.kept 4 next (omega arith) ∙ one.there;
+        bound = value_in env.variables high;
+        left_is = refl;
+        bound_small = value_word z.declared high counter_type env.variables ready.fits has_high;
+        bound_there = two.there;
+      },
+      hidden_then z depth s m t (hidden_below z depth next s m (omega arith) one.kept) (hidden_below z depth (next + 4) m t (omega arith) two.kept)))
+      (as_code z (append_assoc (expr_code z.declared (base_of z) low ++ store_code 5 next) (expr_code z.declared (base_of z) high) (store_code 5 (next + 4)))
+      (seq z
+      (pushed z low next (16 * term_nodes low) (λ env s ready. value_word z.declared low counter_type env.variables ready.fits has_low) (omega arith) (omega (arith, inside))
+      (weaken z {P' = Ready z}
+      (λ env s fine ready. ready)
+      (λ env s t fine ready valued. record { held = valued.held; there = valued.there; kept = kept_less z next (base_of z) s t (omega (arith, base)) valued.kept })
+      (expr_runs z has_low (base_of z) (omega arith) (omega arith) room_low)))
+      (pushed z high (next + 4) (16 * term_nodes high) (λ env s ready. value_word z.declared high counter_type env.variables ready.fits has_high) (omega arith) (omega (arith, inside))
+      (weaken z {P' = Ready z}
+      (λ env s fine ready. ready)
+      (λ env s t fine ready valued. record { held = valued.held; there = valued.there; kept = kept_less z (next + 4) (base_of z) s t (omega (arith, base)) valued.kept })
+      (expr_runs z has_high (base_of z) (omega arith) (omega arith) room_high)))
+      (λ env s t ready done. ready_below z next (omega arith) env s t ready done.held done.kept)))
+
+  module _ (x : ℕ) (low high : TermTree) (body : StraightBlock) (n : ℕ) {ys : List Instr}
+      (known : slice_get z.declared x ≡ Some (word_as counter_type false))
+      (has_low : HasType (types_of z.declared) low counter_type) (has_high : HasType (types_of z.declared) high counter_type)
+      (room_low : base_of z + 4 * height_of low ≤ z.size) (room_high : base_of z + 4 * height_of high ≤ z.size)
+      (near : 2 * (length (test_code next) + length (count_code next (variable_offset z.declared x) ++ ys)) + 8 < 2 ^ 19)
+      (inner : Runs z n (λ env. path_along env body) ys (Ready z) (Shown z (depth + 1) (λ env. after_all env body))) where
+    abbrev one_turn : ℕ → StraightState → StraightState
+    one_turn i env = after_all (counted x i env) body
+
+    abbrev Done : ℕ → ℕ → StraightState → machine.State → machine.State → Type 0
+    Done left i env u v = AtLoop z next left (i + 1) (one_turn i env) v × Hidden z depth u v
+
+    -- a turn
+    body_runs : (left i : ℕ) → Runs z (7 + n) (λ env. path_along (counted x i env) body) (count_code next (variable_offset z.declared x) ++ ys) (Turns left i) (Done left i)
+    body_runs left i =
+        weaken z {P = Turns left i}
+        (λ env s fine given. given)
+        (λ env u v fine given done.
+        let m = done.middle in
+        let first = done.first in
+        let shown = done.second in
+        (record {
+          ready = shown.ready;
+          next_there = hidden_number z (depth + 1) m v shown.hidden next (omega arith) (omega arith) ∙ first.0.next_there;
+          bound = first.0.bound;
+          left_is = first.0.left_is;
+          bound_small = first.0.bound_small;
+          bound_there = hidden_number z (depth + 1) m v shown.hidden (next + 4) (omega arith) (omega arith) ∙ first.0.bound_there;
+        },
+        hidden_then z depth u m v first.1 (hidden_less z depth (depth + 1) m v (omega arith) shown.hidden)))
+        (quietly z (count_runs x left i known) (beside z (counted x i) inner)
+        (λ env s t given first. first.0.ready))
+
+    abbrev Inv : ℕ → ℕ → StraightState → machine.State → machine.State → Type 0
+    Inv left i env o s = AtLoop z next left i env s × Hidden z depth o s
+
+    abbrev Over : StraightState → machine.State → machine.State → Type 0
+    Over env o u = Ready z env u × Hidden z depth o u
+
+    turned : (left i : ℕ) (env : StraightState) (o s t u v w : machine.State) → Inv (suc left) i env o s → TestedFor z (suc left) i env s t → Still t u → Done left i env u v → Still v w → Inv left (i + 1) (one_turn i env) o w
+    turned left i env o s t u v w inv tested still done back = (
+      at_same left (i + 1) (one_turn i env) v w done.0 (held_still v w done.0.ready.held back) back.bytes,
+      hidden_then z depth o s w inv.1 (hidden_then z depth s u w (hidden_by z depth s u (still.bytes ∙ tested.same)) (hidden_then z depth u v w done.1 (hidden_by z depth v w back.bytes))),
+    )
+
+    loop_runs : Runs z ((slice_index z.counts x + 1) * (7 + (7 + n) + 2)) (λ env. bounded x (value_in env.variables low) (value_in env.variables high) ∷ path_of_turns (value_in env.variables high - value_in env.variables low) (value_in env.variables low) one_turn (λ i e. path_along (counted x i e) body) env) (loop_code (test_code next) (count_code next (variable_offset z.declared x) ++ ys))
+        (λ env s. Inv (value_in env.variables high - value_in env.variables low) (value_in env.variables low) env s s)
+        (λ env s t. Over (turns (value_in env.variables high - value_in env.variables low) (value_in env.variables low) one_turn env) s t)
+    loop_runs =
+        looping z {A = λ left i. AtLoop z next left i} {B = λ left i. TestedFor z left i} {C = Turns} {D = Done}
+        (λ i env. path_along (counted x i env) body) one_turn Inv Over near
+        (λ left i env o s inv. inv.0)
+        (λ left i env o s t inv tested e. let f = tested.five ∙ some_left left in omega (arith, e, f))
+        (λ i env o s t inv tested. tested.five)
+        (λ left i env o s t u inv tested still. (at_same (suc left) i env s u inv.0 (held_still t u tested.held still) (still.bytes ∙ tested.same), ap (λ (regs : ℕ → ℕ). regs 6) still.regs ∙ tested.six))
+        turned
+        (λ i env o s t u inv tested still. (ready_with z env s u inv.0.ready (held_still t u tested.held still) (still.bytes ∙ tested.same), hidden_then z depth o s u inv.1 (hidden_by z depth s u (still.bytes ∙ tested.same))))
+        test_runs body_runs
+        x (λ env. value_in env.variables low) (λ env. value_in env.variables high)
+
+    -- both bounds, and then the turns
+    pub repeats_runs : Runs z (16 * term_nodes low + 3 + (16 * term_nodes high + 3) + (slice_index z.counts x + 1) * (7 + (7 + n) + 2)) (λ env. path_at env (repeats x low high body))
+        (bounds_code z.declared next (base_of z) low high ++ loop_code (test_code next) (count_code next (variable_offset z.declared x) ++ ys)) (Ready z) (Shown z depth (λ env. after env (repeats x low high body)))
+    repeats_runs =
+        weaken z {P = Ready z}
+        (λ env s fine ready. ready)
+        (λ env s t fine ready done. record {
+          ready = done.second.0;
+          hidden = hidden_then z depth s done.middle t done.first.1 done.second.1;
+        })
+        (seq z (bounds_runs low high has_low has_high room_low room_high) loop_runs
+        (λ env s t ready begun. (begun.0, λ o from to. refl)))

@@ -1,0 +1,93 @@
+-- What is shown after a piece of a statement's code.
+use Rattle.std.proofs.Common.{◌≡◌, ◌≢◌, ℕ, ◌+◌, ◌*◌, ◌%◌, ◌^◌, ◌<◌, ◌≤◌, ◌==◌, Bool, true, false, cond, List, Some, slice_get, slice_index, refl, sym, ap, ◌∙◌, subst, arith, inl, inr}
+use Rattle.inline.proofs.Fitting.{value_fits}
+use Rattle.inline.specs.declared.flat.FlatVariable.{FlatVariable}
+use Rattle.inline.specs.Fitting.{Fits}
+use Rattle.inline.specs.Flat.{TermTree, word_as}
+use Rattle.inline.specs.FlatMeaning.{Values, value_in}
+use Rattle.inline.specs.FlatTyping.{types_of, Suits}
+use Rattle.branch_removal.specs.StraightMeaning.{StraightState}
+use Rattle.codegen.specs.Layout.{variable_offset, result_offset, control_offset, next_offset}
+use Rattle.codegen.specs.TermCode.{height_of, expr_code}
+use Rattle.language.specs.declared.signature.Kind.{Kind}
+use Rattle.language.specs.declared.typing.WordType.{WordType}
+use Rattle.language.specs.Types.{bits_of}
+use Rattle.inline.specs.FlatSize.{term_nodes}
+use Rattle.rv_machine.specs.Machine as machine
+use Rattle.codegen.proofs.ExpressionRuns.{steps_of, expr_runs}
+use Rattle.codegen.proofs.Held.{HeldAt, held_regs}
+use Rattle.codegen.proofs.Jumps.{Still}
+use Rattle.codegen.proofs.Places.{bytes_of, place_of, place_within, ends_before_result}
+use Rattle.codegen.proofs.Slots.{Wrote, Hidden, hidden_then, hidden_by, hidden_kept, hidden_wrote, other_number}
+use Rattle.codegen.proofs.Straight.{Setting, base_of, Runs}
+use Rattle.codegen.proofs.Values.{Kept, Ready, Valued, kept_number, kept_by, ready_after}
+
+-- the state that is made of the one before is shown, and the words of the loops around are as they were
+pub record Shown (z : Setting) (depth : ℕ) (change : StraightState → StraightState) (env : StraightState) (s t : machine.State) : Type 0 where
+  pub ready : Ready z (change env) t
+  pub hidden : Hidden z depth s t
+
+-- a value that suits a type is within the type's kind
+pub suits_fits : (declared : List FlatVariable) (word : WordType) (e : TermTree) (m : Values) → Fits (types_of declared) m → Suits (types_of declared) word e → value_in m e < 2 ^ bits_of word.kind
+suits_fits declared word e m fits suits = subst (λ (kind : Kind). value_in m e < 2 ^ bits_of kind) suits.kind (value_fits (types_of declared) m fits suits.has_type)
+
+module _ (z : Setting) where
+  -- the code of an expression, with the first temporaries
+  pub value_runs : (word : WordType) (e : TermTree) → Suits (types_of z.declared) word e → base_of z + 4 * height_of e ≤ z.size → Runs z (16 * term_nodes e) (steps_of e) (expr_code z.declared (base_of z) e) (Ready z) (Valued z e (base_of z))
+  value_runs word e suits room = expr_runs z suits.has_type (base_of z) (omega arith) (omega arith) room
+
+  -- the state is shown after an expression as before it
+  pub ready_valued : (e : TermTree) (env : StraightState) (s t : machine.State) → Ready z env s → Valued z e (base_of z) env s t → Ready z env t
+  ready_valued e env s t ready valued = ready_after z env s t ready valued.held valued.kept
+
+  -- as long as nothing is written
+  pub ready_with : (env : StraightState) (s t : machine.State) → Ready z env s → HeldAt z t → t.bytes ≡ s.bytes → Ready z env t
+  ready_with env s t ready held same = ready_after z env s t ready held (kept_by z (base_of z) s t same)
+
+  pub ready_still : (env : StraightState) (s t : machine.State) → Ready z env s → Still s t → Ready z env t
+  ready_still env s t ready still = ready_with env s t ready (held_regs z s t (ap (λ (regs : ℕ → ℕ). regs 2) still.regs) still.bytes ready.held) still.bytes
+
+  -- or nothing below the words of the loops
+  pub ready_below : (free : ℕ) → next_offset z.declared z.controls 0 ≤ free → (env : StraightState) (s t : machine.State) → Ready z env s → HeldAt z t → Kept z free s t → Ready z env t
+  ready_below free above env s t ready held kept = record {
+    held = held;
+    fits = ready.fits;
+    variables_there = λ x d i is below.
+        let w = place_within z.declared x d i below in
+        let e = ends_before_result z.declared x d is in
+        kept_number z free s t kept (bytes_of d) (place_of z.declared x d i) (omega (arith, w, e, above)) ∙ ready.variables_there x d i is below;
+    controls_there = λ c below. kept_number z free s t kept 4 (control_offset z.declared c) (omega (arith, below, above)) ∙ ready.controls_there c below;
+  }
+
+  -- or only a number that lies behind
+  pub ready_behind : (n o w : ℕ) → next_offset z.declared z.controls 0 ≤ o → (env : StraightState) (s t : machine.State) → Ready z env s → Wrote z n o w s t → Ready z env t
+  ready_behind n o w above env s t ready wrote = record {
+    held = wrote.held;
+    fits = ready.fits;
+    variables_there = λ x d i is below.
+        let p = place_within z.declared x d i below in
+        let e = ends_before_result z.declared x d is in
+        other_number z n o w (bytes_of d) (place_of z.declared x d i) s t wrote (inl (omega (arith, p, e, above))) ∙ ready.variables_there x d i is below;
+    controls_there = λ c below. other_number z n o w 4 (control_offset z.declared c) s t wrote (inl (omega (arith, below, above))) ∙ ready.controls_there c below;
+  }
+
+  -- or only the result's slot
+  pub ready_result : (env : StraightState) (s t : machine.State) (w : ℕ) → Ready z env s → Wrote z 4 (result_offset z.declared) w s t → Ready z env t
+  ready_result env s t w ready wrote = record {
+    held = wrote.held;
+    fits = ready.fits;
+    variables_there = λ x d i is below.
+        let p = place_within z.declared x d i below in
+        let e = ends_before_result z.declared x d is in
+        other_number z 4 (result_offset z.declared) w (bytes_of d) (place_of z.declared x d i) s t wrote (inl (omega (arith, p, e))) ∙ ready.variables_there x d i is below;
+    controls_there = λ c below. other_number z 4 (result_offset z.declared) w 4 (control_offset z.declared c) s t wrote (inr (omega arith)) ∙ ready.controls_there c below;
+  }
+
+  -- a word that is declared lies before the result
+  pub word_before : (x : ℕ) (word : WordType) (mutable : Bool) → slice_get z.declared x ≡ Some (word_as word mutable) → variable_offset z.declared x + 4 ≤ result_offset z.declared
+  word_before x word mutable known =
+      let e = ends_before_result z.declared x (word_as word mutable) known in
+      omega (arith, e)
+
+  pub wrote_as : (n o v w : ℕ) (s t : machine.State) → v ≡ w → Wrote z n o v s t → Wrote z n o w s t
+  wrote_as n o v w s t is wrote = subst (λ u. Wrote z n o u s t) is wrote

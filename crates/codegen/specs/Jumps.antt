@@ -1,0 +1,28 @@
+-- Instructions that are run by turns or not at all: what stands between jumps.
+use Rattle.std.specs.Prelude.{ℕ, ◌+◌, ◌-◌, ◌*◌, ◌^◌, List, [], ◌∷◌, ◌++◌, length}
+use Rattle.rv_code.specs.declared.instructions.Instr.{Instr}
+use Rattle.rv_code.specs.declared.instructions.Instr.TheVariants.{Jump, Branch}
+use Rattle.rv_code.specs.declared.operations.BranchTest.TheVariants.{Bne}
+use Rattle.codegen.specs.Registers.{zero_register, value_register}
+
+-- over the next instruction, where the value is not 0
+abbrev pub skip : Instr
+skip = Branch Bne value_register zero_register 4
+
+-- over so many instructions
+abbrev pub over : ℕ → Instr
+over n = Jump zero_register (2 * n + 2)
+
+-- back to the first of so many instructions before it
+abbrev pub back : ℕ → Instr
+back n = Jump zero_register (2 ^ 20 - 2 * n)
+
+-- the first list where the value is not 0, and else the second
+abbrev pub branch_code : List Instr → List Instr → List Instr
+branch_code accepted otherwise =
+    skip ∷ over (length accepted + 1) ∷ (accepted ++ over (length otherwise) ∷ otherwise)
+
+-- a test, and as long as its value is not 0 the body, and the test again
+abbrev pub loop_code : List Instr → List Instr → List Instr
+loop_code test body =
+    test ++ (skip ∷ over (length body + 1) ∷ (body ++ back (length test + 2 + length body) ∷ []))
