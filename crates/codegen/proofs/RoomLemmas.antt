@@ -74,8 +74,9 @@ module _ (p : StraightProgram) (typed : IsTypedStraight p) (is : IsBounded p) wh
     parameters = parameters;
     declared = is.declared;
     nodes = is.nodes;
-    statements = let counted = is.counted in omega (arith, counted);
     work = is.work_fits;
+    worked = is.worked;
+    counted = let counted = is.counted in omega (arith, counted);
     frame = frame;
     code = code;
   }

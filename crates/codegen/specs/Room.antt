@@ -1,14 +1,14 @@
 -- Programs that the frame and an image have room for.
 use Rattle.std.specs.Prelude.{◌+◌, ◌*◌, ◌≤◌, length, map}
 use Rattle.std.specs.List.{AllByRecursion}
-use Rattle.branch_removal.specs.Bounds.{block_nodes}
+use Rattle.branch_removal.specs.Bounds.{block_nodes, block_work}
 use Rattle.branch_removal.specs.Straight.{StraightProgram}
 use Rattle.branch_removal.specs.StraightTyping.{IsTypedStraight}
 use Rattle.codegen.specs.Emitted.{depth_in_all}
 use Rattle.codegen.specs.Generated.{program_code, program_height}
 use Rattle.codegen.specs.Layout.{Frame}
 use Rattle.inline.specs.Flat.{declaration_of}
-use Rattle.inline.specs.FlatSize.{HasLength, declared_words}
+use Rattle.inline.specs.FlatSize.{HasLength, declared_words, value_nodes}
 use Rattle.intervals.specs.declared.limits.TheConstants.{MOST_WORK}
 use Rattle.language.specs.declared.limits.TheConstants.{MOST_NODES, MOST_DECLARED_BYTES}
 use Rattle.language.specs.declared.signature.Param.{Param}
@@ -19,8 +19,9 @@ pub record HasRoom (p : StraightProgram) : Type 0 where
   pub parameters : declared_words (map declaration_of p.parameters) ≤ declared_words p.declared
   pub declared : 4 * declared_words p.declared ≤ MOST_DECLARED_BYTES
   pub nodes : p.nodes ≤ MOST_NODES
-  pub statements : block_nodes p.body ≤ p.nodes
   pub work : p.work ≤ MOST_WORK
+  pub worked : block_work p.turns p.body + value_nodes p.value ≤ p.work
+  pub counted : block_nodes p.body ≤ p.nodes
   -- the words that lie behind the variables and the result
   pub frame : p.controls + 2 * depth_in_all p.body + program_height p ≤ p.nodes
   pub code : length (program_code p) ≤ 32 * p.nodes + 64

@@ -10,7 +10,7 @@ use Rattle.codegen.proofs.generator.code.Goals as goal
 pub statements-requires-clause-nodes : goal.statements-requires-clause-nodes
 statements-requires-clause-nodes c =
     let same = ap block_nodes c.body.ensures in
-    let few = c.requires.room.statements in
+    let few = c.requires.room.counted in
     let most = c.requires.room.nodes in
     omega (arith, same, few, most)
 
