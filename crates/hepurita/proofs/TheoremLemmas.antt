@@ -1,5 +1,6 @@
 -- An accepted text's image is the export, compiled; and what the passes ask of its export.
-use Rattle.std.proofs.Common.{◌≡◌, ℕ, List, [], length, Some, map, sym, subst, ◌∙◌}
+use Rattle.std.proofs.Common.{◌≡◌, ℕ, ◌≤◌, Bool, true, false, nat_lt, List, [], length, Some, map, refl, sym, ap, subst, ◌∙◌, arith}
+use Rattle.std.proofs.lemmas.Bool.Decides.{nat_tests}
 use Rattle.arguments.specs.Within.{AreWithin}
 use Rattle.branch_removal.specs.Removed.{IsRemoved}
 use Rattle.branch_removal.specs.Straight.{StraightProgram}
@@ -15,7 +16,12 @@ use Rattle.inline.specs.Numbering.{flattened, param_of}
 use Rattle.intervals.proofs.Safe.{accepted_is_safe, safe_runs_meet_no_fault}
 use Rattle.intervals.specs.Loose.{IsSafe}
 use Rattle.intervals.specs.Ranges.{range_violations, turns_of}
-use Rattle.intervals.specs.Work.{ranged}
+use Rattle.intervals.specs.Ranged.{RangedProgram}
+use Rattle.intervals.specs.Work.{ranged, work_of, work_violations}
+use Rattle.intervals.specs.declared.limits.TheConstants.{MOST_WORK}
+use Rattle.inline.specs.Flat.{FlatProgram}
+use Rattle.language.specs.Types.{at, when}
+use Rattle.language.specs.declared.rule.Rule.TheVariants.{TooMuchWork}
 use Rattle.hepurita.specs.Compiled.{Means, IsCompiled}
 use Rattle.language.specs.Grammatical.{IsGrammatical}
 use Rattle.language.specs.Meaning.{Ending, Gives, gives, exported}
@@ -46,6 +52,14 @@ module _ (program : ProgramTree) (export : ProcedureTree) (plain : HasGrammatica
   flat_sized =
       let is = small.well_formed in
       flat_is_sized export (calls_nothing program export is) (plain is.before export is.is_export) small.sized
+
+-- a body without too much work is within the limit
+pub within_work : (flat : FlatProgram) (r : RangedProgram) → r ≡ ranged flat → length (work_violations flat) ≡ 0 → r.work ≤ MOST_WORK
+within_work flat r is none = subst (λ (w : ℕ). w ≤ MOST_WORK) (sym (ap (λ (x : RangedProgram). x.work) is)) (by (nat_lt MOST_WORK (work_of flat)) refl none)
+  where
+    by : (over : Bool) → nat_lt MOST_WORK (work_of flat) ≡ over → length (at flat.place (when over TooMuchWork)) ≡ 0 → work_of flat ≤ MOST_WORK
+    by true is h = absurd (omega (arith, h))
+    by false is h = grind (arith, nat_tests)
 
 -- the one meaning on arguments, of an export that is safe
 safe_means : (program : ProgramTree) (export : ProcedureTree) → HasGrammaticalExport program → IsSmall program export → IsSafe (flattened export) (turns_of (flattened export)) → (args : List Arg) → AreWithin (map param_of export.parameters) args → Means program args (outcome_of (flattened export) args)

@@ -5,6 +5,7 @@ use Rattle.syntax.proofs.GrammarLemmas as grammar
 use Rattle.hepurita.specs.Built.{readable}
 use Rattle.hepurita.proofs.BuiltLemmas.{refusal_of_text, refusal_of_program}
 use Rattle.hepurita.proofs.Exports.{export_is_there}
+use Rattle.hepurita.proofs.BaseLemmas.{bases_of}
 use Rattle.hepurita.proofs.TheoremLemmas.{judged_compiled}
 use Rattle.hepurita.proofs.building.build.Goals as goal
 
@@ -29,4 +30,4 @@ returns-clause-accepted c =
     let made = c.in_ok-image.ensures.accepted in
     let judged = readable c.in_ok-program.ensures.accepted made.1 in
     let compiled = judged_compiled c.args.text.now program made.0 made.2.0 c.in_ok-image.image judged made.2.1 made.2.2 in
-    IfOk-weaker c.write.result _ _ (λ bytes h. record { program = program; export = made.0; image = c.in_ok-image.image; judged = judged; allowed = c.in_ok-image.ensures.allowed; spelled = h; compiled = compiled }) c.write.ensures.spelled
+    IfOk-weaker c.write.result _ _ (λ bytes h. record { program = program; export = made.0; image = c.in_ok-image.image; judged = judged; allowed = c.in_ok-image.ensures.allowed; spelled = h; compiled = compiled; bases = bases_of program made.0 c.in_ok-image.image made.1 compiled }) c.write.ensures.spelled

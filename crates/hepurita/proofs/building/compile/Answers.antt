@@ -1,25 +1,50 @@
-use Rattle.std.proofs.Common.{sym, subst}
+use Rattle.std.proofs.Common.{◌≡◌, ℕ, length, List, sym, subst, ap, ◌∙◌}
+use Rattle.std.proofs.lemmas.Result.{err_from_is_err_and}
 use Rattle.branch_removal.specs.Removed.{IsRemoved}
 use Rattle.inline.specs.Flat.{FlatProgram}
 use Rattle.inline.specs.FlatSize.{IsSized}
 use Rattle.inline.specs.FlatTyping.{IsTypedProgram}
+use Rattle.intervals.proofs.Safe.{accepted_is_safe}
+use Rattle.intervals.specs.Loose.{IsSafe}
+use Rattle.intervals.specs.Ranged.{RangedProgram}
+use Rattle.intervals.specs.Ranges.{range_violations}
+use Rattle.intervals.specs.Work.{ranged, work_violations}
+use Rattle.language.specs.declared.typing.Violation.{Violation}
 use Rattle.language.specs.Tree.{program_tree}
-use Rattle.hepurita.proofs.TheoremLemmas.{flat_sized, flat_typed}
+use Rattle.hepurita.specs.Built.{fine}
+use Rattle.hepurita.proofs.BuiltLemmas.{refusal_of_ranges}
+use Rattle.hepurita.proofs.TheoremLemmas.{flat_sized, flat_typed, within_work}
 use Rattle.hepurita.proofs.building.compile.Goals as goal
+
+pub returns-in_err-ranged-clause-refused : goal.returns-in_err-ranged-clause-refused
+returns-in_err-ranged-clause-refused c =
+    let p = err_from_is_err_and c.from_residual-in_err-ranged.result c.from_residual-in_err-ranged.ensures.1 in
+    let made = c.in_ok-flat.ensures.accepted in
+    rw (p.1, p.2) (refusal_of_ranges (program_tree c.args.program.now) made.0 c.in_ok-flat.flat c.in_err-ranged.field-0.0 made.1 made.2 c.in_err-ranged.ensures.refused)
 
 pub remove-requires : goal.remove-requires
 remove-requires c =
     let program = program_tree c.args.program.now in
     let made = c.in_ok-flat.ensures.accepted in
+    let is = c.in_ok-ranged.ensures.accepted in
+    let typed : IsTypedProgram c.in_ok-flat.flat = subst IsTypedProgram (sym made.2) (flat_typed program made.0 c.requires.grammatical made.1) in
+    let sized : IsSized c.in_ok-flat.flat = subst IsSized (sym made.2) (flat_sized program made.0 c.requires.grammatical made.1) in
+    let safe = accepted_is_safe c.in_ok-flat.flat typed c.in_ok-ranged.ensures.in_range in
     record {
-      typed = subst IsTypedProgram (sym made.2) (flat_typed program program made.0 c.requires.grammatical made.1);
-      sized = subst IsSized (sym made.2) (flat_sized program program made.0 c.requires.grammatical made.1);
+      typed = subst (λ (r : RangedProgram). IsTypedProgram r.flat) (sym is) typed;
+      sized = subst (λ (r : RangedProgram). IsSized r.flat) (sym is) sized;
+      counted = is ∙ ap (λ (r : RangedProgram). ranged r.flat) (sym is);
+      worked = within_work c.in_ok-flat.flat c.in_ok-ranged.ranged is c.in_ok-ranged.ensures.worked;
+      safe = subst (λ (r : RangedProgram). IsSafe r.flat r.turns) (sym is) safe;
     }
 
 pub generate-requires : goal.generate-requires
-generate-requires c = c.in_ok-straight.ensures.bounded
+generate-requires c = record { typed = c.in_ok-straight.ensures.typed; bounded = c.in_ok-straight.ensures.bounded }
 
 pub returns-clause-accepted : goal.returns-clause-accepted
 returns-clause-accepted c =
     let made = c.in_ok-flat.ensures.accepted in
-    (made.0, made.1, (c.in_ok-straight.straight, subst (λ (flat : FlatProgram). IsRemoved flat c.in_ok-straight.straight) made.2 c.in_ok-straight.ensures, c.in_ok-image.ensures))
+    let is = c.in_ok-ranged.ensures.accepted ∙ ap ranged made.2 in
+    let in_range = subst (λ (f : FlatProgram). length (range_violations f) ≡ 0) made.2 c.in_ok-ranged.ensures.in_range in
+    let in_time = subst (λ (f : FlatProgram). length (work_violations f) ≡ 0) made.2 c.in_ok-ranged.ensures.worked in
+    (made.0, fine made.1 in_range in_time, (c.in_ok-straight.straight, subst (λ (r : RangedProgram). IsRemoved r c.in_ok-straight.straight) is c.in_ok-straight.ensures, c.in_ok-image.ensures))

@@ -3,8 +3,9 @@ use Rattle.std.proofs.lemmas.Result.{err_from_is_err_and, IfErr-weaker}
 use Rattle.language.specs.declared.tree.Program.{Program}
 use Rattle.language.specs.Meaning.{exported}
 use Rattle.language.specs.Tree.{procedure_tree, program_tree}
-use Rattle.coverage.proofs.CompiledLemmas.{compiled_export}
-use Rattle.hepurita.proofs.BuiltLemmas.{refusal_of_coverage, refusal_of_types, refusal_of_sizes, judged_flat}
+use Rattle.hepurita.specs.Built.{IsWellFormed}
+use Rattle.hepurita.proofs.BuiltLemmas.{refusal_of_coverage, refusal_of_types, refusal_of_sizes, small_flat}
+use Rattle.hepurita.proofs.WithoutCalls.{calls_nothing}
 use Rattle.hepurita.proofs.judging.flat_of.Goals as goal
 
 pub returns-in-Some-clause-refused : goal.returns-in-Some-clause-refused
@@ -19,14 +20,17 @@ returns-in_err-checked-clause-refused c =
 pub inline-requires : goal.inline-requires
 inline-requires c =
     let is = ap (λ (q : Program). exported [] (program_tree q).procedures) (sym c.in_ok-checked.ensures.program) ∙ c.export.ensures in
-    record { compiled = compiled_export (program_tree c.args.program.now) (map procedure_tree c.export.result.0.now) (procedure_tree c.export.result.1.now) c.in_default.ensures is }
+    let well_formed : IsWellFormed (program_tree c.args.program.now) (procedure_tree c.export.result.1.now) = record { before = map procedure_tree c.export.result.0.now; compiled = c.in_default.ensures; typed = c.in_ok-checked.ensures.well_typed; is_export = is } in
+    record { calm = calls_nothing (program_tree c.args.program.now) (procedure_tree c.export.result.1.now) well_formed }
 
 pub returns-clause-accepted : goal.returns-clause-accepted
 returns-clause-accepted c =
     let is = ap (λ (q : Program). exported [] (program_tree q).procedures) (sym c.in_ok-checked.ensures.program) ∙ c.export.ensures in
-    judged_flat (program_tree c.args.program.now) (map procedure_tree c.export.result.0.now) (procedure_tree c.export.result.1.now) c.inline.result c.in_default.ensures c.in_ok-checked.ensures.well_typed is c.inline.ensures.accepted c.inline.ensures.within
+    let well_formed : IsWellFormed (program_tree c.args.program.now) (procedure_tree c.export.result.1.now) = record { before = map procedure_tree c.export.result.0.now; compiled = c.in_default.ensures; typed = c.in_ok-checked.ensures.well_typed; is_export = is } in
+    small_flat (program_tree c.args.program.now) (procedure_tree c.export.result.1.now) c.inline.result well_formed c.inline.ensures.accepted c.inline.ensures.within
 
 pub returns-clause-refused : goal.returns-clause-refused
 returns-clause-refused c =
     let is = ap (λ (q : Program). exported [] (program_tree q).procedures) (sym c.in_ok-checked.ensures.program) ∙ c.export.ensures in
-    IfErr-weaker c.inline.result _ _ (λ refusal. refusal_of_sizes (program_tree c.args.program.now) (map procedure_tree c.export.result.0.now) (procedure_tree c.export.result.1.now) refusal c.in_default.ensures c.in_ok-checked.ensures.well_typed is) c.inline.ensures.refused
+    let well_formed : IsWellFormed (program_tree c.args.program.now) (procedure_tree c.export.result.1.now) = record { before = map procedure_tree c.export.result.0.now; compiled = c.in_default.ensures; typed = c.in_ok-checked.ensures.well_typed; is_export = is } in
+    IfErr-weaker c.inline.result _ _ (λ refusal. refusal_of_sizes (program_tree c.args.program.now) (procedure_tree c.export.result.1.now) refusal well_formed) c.inline.ensures.refused

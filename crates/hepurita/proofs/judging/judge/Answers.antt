@@ -1,9 +1,11 @@
-use Rattle.std.proofs.Common.{ap, ◌∙◌}
+use Rattle.std.proofs.Common.{ap, subst, ◌∙◌, ◌≡◌, length}
 use Rattle.std.proofs.lemmas.Result.{err_from_is_err_and}
 use Rattle.inline.specs.Flat.{FlatProgram}
+use Rattle.intervals.specs.Ranges.{range_violations}
+use Rattle.intervals.specs.Work.{work_violations}
 use Rattle.language.specs.Tree.{program_tree}
-use Rattle.hepurita.specs.Built.{readable}
-use Rattle.hepurita.proofs.BuiltLemmas.{refusal_of_text, refusal_of_program}
+use Rattle.hepurita.specs.Built.{fine, readable}
+use Rattle.hepurita.proofs.BuiltLemmas.{refusal_of_text, refusal_of_program, refusal_of_ranges}
 use Rattle.hepurita.proofs.judging.judge.Goals as goal
 
 pub returns-in_err-program-clause-refused : goal.returns-in_err-program-clause-refused
@@ -16,8 +18,17 @@ returns-in_err-flat-clause-refused c =
     let p = err_from_is_err_and c.from_residual-in_err-flat.result c.from_residual-in_err-flat.ensures.1 in
     rw (p.1, p.2) (refusal_of_program c.args.text.now (program_tree c.in_ok-program.program) c.in_err-flat.field-0.0 c.in_ok-program.ensures.accepted c.in_err-flat.ensures.refused)
 
+pub returns-in_err-_ranged-clause-refused : goal.returns-in_err-_ranged-clause-refused
+returns-in_err-_ranged-clause-refused c =
+    let p = err_from_is_err_and c.from_residual-in_err-_ranged.result c.from_residual-in_err-_ranged.ensures.1 in
+    let made = c.in_ok-flat.ensures.accepted in
+    let refused = refusal_of_ranges (program_tree c.in_ok-program.program) made.0 c.in_ok-flat.flat c.in_err-_ranged.field-0.0 made.1 made.2 c.in_err-_ranged.ensures.refused in
+    rw (p.1, p.2) (refusal_of_program c.args.text.now (program_tree c.in_ok-program.program) c.in_err-_ranged.field-0.0 c.in_ok-program.ensures.accepted refused)
+
 pub returns-clause-accepted : goal.returns-clause-accepted
 returns-clause-accepted c =
     let made = c.in_ok-flat.ensures.accepted in
+    let in_range = subst (λ (f : FlatProgram). length (range_violations f) ≡ 0) made.2 c.in_ok-_ranged.ensures.in_range in
+    let in_time = subst (λ (f : FlatProgram). length (work_violations f) ≡ 0) made.2 c.in_ok-_ranged.ensures.worked in
     let params = c.in_ok-params.ensures.items_if_clones_equal (λ x y h. h) ∙ c.parameters.ensures ∙ ap (λ (flat : FlatProgram). flat.parameters) made.2 in
-    (made.0, readable c.in_ok-program.ensures.accepted made.1, params)
+    (made.0, readable c.in_ok-program.ensures.accepted (fine made.1 in_range in_time), params)
