@@ -1,6 +1,7 @@
 -- Straight code within the limits has room in a frame and in an image.
-use Rattle.std.proofs.Common.{ℕ, zero, suc, ◌+◌, ◌-◌, ◌*◌, ◌≤◌, List, [], ◌∷◌, ◌++◌, length, map, take, Option, None, Some, max, ap, arith, length-append}
+use Rattle.std.proofs.Common.{◌≡◌, ℕ, zero, suc, ◌+◌, ◌-◌, ◌*◌, ◌≤◌, List, [], ◌∷◌, ◌++◌, length, map, take, Option, None, Some, max, ap, subst, arith, length-append}
 use Rattle.std.proofs.Math.Nat.{max-le}
+use Rattle.std.proofs.lemmas.Option.{same_Some}
 use Rattle.branch_removal.specs.Bounds.{IsBounded}
 use Rattle.branch_removal.specs.Straight.{StraightProgram}
 use Rattle.branch_removal.specs.StraightTyping.{IsTypedStraight}
@@ -9,10 +10,14 @@ use Rattle.codegen.specs.Generated.{result_code, program_base, program_code, res
 use Rattle.codegen.specs.Layout.{result_offset}
 use Rattle.codegen.specs.Room.{HasRoom}
 use Rattle.codegen.proofs.CodeLengths.{block_length, block_room}
+use Rattle.codegen.specs.TermCode.{IsAmong}
 use Rattle.codegen.proofs.TermLengths.{height, store_length, expr_length}
+use Rattle.codegen.proofs.TermTypes.{typed_among}
 use Rattle.inline.specs.declared.flat.FlatVariable.{FlatVariable}
 use Rattle.inline.specs.Flat.{TermTree, declaration_of}
 use Rattle.inline.specs.FlatSize.{declared_words, value_nodes}
+use Rattle.inline.specs.FlatTyping.{types_of, IsResult}
+use Rattle.language.specs.declared.typing.WordType.{WordType}
 use Rattle.rv_code.specs.declared.instructions.Instr.TheVariants.{Ecall}
 
 result_length : (declared : List FlatVariable) (free : ℕ) (value : Option TermTree) → length (result_code declared free value) ≤ 32 * value_nodes value
@@ -71,7 +76,18 @@ module _ (p : StraightProgram) (typed : IsTypedStraight p) (is : IsBounded p) wh
     nodes = is.nodes;
     work = is.work_fits;
     worked = is.worked;
-    counted = let h = is.counted in omega (arith, h);
+    counted = let counted = is.counted in omega (arith, counted);
     frame = frame;
     code = code;
   }
+
+-- what the result's expression names is declared
+pub result_among : (declared : List FlatVariable) (returned : Option WordType) (value : Option TermTree) → IsResult (types_of declared) returned value
+    → (e : TermTree) → value ≡ Some e → IsAmong (length declared) e
+result_among declared None None typed e is = absurd (no_result is)
+  where
+    no_result : None ≡ Some e → ⊥
+    no_result h = cc
+result_among declared (Some word) (Some value) typed e is = subst (IsAmong (length declared)) (same_Some value e is) (typed_among declared typed.has_type)
+result_among declared None (Some value) typed e is = absurd typed
+result_among declared (Some word) None typed e is = absurd typed

@@ -6,6 +6,7 @@ use Rattle.branch_removal.specs.Straight.{StraightProgram}
 use Rattle.branch_removal.specs.StraightTyping.{IsTypedStraight}
 use Rattle.codegen.specs.Emitted.{depth_in_all}
 use Rattle.codegen.specs.Generated.{program_code, program_height}
+use Rattle.codegen.specs.Layout.{Frame}
 use Rattle.inline.specs.Flat.{declaration_of}
 use Rattle.inline.specs.FlatSize.{HasLength, declared_words, value_nodes}
 use Rattle.intervals.specs.declared.limits.TheConstants.{MOST_WORK}
@@ -24,3 +25,7 @@ pub record HasRoom (p : StraightProgram) : Type 0 where
   -- the words that lie behind the variables and the result
   pub frame : p.controls + 2 * depth_in_all p.body + program_height p ≤ p.nodes
   pub code : length (program_code p) ≤ 32 * p.nodes + 64
+
+-- how a program is laid out
+abbrev pub frame_of : StraightProgram → Frame
+frame_of p = record { declared = p.declared; controls = p.controls; depths = depth_in_all p.body }
