@@ -3,6 +3,7 @@ use Rattle.std.specs.Prelude.{ℕ, ◌+◌, ◌*◌, ◌≤◌, List, length, sl
 use Rattle.std.specs.List.{AllByRecursion}
 use Rattle.inline.specs.FlatSize.{HasLength, declared_words, term_nodes, terms_nodes, value_nodes}
 use Rattle.branch_removal.specs.Straight.{StraightTree, set, clear, fill, put, take, set_under, put_under, branch, repeats, StraightBlock, nothing, first, StraightProgram}
+use Rattle.intervals.specs.declared.limits.TheConstants.{MOST_WORK}
 use Rattle.language.specs.declared.limits.TheConstants.{MOST_NODES, MOST_DECLARED_BYTES}
 use Rattle.language.specs.declared.signature.Param.{Param}
 
@@ -65,5 +66,6 @@ pub record IsBounded (p : StraightProgram) : Type 0 where
   pub counted : block_nodes p.body + value_nodes p.value ≤ p.nodes
   pub nodes : p.nodes ≤ MOST_NODES
   pub worked : block_work p.turns p.body + value_nodes p.value ≤ p.work
+  pub work_fits : p.work ≤ MOST_WORK
   -- there are at most two control values for each condition that is taken
   pub controls : p.controls ≤ 2 * taken_in_all p.body

@@ -23,6 +23,10 @@ abbrev pub put_within : Option ℕ → Place → ℕ → ℕ → TermTree → Te
 put_within None place x size index value = put place x size index value
 put_within (Some control) place x size index value = put_under control place x size index value
 
+-- the condition of a branch on a secret, within the enclosing control value
+abbrev pub take_within : Option ℕ → ℕ → TermTree → StraightTree
+take_within within control condition = take control within condition
+
 -- a new array: its first values where some are written, else zeros
 abbrev pub made : ℕ → ℕ → List TermTree → StraightTree
 made x size [] = clear x size
@@ -37,7 +41,7 @@ abbrev mutual
   removed within control (assign x value) = single (set_within within x value)
   removed within control (flat.put place x size index value) = single (put_within within place x size index value)
   removed within control (branch Secret condition accepted otherwise) =
-      first (take control within condition)
+      first (take_within within control condition)
       (chain (removed_all (Some control) (control + 2) accepted) (removed_all (Some (control + 1)) (control + 2) otherwise))
   removed within control (branch Public condition accepted otherwise) =
       single (straight.branch condition (removed_all within control accepted) (removed_all within control otherwise))

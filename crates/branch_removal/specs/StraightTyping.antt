@@ -1,5 +1,5 @@
 -- Types of straight code. All variables are known everywhere; what branches, loops, indices and divisions go by is public.
-use Rattle.std.specs.Prelude.{◌≡◌, ℕ, ◌+◌, ◌<◌, ◌==◌, Bool, false, if◌then◌else◌, List, [], length, map, take as first_of, Option, None, Some, slice_get}
+use Rattle.std.specs.Prelude.{◌≡◌, ℕ, ◌+◌, ◌<◌, ◌==◌, if◌then◌else◌, Bool, false, List, [], length, map, take as first_of, Option, None, Some, slice_get}
 use Rattle.branch_removal.specs.Straight.{StraightTree, set, clear, fill, put, take, set_under, put_under, branch, repeats, StraightBlock, nothing, first, StraightProgram}
 use Rattle.inline.specs.declared.flat.FlatVariable.{FlatVariable}
 use Rattle.inline.specs.Flat.{TermTree, word_as, array_as, declaration_of}
@@ -17,11 +17,11 @@ pub record IsSet (declared : List FlatVariable) (x : ℕ) (value : TermTree) : T
   pub known : slice_get declared x ≡ Some (word_as word mutable)
   pub suits : Suits (types_of declared) word value
 
--- all variables but one
+-- the variables of a list but for one
 abbrev pub types_but : List FlatVariable → ℕ → Types
 types_but declared x = λ y. if y == x then None else slice_get declared y
 
--- an array of so many elements, and values for them, which do not mention it
+-- an array of so many elements, and values for them, which do not go by what it held before
 pub record IsFilled (declared : List FlatVariable) (x size : ℕ) (values : List TermTree) : Type 0 where
   pub word : WordType
   pub mutable : Bool

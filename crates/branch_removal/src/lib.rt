@@ -3,6 +3,9 @@
 // that of the body with real branches. Stands on `inline` and `intervals`.
 #![tactic(auto)]
 
+mod controls;
+mod removal;
 mod straight;
 
+pub use removal::remove;
 pub use straight::{Straight, StraightStatement};

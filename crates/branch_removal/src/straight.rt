@@ -62,7 +62,11 @@ impl<'f> Model for Straight<'f> {
 
 impl<'f> Straight<'f> {
     /// A body's straight code, with what stays as it was.
-    pub(crate) fn new(ranged: &'f Ranged<'_>, controls: u32, body: Vec<StraightStatement<'f>>) -> Self
+    pub(crate) fn new(
+        ranged: &'f Ranged<'_>,
+        controls: u32,
+        body: Vec<StraightStatement<'f>>,
+    ) -> Self
         ensures { result ≡ record { parameters = ranged.now.flat.parameters; returned = ranged.now.flat.returned; nodes = ranged.now.flat.nodes; work = ranged.now.work; turns = ranged.now.turns; declared = ranged.now.flat.declared; controls = controls; body = straight_block body.entry.items; value = ranged.now.flat.value } }
     {
         let flat = ranged.flat();

@@ -33,28 +33,28 @@ some_bit Uint8 = omega arith
 some_bit Uint16 = omega arith
 some_bit Uint32 = omega arith
 
-bit_fits : (b : Bool) → word_of b < 2
+pub bit_fits : (b : Bool) → word_of b < 2
 bit_fits true = omega arith
 bit_fits false = omega arith
 
 -- a number of a kind has its kind's bits
-number_fits : (k : Kind) (v : ℕ) → IsNumberKind k → IsWord (width_of k) v → IsWithinKind k v
+pub number_fits : (k : Kind) (v : ℕ) → IsNumberKind k → IsWord (width_of k) v → IsWithinKind k v
 number_fits Boolean v numeric h = absurd numeric
 number_fits Uint8 v numeric h = h
 number_fits Uint16 v numeric h = h
 number_fits Uint32 v numeric h = h
 
-wrapped_fits : (w : Width) (n : ℕ) → IsWord w (wrapped w n)
+pub wrapped_fits : (w : Width) (n : ℕ) → IsWord w (wrapped w n)
 wrapped_fits W8 n = omega arith
 wrapped_fits W16 n = omega arith
 wrapped_fits W32 n = omega arith
 
-complement_fits : (w : Width) (n : ℕ) → IsWord w (complemented w n)
+pub complement_fits : (w : Width) (n : ℕ) → IsWord w (complemented w n)
 complement_fits W8 n = omega arith
 complement_fits W16 n = omega arith
 complement_fits W32 n = omega arith
 
-fits_number : (k : Kind) (v : ℕ) → IsNumberKind k → IsWithinKind k v → IsWord (width_of k) v
+pub fits_number : (k : Kind) (v : ℕ) → IsNumberKind k → IsWithinKind k v → IsWord (width_of k) v
 fits_number Boolean v numeric h = absurd numeric
 fits_number Uint8 v numeric h = h
 fits_number Uint16 v numeric h = h
@@ -68,12 +68,12 @@ remainder_fits w a b low = let less = mod-le a b in omega (arith, low, less)
 
 -- Operators.
 
-prefix_fits : (operator : PrefixOperator) (k : Kind) (a : ℕ) → Takes operator k → IsWithinKind k (prefix_value operator (width_of k) a)
+pub prefix_fits : (operator : PrefixOperator) (k : Kind) (a : ℕ) → Takes operator k → IsWithinKind k (prefix_value operator (width_of k) a)
 prefix_fits Not k a is = subst (λ j. IsWithinKind j (word_of (not (truth_of a)))) (sym is) (bit_fits (not (truth_of a)))
 prefix_fits Complement k a numeric = number_fits k _ numeric (complement_fits (width_of k) a)
 prefix_fits Negate k a numeric = number_fits k _ numeric (wrapped_fits (width_of k) _)
 
-operated_fits : (operator : BinaryOperator) {one other whole : WordType} (a b : ℕ) → Makes (operation_of operator) one other whole
+pub operated_fits : (operator : BinaryOperator) {one other whole : WordType} (a b : ℕ) → Makes (operation_of operator) one other whole
     → IsWithinKind one.kind a → IsWithinKind other.kind b → IsWithinKind whole.kind (operated operator (width_of one.kind) a b)
 operated_fits Either a b logic low high = bit_fits (truth_of a || truth_of b)
 operated_fits Both a b logic low high = bit_fits (truth_of a && truth_of b)
@@ -95,14 +95,14 @@ operated_fits Divide a b (division {kind = k} numeric) low high = number_fits k 
 operated_fits Remainder a b (division {kind = k} numeric) low high = number_fits k _ numeric (remainder_fits (width_of k) a b (fits_number k a numeric low))
 
 -- an element is within the kind, or 0 where there is none
-element_fits : (kind : Kind) (numbers : List ℕ) (i : ℕ) → All (IsWithinKind kind) numbers → IsWithinKind kind (slice_index numbers i)
+pub element_fits : (kind : Kind) (numbers : List ℕ) (i : ℕ) → All (IsWithinKind kind) numbers → IsWithinKind kind (slice_index numbers i)
 element_fits kind numbers i within = by_place (nat_lt i (length numbers)) refl
   where
     by_place : (b : Bool) → nat_lt i (length numbers) ≡ b → IsWithinKind kind (slice_index numbers i)
     by_place true e = within i 0 (grind (arith, nat_tests, e))
     by_place false e = subst (λ v. IsWithinKind kind v) (sym (get_or_past numbers i 0 (grind (arith, nat_tests, e)))) (some_bit kind)
 
-either_fits : (kind : Kind) (b : Bool) (x y : ℕ) → IsWithinKind kind x → IsWithinKind kind y → IsWithinKind kind (if b then y else x)
+pub either_fits : (kind : Kind) (b : Bool) (x y : ℕ) → IsWithinKind kind x → IsWithinKind kind y → IsWithinKind kind (if b then y else x)
 either_fits kind true x y one other = other
 either_fits kind false x y one other = one
 

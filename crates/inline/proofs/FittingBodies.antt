@@ -24,17 +24,17 @@ use Rattle.inline.proofs.TypesKept.{types_kept, new_number}
 
 -- Values.
 
-one_held : (word : WordType) (mutable : Bool) (v : ℕ) → IsWithinKind word.kind v → IsHeld (word_as word mutable) (v ∷ [])
+pub one_held : (word : WordType) (mutable : Bool) (v : ℕ) → IsWithinKind word.kind v → IsHeld (word_as word mutable) (v ∷ [])
 one_held word mutable v below = record { count = refl; within = All-cons (IsWithinKind word.kind) v [] below (All-nil (IsWithinKind word.kind)) }
 
-fits_declared : (types : Types) (m : Values) (y : ℕ) (v : List ℕ) (own : FlatVariable) → IsHeld own v → Fits types m → Fits (with_type types y own) (with_value m y v)
+pub fits_declared : (types : Types) (m : Values) (y : ℕ) (v : List ℕ) (own : FlatVariable) → IsHeld own v → Fits types m → Fits (with_type types y own) (with_value m y v)
 fits_declared types m y v own here fits x d is = by_number (x == y) is
   where
     by_number : (b : Bool) → (if b then Some own else types x) ≡ Some d → IsHeld d (if b then v else m x)
     by_number true is = subst (λ (t : FlatVariable). IsHeld t v) (same_Some own d is) here
     by_number false is = fits x d is
 
-fits_assigned : (types : Types) (m : Values) (y : ℕ) (v : List ℕ) (own : FlatVariable) → types y ≡ Some own → IsHeld own v → Fits types m → Fits types (with_value m y v)
+pub fits_assigned : (types : Types) (m : Values) (y : ℕ) (v : List ℕ) (own : FlatVariable) → types y ≡ Some own → IsHeld own v → Fits types m → Fits types (with_value m y v)
 fits_assigned types m y v own there here fits x d is = by_number (x == y) refl
   where
     by_number : (b : Bool) → (x == y) ≡ b → IsHeld d (if b then v else m x)

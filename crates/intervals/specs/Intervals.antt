@@ -47,6 +47,11 @@ with_bound bounds x i = slice_set bounds x (Some i)
 abbrev pub fitting : Width → ℕ → ℕ → Interval
 fitting width low high = if nat_le low (greatest width) && nat_le high (greatest width) then between low high else full width
 
+-- a quotient by a power of two, where the amount is one number
+abbrev pub shifted_interval : Interval → Interval → Interval
+shifted_interval a b =
+    if b.low == b.high then between (a.low / 2 ^ (b.low % 32)) (a.high / 2 ^ (b.low % 32)) else between 0 a.high
+
 -- what an operator makes of two intervals, the left of this width
 abbrev pub operated_interval : BinaryOperator → Width → Interval → Interval → Interval
 operated_interval Either w a b = either_truth
@@ -61,8 +66,7 @@ operated_interval BitOr w a b = full w
 operated_interval BitXor w a b = full w
 operated_interval BitAnd w a b = between 0 (min a.high b.high)
 operated_interval ShiftLeft w a b = full w
-operated_interval ShiftRight w a b =
-    if b.low == b.high then between (a.low / 2 ^ (b.low % 32)) (a.high / 2 ^ (b.low % 32)) else between 0 a.high
+operated_interval ShiftRight w a b = shifted_interval a b
 operated_interval Add w a b = fitting w (a.low + b.low) (a.high + b.high)
 operated_interval Subtract w a b = if nat_le b.high a.low then between (a.low - b.high) (a.high - b.low) else full w
 operated_interval Multiply w a b = fitting w (a.low * b.low) (a.high * b.high)

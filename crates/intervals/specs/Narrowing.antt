@@ -1,5 +1,6 @@
 -- What a public condition tells in its arms of names that keep their values.
 use Rattle.std.specs.Prelude.{ℕ, ◌+◌, ◌-◌, Bool, true, false, nat_lt, nat_le, min, max, List, [], ◌∷◌, ◌++◌, Option, None, Some, if◌then◌else◌}
+use Rattle.std.specs.Option.{option_to_list}
 use Rattle.inline.specs.declared.flat.FlatVariable.{FlatVariable}
 use Rattle.inline.specs.Flat.{TermTree, variable, binary, number, truth, prefix, rotate, convert, select, element}
 use Rattle.intervals.specs.declared.interval.Interval.{Interval}
@@ -16,18 +17,17 @@ use Rattle.language.specs.declared.tree.BinaryOperator.TheVariants.{Both, Equal,
 abbrev pub says : ℕ → ℕ → ℕ → Option Said
 says x low high = Some (record { variable = x; interval = between low high })
 
--- what a comparison of a variable with a number of this interval tells where it is true: the number is above 0 where it
--- is above another
+-- what a comparison of a variable with a number of this interval tells where it is true: no number is below 0
 abbrev pub said_where_true : BinaryOperator → ℕ → Interval → Option Said
 said_where_true Less x e = if nat_lt 0 e.high then says x 0 (e.high - 1) else None
 said_where_true LessOrEqual x e = says x 0 e.high
 said_where_true Equal x e = says x e.low e.high
 said_where_true _ x e = None
 
--- and where it is false; the greatest number that the variable may be is given
+-- and where it is false; the greatest number that the variable may be is given, and none is above it
 abbrev pub said_where_false : BinaryOperator → ℕ → ℕ → Interval → Option Said
 said_where_false Less x greatest e = says x e.low greatest
-said_where_false LessOrEqual x greatest e = says x (e.low + 1) greatest
+said_where_false LessOrEqual x greatest e = if nat_lt e.low greatest then says x (e.low + 1) greatest else None
 said_where_false _ x greatest e = None
 
 -- the variable that an expression is
@@ -51,10 +51,6 @@ abbrev pub told_where_false : List FlatVariable → BinaryOperator → Option �
 told_where_false declared operator None e = None
 told_where_false declared operator (Some x) e = said_where_false operator x (full_at declared x).high e
 
-abbrev pub as_list : Option Said → List Said
-as_list None = []
-as_list (Some said) = said ∷ []
-
 abbrev pub is_both : BinaryOperator → Bool
 is_both Both = true
 is_both _ = false
@@ -68,7 +64,7 @@ told_true declared bounds (variable x) = []
 told_true declared bounds (prefix operator width operand) = []
 told_true declared bounds (binary place operator width left right) =
     if is_both operator then told_true declared bounds left ++ told_true declared bounds right
-    else as_list (told_where_true operator (named left) (interval declared bounds right))
+    else option_to_list (told_where_true operator (named left) (interval declared bounds right))
 told_true declared bounds (rotate width operand amount) = []
 told_true declared bounds (convert kind operand) = []
 told_true declared bounds (select condition accepted otherwise) = []
@@ -116,5 +112,5 @@ where_true declared bounds Public condition = met_all bounds (told_true declared
 where_true declared bounds Secret condition = bounds
 
 abbrev pub where_false : List FlatVariable → Bounds → Label → TermTree → Bounds
-where_false declared bounds Public condition = met_all bounds (as_list (told_false declared bounds condition))
+where_false declared bounds Public condition = met_all bounds (option_to_list (told_false declared bounds condition))
 where_false declared bounds Secret condition = bounds

@@ -2,13 +2,18 @@
 -- reaches it or not. And how many turns are counted for each loop.
 use Rattle.std.specs.Prelude.{ℕ, ◌-◌, ◌==◌, ◌&&◌, ◌||◌, Bool, not, nat_lt, nat_le, List, [], ◌∷◌, ◌++◌, length, map, replicate, Option, None, Some, if◌then◌else◌, slice_set}
 use Rattle.inline.specs.declared.flat.FlatVariable.{FlatVariable}
-use Rattle.inline.specs.Flat.{TermTree, number, truth, variable, prefix, binary, rotate, convert, select, element, FlatTree, declare, array, assign, put, branch, loop, FlatBlock, nothing, first, FlatProgram, declaration_of}
+use Rattle.inline.specs.Flat.{TermTree, number, truth, variable, prefix, binary, rotate, convert, select, element, FlatTree, declare, array, assign, put, branch, loop, FlatBlock, nothing, first, FlatProgram}
 use Rattle.intervals.specs.declared.interval.Interval.{Interval}
 use Rattle.intervals.specs.Intervals.{Bounds, with_bound, between, interval, full_of}
 use Rattle.intervals.specs.Narrowing.{where_true, where_false}
 use Rattle.language.specs.Operators.{divides}
 use Rattle.language.specs.Types.{at, is_secret, when}
 use Rattle.language.specs.declared.rule.Rule.TheVariants.{IndexOutOfRange, DivisorMayBeZero}
+use Rattle.language.specs.declared.signature.Form.{Form}
+use Rattle.language.specs.declared.signature.Form.TheVariants.{SingleWord, FixedArray, MutableArray}
+use Rattle.language.specs.declared.signature.Kind.{Kind}
+use Rattle.language.specs.declared.signature.Label.{Label}
+use Rattle.language.specs.declared.signature.Label.TheVariants.{Public, Secret}
 use Rattle.language.specs.declared.signature.Param.{Param}
 use Rattle.language.specs.declared.typing.Violation.{Violation}
 use Rattle.language.specs.declared.typing.WordType.{WordType}
@@ -104,12 +109,14 @@ module _ (declared : List FlatVariable) where
     counted_all bounds turns (first statement rest) = counted_all (bounds_after bounds statement) (counted bounds turns statement) rest
 
 -- what is known of a parameter: a public word is something of its kind
-abbrev pub first_bound : FlatVariable → Option ℕ → Option Interval
-first_bound d None = if is_steady d.word d.mutable then Some (full_of d.word.kind) else None
-first_bound d (Some size) = None
+abbrev pub bound_by : Form → Label → Kind → Option Interval
+bound_by SingleWord Public kind = Some (full_of kind)
+bound_by SingleWord Secret kind = None
+bound_by FixedArray label kind = None
+bound_by MutableArray label kind = None
 
 abbrev pub bound_of : Param → Option Interval
-bound_of p = first_bound (declaration_of p) (declaration_of p).elements
+bound_of p = bound_by p.form p.label p.kind
 
 -- what is known where the body begins: nothing of what it declares
 abbrev pub first_bounds : FlatProgram → Bounds

@@ -3,10 +3,20 @@
 #![tactic(auto)]
 
 mod interval;
+mod known;
+mod laws;
 mod limits;
+mod narrowing;
+mod operators;
 mod ranged;
+mod ranges;
 mod said;
+mod terms;
+mod walk;
+mod work;
 
 pub use interval::Interval;
+pub use laws::{safe_runs_meet_no_fault, strict_runs_are_loose};
 pub use limits::MOST_WORK;
 pub use ranged::Ranged;
+pub use ranges::check_ranges;

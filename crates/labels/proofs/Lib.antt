@@ -1,4 +1,4 @@
-mod SoonerLemmas
+pub mod SoonerLemmas
 mod TypeLemmas
 mod RuleLemmas
 mod ClashLemmas

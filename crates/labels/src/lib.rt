@@ -20,3 +20,4 @@ mod types;
 mod values;
 
 pub use checker::{Checked, check};
+pub use first::First;

@@ -1,0 +1,188 @@
+-- Straight code keeps the bounds of the body that it is made for.
+use Rattle.std.proofs.Common.{◌≡◌, ℕ, ◌+◌, ◌*◌, ◌≤◌, List, [], ◌∷◌, Option, None, Some, max, slice_index, refl, ap, arith}
+use Rattle.std.proofs.Math.Nat.{max-le}
+use Rattle.inline.specs.declared.flat.FlatVariable.{FlatVariable}
+use Rattle.inline.specs.Flat.{TermTree, FlatTree, declare, array, assign, put, branch, loop, FlatBlock, nothing, first, FlatProgram}
+use Rattle.inline.specs.Flat as flat
+use Rattle.inline.specs.FlatSize.{IsSized, term_nodes, tree_nodes, body_nodes}
+use Rattle.inline.specs.FlatTyping.{Types, types_after, with_type, IsTyped, AreTyped, IsTypedProgram}
+use Rattle.intervals.specs.declared.limits.TheConstants.{MOST_WORK}
+use Rattle.intervals.specs.Work.{tree_work, body_work, ranged}
+use Rattle.language.specs.declared.signature.Label.{Label}
+use Rattle.language.specs.declared.signature.Label.TheVariants.{Public, Secret}
+use Rattle.word.specs.declared.place.Place.{Place}
+use Rattle.branch_removal.specs.Bounds.{statement_nodes, block_nodes, statement_work, block_work, taken_in_all, IsBounded}
+use Rattle.branch_removal.specs.Removal.{set_within, put_within, removed, removed_all, controls_in, controls_in_all, straightened}
+use Rattle.branch_removal.specs.Straight.{StraightBlock, chain}
+use Rattle.branch_removal.specs.Straight as straight
+
+some_node : (e : TermTree) → 1 ≤ term_nodes e
+some_node (flat.number value kind) = omega arith
+some_node (flat.truth value) = omega arith
+some_node (flat.variable x) = omega arith
+some_node (flat.prefix operator width operand) = omega arith
+some_node (flat.binary place operator width left right) = omega arith
+some_node (flat.rotate width operand amount) = omega arith
+some_node (flat.convert kind operand) = omega arith
+some_node (flat.select condition accepted otherwise) = omega arith
+some_node (flat.element place x size index) = omega arith
+
+-- Nodes.
+
+nodes-chain : (these those : StraightBlock) → block_nodes (chain these those) ≡ block_nodes these + block_nodes those
+nodes-chain straight.nothing those = omega arith
+nodes-chain (straight.first statement these) those = omega (arith, nodes-chain these those)
+
+nodes_within : (within : Option ℕ) (x : ℕ) (value : TermTree) → statement_nodes (set_within within x value) ≡ 1 + term_nodes value
+nodes_within None x value = refl
+nodes_within (Some control) x value = refl
+
+nodes_put : (within : Option ℕ) (place : Place) (x size : ℕ) (index value : TermTree)
+    → statement_nodes (put_within within place x size index value) ≡ 1 + (1 + term_nodes index) + term_nodes value
+nodes_put None place x size index value = refl
+nodes_put (Some control) place x size index value = refl
+
+mutual
+  same_nodes : (within : Option ℕ) (control : ℕ) (s : FlatTree) → block_nodes (removed within control s) ≡ tree_nodes s
+  same_nodes within control (declare x word mutable value) = omega arith
+  same_nodes within control (array x word mutable size []) = omega arith
+  same_nodes within control (array x word mutable size (e ∷ es)) = omega arith
+  same_nodes within control (assign x value) = omega (arith, nodes_within within x value)
+  same_nodes within control (put place x size index value) = omega (arith, nodes_put within place x size index value)
+  same_nodes within control (branch Secret condition accepted otherwise) =
+      let xs = removed_all (Some control) (control + 2) accepted in
+      let ys = removed_all (Some (control + 1)) (control + 2) otherwise in
+      omega (arith, nodes-chain xs ys, same_nodes_all (Some control) (control + 2) accepted, same_nodes_all (Some (control + 1)) (control + 2) otherwise)
+  same_nodes within control (branch Public condition accepted otherwise) =
+      omega (arith, same_nodes_all within control accepted, same_nodes_all within control otherwise)
+  same_nodes within control (loop x low high body) = omega (arith, same_nodes_all within control body)
+
+  same_nodes_all : (within : Option ℕ) (control : ℕ) (b : FlatBlock) → block_nodes (removed_all within control b) ≡ body_nodes b
+  same_nodes_all within control nothing = refl
+  same_nodes_all within control (first s rest) =
+      omega (arith, nodes-chain (removed within control s) (removed_all within control rest), same_nodes within control s, same_nodes_all within control rest)
+
+-- Work.
+
+module _ (most : List ℕ) where
+  work-chain : (these those : StraightBlock) → block_work most (chain these those) ≡ block_work most these + block_work most those
+  work-chain straight.nothing those = omega arith
+  work-chain (straight.first statement these) those = omega (arith, work-chain these those)
+
+  work_within : (within : Option ℕ) (x : ℕ) (value : TermTree) → statement_work most (set_within within x value) ≡ 1 + term_nodes value
+  work_within None x value = refl
+  work_within (Some control) x value = refl
+
+  work_put : (within : Option ℕ) (place : Place) (x size : ℕ) (index value : TermTree)
+      → statement_work most (put_within within place x size index value) ≡ 1 + (1 + term_nodes index) + term_nodes value
+  work_put None place x size index value = refl
+  work_put (Some control) place x size index value = refl
+
+  module _ (declared : List FlatVariable) where
+    mutual
+      same_work : (types : Types) (label : Label) (s : FlatTree) → IsTyped declared types label s → (within : Option ℕ) (control : ℕ)
+          → block_work most (removed within control s) ≡ tree_work most s
+      same_work types label (declare x word mutable value) typed within control = omega arith
+      same_work types label (array x word mutable size []) typed within control = omega arith
+      same_work types label (array x word mutable size (e ∷ es)) typed within control = omega (arith, typed.2)
+      same_work types label (assign x value) typed within control = omega (arith, work_within within x value)
+      same_work types label (put place x size index value) typed within control = omega (arith, work_put within place x size index value)
+      same_work types label (branch Secret condition accepted otherwise) typed within control =
+          let xs = removed_all (Some control) (control + 2) accepted in
+          let ys = removed_all (Some (control + 1)) (control + 2) otherwise in
+          let one = same_work_all types Secret accepted typed.1 (Some control) (control + 2) in
+          let other = same_work_all types Secret otherwise typed.2 (Some (control + 1)) (control + 2) in
+          omega (arith, work-chain xs ys, one, other)
+      same_work types label (branch Public condition accepted otherwise) typed within control =
+          let one = same_work_all types label accepted typed.1 within control in
+          let other = same_work_all types label otherwise typed.2 within control in
+          omega (arith, one, other)
+      same_work types label (loop x low high body) typed within control =
+          let inner = same_work_all (with_type types x _) label body typed.3 within control in
+          let turns : (slice_index most x + 1) * (1 + block_work most (removed_all within control body)) ≡ (slice_index most x + 1) * (1 + body_work most body) =
+          ap (λ work. (slice_index most x + 1) * (1 + work)) inner in
+          omega (arith, turns)
+
+      pub same_work_all : (types : Types) (label : Label) (b : FlatBlock) → AreTyped declared types label b → (within : Option ℕ) (control : ℕ)
+          → block_work most (removed_all within control b) ≡ body_work most b
+      same_work_all types label nothing typed within control = refl
+      same_work_all types label (first s rest) typed within control =
+          let one = same_work types label s typed.0 within control in
+          let more = same_work_all (types_after types s) label rest typed.1 within control in
+          omega (arith, work-chain (removed within control s) (removed_all within control rest), one, more)
+
+-- Control values.
+
+taken-chain : (these those : StraightBlock) → taken_in_all (chain these those) ≡ taken_in_all these + taken_in_all those
+taken-chain straight.nothing those = omega arith
+taken-chain (straight.first statement these) those = omega (arith, taken-chain these those)
+
+-- what two arms take at most
+most_of_two : (a b m n : ℕ) → a ≤ 2 * m → b ≤ 2 * n → max a b ≤ 2 * (m + n)
+most_of_two a b m n p q = max-le (omega (arith, p)) (omega (arith, q))
+
+mutual
+  controls_taken : (within : Option ℕ) (control : ℕ) (s : FlatTree) → controls_in s ≤ 2 * taken_in_all (removed within control s)
+  controls_taken within control (declare x word mutable value) = omega arith
+  controls_taken within control (array x word mutable size values) = omega arith
+  controls_taken within control (assign x value) = omega arith
+  controls_taken within control (put place x size index value) = omega arith
+  controls_taken within control (branch Secret condition accepted otherwise) =
+      let xs = removed_all (Some control) (control + 2) accepted in
+      let ys = removed_all (Some (control + 1)) (control + 2) otherwise in
+      let most = most_of_two (controls_in_all accepted) (controls_in_all otherwise) (taken_in_all xs) (taken_in_all ys)
+      (controls_taken_all (Some control) (control + 2) accepted) (controls_taken_all (Some (control + 1)) (control + 2) otherwise) in
+      omega (arith, most, taken-chain xs ys)
+  controls_taken within control (branch Public condition accepted otherwise) =
+      let xs = removed_all within control accepted in
+      let ys = removed_all within control otherwise in
+      let most = most_of_two (controls_in_all accepted) (controls_in_all otherwise) (taken_in_all xs) (taken_in_all ys)
+      (controls_taken_all within control accepted) (controls_taken_all within control otherwise) in
+      omega (arith, most)
+  controls_taken within control (loop x low high body) = omega (arith, controls_taken_all within control body)
+
+  controls_taken_all : (within : Option ℕ) (control : ℕ) (b : FlatBlock) → controls_in_all b ≤ 2 * taken_in_all (removed_all within control b)
+  controls_taken_all within control nothing = omega arith
+  controls_taken_all within control (first s rest) =
+      let xs = removed within control s in
+      let ys = removed_all within control rest in
+      let most = most_of_two (controls_in s) (controls_in_all rest) (taken_in_all xs) (taken_in_all ys)
+      (controls_taken within control s) (controls_taken_all within control rest) in
+      omega (arith, most, taken-chain xs ys)
+
+mutual
+  few : (s : FlatTree) → controls_in s ≤ tree_nodes s
+  few (declare x word mutable value) = omega arith
+  few (array x word mutable size values) = omega arith
+  few (assign x value) = omega arith
+  few (put place x size index value) = omega arith
+  few (branch Secret condition accepted otherwise) =
+      let one = few_all accepted in
+      let other = few_all otherwise in
+      let most : max (controls_in_all accepted) (controls_in_all otherwise) ≤ body_nodes accepted + body_nodes otherwise = max-le (omega (arith, one)) (omega (arith, other)) in
+      omega (arith, most, some_node condition)
+  few (branch Public condition accepted otherwise) =
+      let one = few_all accepted in
+      let other = few_all otherwise in
+      let most : max (controls_in_all accepted) (controls_in_all otherwise) ≤ body_nodes accepted + body_nodes otherwise = max-le (omega (arith, one)) (omega (arith, other)) in
+      omega (arith, most)
+  few (loop x low high body) = omega (arith, few_all body)
+
+  few_all : (b : FlatBlock) → controls_in_all b ≤ body_nodes b
+  few_all nothing = omega arith
+  few_all (first s rest) = max-le (omega (arith, few s)) (omega (arith, few_all rest))
+
+-- there are no more control values than nodes
+pub few_controls : (p : FlatProgram) → IsSized p → controls_in_all p.body ≤ 6000
+few_controls p sized = omega (arith, few_all p.body, sized.counted, sized.nodes)
+
+pub bounded : (p : FlatProgram) → IsTypedProgram p → IsSized p → (ranged p).work ≤ MOST_WORK → IsBounded (straightened (ranged p))
+bounded p typed sized fits = record {
+  lengths = sized.lengths;
+  declared = sized.declared;
+  counted = omega (arith, same_nodes_all None 0 p.body, sized.counted);
+  nodes = sized.nodes;
+  worked = omega (arith, same_work_all (ranged p).turns p.declared _ Public p.body typed.body None 0);
+  work_fits = fits;
+  controls = controls_taken_all None 0 p.body;
+}

@@ -1,0 +1,14 @@
+pub mod Scopes
+pub mod Agreement
+pub mod Values
+pub mod Runs
+pub mod Unchanged
+pub mod Same
+pub mod Typed
+pub mod Public
+pub mod Loose
+pub mod Fine
+pub mod BoundLemmas
+pub mod Results
+pub mod Removed
+pub mod Statements

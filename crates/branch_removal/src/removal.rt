@@ -1,0 +1,138 @@
+ghost use Rattle.std.specs.Prelude.{◌≡◌, ◌+◌, ◌^◌, ◌<◌, ◌≤◌, map, IfOk, OnOk};
+ghost use Rattle.inline.specs.Flat.{term_tree, flat_tree, flat_block};
+ghost use Rattle.inline.specs.FlatSize.{IsSized};
+ghost use Rattle.inline.specs.FlatTyping.{IsTypedProgram};
+ghost use Rattle.intervals.specs.declared.limits.TheConstants.{MOST_WORK};
+ghost use Rattle.intervals.specs.Loose.{IsSafe};
+ghost use Rattle.intervals.specs.Work.{ranged as counted_for};
+ghost use Rattle.branch_removal.specs.Removal.{set_within, put_within, made, removed, removed_all, controls_in, controls_in_all};
+ghost use Rattle.branch_removal.specs.Removed.{IsRemoved};
+ghost use Rattle.branch_removal.specs.Straight.{straight_tree, straight_block, chain};
+
+use crate::controls::controls_in_all;
+use crate::{Straight, StraightStatement};
+use inline::{FlatStatement, Term};
+use intervals::Ranged;
+use language::Label;
+use std::alloc::{AllocError, Global};
+use word::Place;
+
+/// An assignment under the enclosing control value, where there is one.
+fn set_within<'f>(within: Option<u32>, variable: u32, value: &'f Term) -> StraightStatement<'f>
+    ensures { straight_tree result ≡ set_within within variable (term_tree value.now) }
+{
+    match within {
+        None => StraightStatement::Set(variable, value),
+        Some(control) => StraightStatement::SetUnder(control, variable, value),
+    }
+}
+
+/// An assignment to an element under the enclosing control value, where there is one.
+fn put_within<'f>(
+    within: Option<u32>,
+    place: Place,
+    variable: u32,
+    size: u32,
+    index: &'f Term,
+    value: &'f Term,
+) -> StraightStatement<'f>
+    ensures { straight_tree result ≡ put_within within place variable size (term_tree index.now) (term_tree value.now) }
+{
+    match within {
+        None => StraightStatement::Put(place, variable, size, index, value),
+        Some(control) => StraightStatement::PutUnder(control, place, variable, size, index, value),
+    }
+}
+
+/// A new array: its first values where some are written, else zeros.
+fn made<'f>(variable: u32, size: u32, values: &'f [Term]) -> StraightStatement<'f>
+    ensures { straight_tree result ≡ made variable size (map term_tree values.now) }
+{
+    match values {
+        [] => StraightStatement::Clear(variable, size),
+        _ => StraightStatement::Fill(variable, values),
+    }
+}
+
+/// Puts a statement's straight code behind what there is. Its own control values are from `control` on.
+#[cycle(removal)]
+fn push_removed<'f>(
+    alloc: Global,
+    code: &mut Vec<StraightStatement<'f>>,
+    within: Option<u32>,
+    control: u32,
+    statement: &'f FlatStatement,
+) -> Result<(), AllocError>
+    requires numbered { control + controls_in (flat_tree statement.now) < 2 ^ 32 }
+    ensures { OnOk result (straight_block code.new.items ≡ chain (straight_block code.old.items) (removed within control (flat_tree statement.now))) }
+{
+    match statement {
+        FlatStatement::Declare(variable, _, _, value) => {
+            code.push(StraightStatement::Set(*variable, value))?;
+        }
+        FlatStatement::DeclareArray(variable, _, _, size, values) => {
+            code.push(made(*variable, *size, values))?;
+        }
+        FlatStatement::Assign(variable, value) => {
+            code.push(set_within(within, *variable, value))?;
+        }
+        FlatStatement::AssignElement(place, variable, size, index, value) => {
+            code.push(put_within(within, *place, *variable, *size, index, value))?;
+        }
+        FlatStatement::Branch(label, condition, accepted, otherwise) => match label {
+            Label::Secret => {
+                code.push(StraightStatement::Take(control, within, condition))?;
+                push_removed_all(alloc, code, Some(control), control + 2, accepted)?;
+                push_removed_all(alloc, code, Some(control + 1), control + 2, otherwise)?;
+            }
+            Label::Public => {
+                let mut one = Vec::new(alloc);
+                push_removed_all(alloc, &mut one, within, control, accepted)?;
+                let mut other = Vec::new(alloc);
+                push_removed_all(alloc, &mut other, within, control, otherwise)?;
+                code.push(StraightStatement::Branch(condition, one, other))?;
+            }
+        },
+        FlatStatement::Loop(counter, low, high, body) => {
+            let mut turn = Vec::new(alloc);
+            push_removed_all(alloc, &mut turn, within, control, body)?;
+            code.push(StraightStatement::Repeat(*counter, low, high, turn))?;
+        }
+    }
+    Ok(())
+}
+
+/// The same for some statements.
+#[cycle(removal)]
+fn push_removed_all<'f>(
+    alloc: Global,
+    code: &mut Vec<StraightStatement<'f>>,
+    within: Option<u32>,
+    control: u32,
+    body: &'f [FlatStatement],
+) -> Result<(), AllocError>
+    requires numbered { control + controls_in_all (flat_block body.now) < 2 ^ 32 }
+    ensures { OnOk result (straight_block code.new.items ≡ chain (straight_block code.old.items) (removed_all within control (flat_block body.now))) }
+{
+    for statement in body {
+        push_removed(alloc, code, within, control, statement)?;
+    }
+    Ok(())
+}
+
+/// A well-typed body's straight code: its outcome is that of the body, it meets no fault, and what a run of it shows is
+/// decided by what is public.
+pub fn remove<'r>(alloc: Global, ranged: &'r Ranged<'_>) -> Result<Straight<'r>, AllocError>
+    requires typed { IsTypedProgram ranged.now.flat }
+    requires sized { IsSized ranged.now.flat }
+    requires counted { ranged.now ≡ counted_for ranged.now.flat }
+    requires worked { ranged.now.work ≤ MOST_WORK }
+    requires safe { IsSafe ranged.now.flat ranged.now.turns }
+    ensures { IfOk result (IsRemoved ranged.now) }
+{
+    let body = ranged.flat().body();
+    let controls = controls_in_all(body);
+    let mut code = Vec::new(alloc);
+    push_removed_all(alloc, &mut code, None, 0, body)?;
+    Ok(Straight::new(ranged, controls, code))
+}

@@ -1,0 +1,40 @@
+-- Work that is above the limit is the first of what is violated.
+use Rattle.std.proofs.Common.{◌≡◌, ℕ, ◌<◌, ◌≤◌, inr, Bool, true, false, nat_lt, [], length, refl, sym, subst, arith, Result, Ok, Err, OnOk, IfErr}
+use Rattle.std.proofs.lemmas.Bool.Decides.{nat_tests}
+use Rattle.std.proofs.lemmas.List.Elements.{All-cons, All-nil}
+use Rattle.inline.specs.Flat.{FlatProgram}
+use Rattle.intervals.specs.declared.limits.TheConstants.{MOST_WORK}
+use Rattle.intervals.specs.Work.{work_of, work_violations}
+use Rattle.language.specs.FirstViolation.{IsFirst, IsNoLaterThan}
+use Rattle.language.specs.Types.{at, when}
+use Rattle.language.specs.declared.rule.Rule.TheVariants.{TooMuchWork}
+use Rattle.language.specs.declared.typing.Violation.{Violation}
+use Rattle.word.specs.declared.place.Place.{Place}
+
+alone : (place : Place) → IsFirst (at place (when true TooMuchWork)) (record { place = place; rule = TooMuchWork })
+alone place =
+    let named : Violation = record { place = place; rule = TooMuchWork } in
+    record { there = (0, omega arith, refl); least = All-cons (IsNoLaterThan named) named [] (inr (refl, omega arith)) (All-nil (IsNoLaterThan named)) }
+
+above : (a b : ℕ) → a < b → nat_lt a b ≡ true
+above a b h = grind (arith, nat_tests)
+
+not_above : (a b : ℕ) → b ≤ a → nat_lt a b ≡ false
+not_above a b h = grind (arith, nat_tests)
+
+pub within_limit : (p : FlatProgram) → work_of p ≤ MOST_WORK → length (work_violations p) ≡ 0
+within_limit p few = subst (λ (b : Bool). length (at p.place (when b TooMuchWork)) ≡ 0) (sym (not_above MOST_WORK (work_of p) few)) refl
+
+pub above_limit : (p : FlatProgram) → (work_of p ≤ MOST_WORK → ⊥) → IsFirst (work_violations p) (record { place = p.place; rule = TooMuchWork })
+above_limit p many =
+    subst (λ (b : Bool). IsFirst (at p.place (when b TooMuchWork)) (record { place = p.place; rule = TooMuchWork })) (sym (above MOST_WORK (work_of p) (grind (arith, many)))) (alone p.place)
+
+-- what holds anyway holds on success
+pub on_any : {T E P : Type 0} (result : Result T E) → P → OnOk result P
+on_any (Ok value) p = p
+on_any (Err e) p = tt
+
+-- what holds of an error follows from what does
+pub on_error : {T E : Type 0} {P Q : E → Type 0} (result : Result T E) → ((e : E) → P e → Q e) → IfErr result P → IfErr result Q
+on_error (Ok value) f p = tt
+on_error (Err e) f p = f e p

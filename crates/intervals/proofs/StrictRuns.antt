@@ -1,0 +1,70 @@
+-- A strict run is a loose run: it comes to what the body means.
+use Rattle.std.proofs.Common.{ℕ, zero, suc, ◌+◌, ◌-◌, ◌==◌, Bool, true, false, if◌then◌else◌, List, [], ◌∷◌, map, Option, Some, None, refl}
+use Rattle.inline.specs.Flat.{TermTree, number, truth, variable, prefix, binary, rotate, convert, select, element, FlatTree, declare, array, assign, put, branch, loop, FlatBlock, nothing, first, FlatProgram}
+use Rattle.inline.specs.FlatMeaning.{Values, with_value, value_in, path_in, path_in_all, turns, path_of_turns, after, after_all, path_at, path_along, path_of_result, path_of, given, end_of}
+use Rattle.inline.specs.FlatTyping.{Types, types_of}
+use Rattle.intervals.specs.Loose.{Comes, to_number, to_truth, to_variable, to_prefix, to_binary, to_rotation, to_conversion, to_selection, to_element, ComeAll, none_left, one_more, Leads, declares, declares_array, assigns, puts, chooses, repeats, Turns, no_turn, a_turn, LeadAll, ends, goes_on, Returns, nothing_returned, returned, IsLooseRun}
+use Rattle.language.specs.declared.values.Arg.{Arg}
+
+module _ (types : Types) where
+  pub comes : (m : Values) (e : TermTree) → Comes types m e (value_in m e) (path_in m e)
+  comes m (number value kind) = to_number
+  comes m (truth value) = to_truth
+  comes m (variable x) = to_variable
+  comes m (prefix operator width operand) = to_prefix (comes m operand)
+  comes m (binary place operator width left right) = to_binary (comes m left) (comes m right)
+  comes m (rotate width operand amount) = to_rotation (comes m operand)
+  comes m (convert kind operand) = to_conversion (comes m operand)
+  comes m (select condition accepted otherwise) = to_selection (comes m condition) (comes m accepted) (comes m otherwise)
+  comes m (element place x size index) = to_element (comes m index)
+
+  pub come_all : (m : Values) (es : List TermTree) → ComeAll types m es (map (value_in m) es) (path_in_all m es)
+  come_all m [] = none_left
+  come_all m (e ∷ es) = one_more (comes m e) (come_all m es)
+
+  -- one of two arms
+  either : (b : Bool) (m : Values) (accepted otherwise : FlatBlock)
+      → LeadAll types m accepted (after_all m accepted) (path_along m accepted)
+      → LeadAll types m otherwise (after_all m otherwise) (path_along m otherwise)
+      → LeadAll types m (if b then otherwise else accepted) (if b then after_all m otherwise else after_all m accepted) (if b then path_along m otherwise else path_along m accepted)
+  either true m accepted otherwise one other = other
+  either false m accepted otherwise one other = one
+
+  -- the turns of a loop, where each leads on
+  turns_lead : (x : ℕ) (body : FlatBlock) → ((m : Values) → LeadAll types m body (after_all m body) (path_along m body)) → (n i : ℕ) (m : Values)
+      → Turns types x body n i m (turns n i (λ j t. after_all (with_value t x (j ∷ [])) body) m)
+      (path_of_turns n i (λ j t. after_all (with_value t x (j ∷ [])) body) (λ j t. path_along (with_value t x (j ∷ [])) body) m)
+  turns_lead x body each zero i m = no_turn
+  turns_lead x body each (suc n) i m =
+      a_turn (each (with_value m x (i ∷ []))) (turns_lead x body each n (i + 1) (after_all (with_value m x (i ∷ [])) body))
+
+  mutual
+    pub leads : (s : FlatTree) (m : Values) → Leads types m s (after m s) (path_at m s)
+    leads (declare x word mutable value) m = declares (comes m value)
+    leads (array x word mutable size []) m = declares_array none_left
+    leads (array x word mutable size (e ∷ es)) m = declares_array (one_more (comes m e) (come_all m es))
+    leads (assign x value) m = assigns (comes m value)
+    leads (put place x size index value) m = puts (comes m index) (comes m value)
+    leads (branch label condition accepted otherwise) m =
+        chooses (comes m condition) (either (value_in m condition == 0) m accepted otherwise (lead_all accepted m) (lead_all otherwise m))
+    leads (loop x low high body) m = repeats (comes m low) (comes m high) (turns_lead x body (λ t. lead_all body t) (value_in m high - value_in m low) (value_in m low) m)
+
+    pub lead_all : (b : FlatBlock) (m : Values) → LeadAll types m b (after_all m b) (path_along m b)
+    lead_all nothing m = ends
+    lead_all (first s rest) m = goes_on (leads s m) (lead_all rest (after m s))
+
+  result_comes : (m : Values) (value : Option TermTree) → Returns types m value (path_of_result m value)
+  result_comes m None = nothing_returned
+  result_comes m (Some value) = returned (comes m value)
+
+pub strict_is_loose : (p : FlatProgram) (args : List Arg) → IsLooseRun p args (path_of p args)
+strict_is_loose p args =
+    let types = types_of p.declared in
+    record {
+      end = end_of p args;
+      front = path_along (given p.declared args) p.body;
+      back = path_of_result (end_of p args) p.value;
+      body = lead_all types p.body (given p.declared args);
+      result = result_comes types (end_of p args) p.value;
+      whole = refl;
+    }

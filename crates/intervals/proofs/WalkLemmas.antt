@@ -1,0 +1,98 @@
+-- What branches and loops lead to, by the lists of their statements.
+use Rattle.std.proofs.lemmas.List.Sums.{fold-append}
+use Rattle.std.proofs.Common.{◌≡◌, ℕ, List, Option, Result, Ok, Err, OnOk, ◌++◌, Vec, Global, fold, slice_set, sym, ap, ap₂, ◌∙◌, ◌<◌, ◌+◌, length, drop, get_or, drop-cons, add-one}
+use Rattle.inline.specs.declared.flat.FlatStatement.{FlatStatement, Branch, Loop}
+use Rattle.inline.specs.declared.flat.FlatVariable.{FlatVariable}
+use Rattle.inline.specs.declared.flat.Term.{Term}
+use Rattle.inline.specs.Flat.{term_tree, flat_tree, flat_block, branch, loop, first}
+use Rattle.intervals.specs.declared.interval.Interval.{Interval}
+use Rattle.intervals.specs.Intervals.{Bounds, interval, with_bound}
+use Rattle.intervals.specs.Narrowing.{met, met_all, where_true, where_false}
+use Rattle.intervals.specs.declared.said.Said.{Said}
+use Rattle.intervals.specs.Ranges.{counted, counted_all, counter_interval, in_loop, most_turns, term_violations, violations, violations_all}
+use Rattle.intervals.proofs.TreeLemmas.{branch_tree, loop_tree}
+use Rattle.labels.specs.Sooner.{sooner}
+use Rattle.language.specs.declared.signature.Label.{Label}
+use Rattle.language.specs.declared.typing.Violation.{Violation}
+
+-- what holds on success follows from what does
+pub on_ok : {T E P Q : Type 0} (result : Result T E) → (P → Q) → OnOk result P → OnOk result Q
+on_ok (Ok value) f p = f p
+on_ok (Err e) f p = tt
+
+-- three lists of violations, one after another
+three_parts : (seen one two last : Option Violation) (e f g : List Violation)
+    → one ≡ fold sooner seen e → two ≡ fold sooner one f → last ≡ fold sooner two g → last ≡ fold sooner seen (e ++ f ++ g)
+three_parts seen one two last e f g a b c =
+    c ∙ (ap (λ s. fold sooner s g) (b ∙ (ap (λ s. fold sooner s f) a ∙ sym (fold-append sooner seen e f))) ∙ sym (fold-append sooner seen (e ++ f) g))
+
+module _ (declared : List FlatVariable) (bounds : Bounds) (statement : FlatStatement) where
+  module _ (label : Label) (condition : Term) (accepted otherwise : Vec FlatStatement Global) (is : statement ≡ Branch label condition accepted otherwise)
+      (ones others : List FlatStatement) (one : ones ≡ accepted.items) (other : others ≡ otherwise.items) (between : Bounds) (same : between ≡ bounds) where
+    tree : flat_tree statement ≡ branch label (term_tree condition) (flat_block accepted.items) (flat_block otherwise.items)
+    tree = ap flat_tree is ∙ branch_tree label condition accepted otherwise
+
+    pub branch_turns : (turns middle last : List ℕ)
+        → middle ≡ counted_all declared (where_true declared bounds label (term_tree condition)) turns (flat_block ones)
+        → last ≡ counted_all declared (where_false declared between label (term_tree condition)) middle (flat_block others)
+        → last ≡ counted declared bounds turns (flat_tree statement)
+    branch_turns turns middle last a o =
+        let first_arm = a ∙ ap (λ xs. counted_all declared (where_true declared bounds label (term_tree condition)) turns (flat_block xs)) one in
+        o ∙ (ap₂ (λ b xs. counted_all declared (where_false declared b label (term_tree condition)) middle (flat_block xs)) same other
+        ∙ (ap (λ ts. counted_all declared (where_false declared bounds label (term_tree condition)) ts (flat_block otherwise.items)) first_arm
+        ∙ sym (ap (counted declared bounds turns) tree)))
+
+    pub branch_seen : (seen of_condition of_accepted last : Option Violation)
+        → of_condition ≡ fold sooner seen (term_violations declared bounds (term_tree condition))
+        → of_accepted ≡ fold sooner of_condition (violations_all declared (where_true declared bounds label (term_tree condition)) (flat_block ones))
+        → last ≡ fold sooner of_accepted (violations_all declared (where_false declared between label (term_tree condition)) (flat_block others))
+        → last ≡ fold sooner seen (violations declared bounds (flat_tree statement))
+    branch_seen seen of_condition of_accepted last c a o =
+        three_parts seen of_condition of_accepted last (term_violations declared bounds (term_tree condition))
+        (violations_all declared (where_true declared bounds label (term_tree condition)) (flat_block accepted.items))
+        (violations_all declared (where_false declared bounds label (term_tree condition)) (flat_block otherwise.items)) c
+        (a ∙ ap (λ xs. fold sooner of_condition (violations_all declared (where_true declared bounds label (term_tree condition)) (flat_block xs))) one)
+        (o ∙ ap₂ (λ b xs. fold sooner of_accepted (violations_all declared (where_false declared b label (term_tree condition)) (flat_block xs))) same other)
+        ∙ sym (ap (λ s. fold sooner seen (violations declared bounds s)) tree)
+
+  module _ (counter : ℕ) (low high : Term) (body : Vec FlatStatement Global) (is : statement ≡ Loop counter low high body)
+      (ones : List FlatStatement) (one : ones ≡ body.items) (a b numbers : Interval)
+      (at_low : a ≡ interval declared bounds (term_tree low)) (at_high : b ≡ interval declared bounds (term_tree high)) (within : numbers ≡ counter_interval a b) where
+    whole : flat_tree statement ≡ loop counter (term_tree low) (term_tree high) (flat_block body.items)
+    whole = ap flat_tree is ∙ loop_tree counter low high body
+
+    inside : with_bound bounds counter numbers ≡ in_loop declared bounds counter (term_tree low) (term_tree high)
+    inside = ap (with_bound bounds counter) (within ∙ ap₂ counter_interval at_low at_high)
+
+    pub loop_turns : (turns counting last : List ℕ) (most : ℕ)
+        → most ≡ most_turns a b
+        → counting ≡ slice_set turns counter most
+        → last ≡ counted_all declared (with_bound bounds counter numbers) counting (flat_block ones)
+        → last ≡ counted declared bounds turns (flat_tree statement)
+    loop_turns turns counting last most m c l =
+        let counted_here = c ∙ ap (slice_set turns counter) (m ∙ ap₂ most_turns at_low at_high) in
+        l ∙ (ap₂ (λ bs xs. counted_all declared bs counting (flat_block xs)) inside one
+        ∙ (ap (λ ts. counted_all declared (in_loop declared bounds counter (term_tree low) (term_tree high)) ts (flat_block body.items)) counted_here
+        ∙ sym (ap (counted declared bounds turns) whole)))
+
+    pub loop_seen : (seen of_low of_high last : Option Violation)
+        → of_low ≡ fold sooner seen (term_violations declared bounds (term_tree low))
+        → of_high ≡ fold sooner of_low (term_violations declared bounds (term_tree high))
+        → last ≡ fold sooner of_high (violations_all declared (with_bound bounds counter numbers) (flat_block ones))
+        → last ≡ fold sooner seen (violations declared bounds (flat_tree statement))
+    loop_seen seen of_low of_high last l h t =
+        three_parts seen of_low of_high last (term_violations declared bounds (term_tree low)) (term_violations declared bounds (term_tree high))
+        (violations_all declared (in_loop declared bounds counter (term_tree low) (term_tree high)) (flat_block body.items)) l h
+        (t ∙ ap₂ (λ bs xs. fold sooner of_high (violations_all declared bs (flat_block xs))) inside one)
+        ∙ sym (ap (λ s. fold sooner seen (violations declared bounds s)) whole)
+
+-- what is left of the statements, the next one apart
+pub next_statement : (body : List FlatStatement) (i : ℕ) (d : FlatStatement) → i < length body
+    → flat_block (drop i body) ≡ first (flat_tree (get_or body i d)) (flat_block (drop (i + 1) body))
+next_statement body i d within =
+    ap flat_block (drop-cons body i d within) ∙ ap (λ n. first (flat_tree (get_or body i d)) (flat_block (drop n body))) (sym (add-one i))
+
+pub next_said : (bounds : Bounds) (told : List Said) (i : ℕ) (d : Said) → i < length told
+    → met_all bounds (drop i told) ≡ met_all (met bounds (get_or told i d)) (drop (i + 1) told)
+next_said bounds told i d within =
+    ap (met_all bounds) (drop-cons told i d within) ∙ ap (λ n. met_all (met bounds (get_or told i d)) (drop n told)) (sym (add-one i))

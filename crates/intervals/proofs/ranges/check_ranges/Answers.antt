@@ -1,0 +1,17 @@
+use Rattle.std.proofs.Common.{sym, ◌∙◌, inl, inr}
+use Rattle.intervals.specs.Ranges.{range_violations}
+use Rattle.labels.proofs.SoonerLemmas.{found_first, found_none}
+use Rattle.intervals.proofs.RefusalLemmas.{on_any, on_error}
+use Rattle.intervals.proofs.ranges.check_ranges.Goals as goal
+
+pub returns-in-Some-clause-refused : goal.returns-in-Some-clause-refused
+returns-in-Some-clause-refused c =
+    inl (inr (c.in-Some.first, found_first (range_violations c.args.flat.now) c.in-Some.first (sym c.in_ok-walk.ensures.first ∙ c.in-Some.is), c.at.ensures.rule, c.at.ensures.place))
+
+pub returns-in-None-clause-in_range : goal.returns-in-None-clause-in_range
+returns-in-None-clause-in_range c =
+    on_any c.with_work.result (found_none (range_violations c.args.flat.now) (sym c.in_ok-walk.ensures.first ∙ c.in-None.is))
+
+pub returns-in-None-clause-refused : goal.returns-in-None-clause-refused
+returns-in-None-clause-refused c =
+    on_error c.with_work.result (λ refusal h. inr (found_none (range_violations c.args.flat.now) (sym c.in_ok-walk.ensures.first ∙ c.in-None.is), h)) c.with_work.ensures.refused

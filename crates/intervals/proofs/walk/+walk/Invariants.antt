@@ -1,0 +1,19 @@
+use Rattle.std.proofs.Common.{◌≡◌, drop, fold}
+use Rattle.inline.specs.Flat.{flat_block}
+use Rattle.intervals.specs.Ranges.{bounds_after_all, counted_all, violations_all}
+use Rattle.intervals.specs.Undoing.{CameFrom}
+use Rattle.labels.specs.Sooner.{sooner}
+use Rattle.intervals.proofs.walk.+walk.Given as goal
+
+-- what is left of the statements leads to the same as all of them
+abbrev pub invariant-statements-loop-one : goal.invariant-statements-loop-one
+invariant-statements-loop-one l =
+    let rest = flat_block (drop l.one-index l.body) in
+    let all = flat_block l.fn.body in
+    record {
+      bounds : bounds_after_all l.declared l.walk.known.bounds.items rest ≡ bounds_after_all l.fn.declared l.fn.walk.known.bounds.items all;
+      from : CameFrom l.fn.walk.known l.walk.known;
+      turns : counted_all l.declared l.walk.known.bounds.items l.walk.turns.items rest ≡ counted_all l.fn.declared l.fn.walk.known.bounds.items l.fn.walk.turns.items all;
+      first : fold sooner l.walk.first.seen (violations_all l.declared l.walk.known.bounds.items rest) ≡ fold sooner l.fn.walk.first.seen (violations_all l.fn.declared l.fn.walk.known.bounds.items all);
+      declared : l.declared ≡ l.fn.declared;
+    }

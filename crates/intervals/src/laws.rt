@@ -1,0 +1,20 @@
+// The laws, which hold of the definitions alone.
+
+ghost use Rattle.std.specs.Prelude.{◌≡◌, ℕ, List};
+ghost use Rattle.arguments.specs.Within.{AreWithin};
+ghost use Rattle.inline.specs.Flat.{FlatProgram};
+ghost use Rattle.inline.specs.FlatMeaning.{ending_of, outcome_of, path_of};
+ghost use Rattle.intervals.specs.Loose.{IsLooseRun, IsSafe};
+ghost use Rattle.language.specs.Meaning.{gives};
+ghost use Rattle.language.specs.declared.values.Arg.{Arg};
+
+/// What a program means is one of its loose runs.
+pub fn strict_runs_are_loose()
+    ensures { (p : FlatProgram) (args : List Arg) → IsLooseRun p args (path_of p args) }
+{}
+
+/// A safe program meets no fault on arguments within its parameter types.
+pub fn safe_runs_meet_no_fault()
+    ensures { (p : FlatProgram) (turns : List ℕ) (args : List Arg) → IsSafe p turns → AreWithin p.parameters args
+        → ending_of p args ≡ gives (outcome_of p args) }
+{}

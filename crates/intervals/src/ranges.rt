@@ -1,0 +1,108 @@
+ghost use Rattle.std.specs.Prelude.{◌≡◌, None, fold, length, map, replicate, IfErr, IfOk, OnOk};
+ghost use Rattle.intervals.specs.Ranges.{bound_by, bound_of, first_bounds, range_violations, result_violations, turns_of};
+ghost use Rattle.intervals.specs.Work.{IsRefusedByRanges, ranged, work_violations};
+ghost use Rattle.labels.specs.Sooner.{sooner};
+ghost use Rattle.language.specs.FirstViolation.{IsRefusedFor};
+
+use crate::known::Known;
+use crate::operators::full_of;
+use crate::terms::note_term;
+use crate::walk::{Walk, statements};
+use crate::work::work;
+use crate::{Interval, Ranged};
+use inline::Flat;
+use labels::First;
+use language::{Form, Label, Param, Refusal, Rule};
+use std::alloc::{AllocError, Global};
+
+/// What is known of a parameter: a public word is something of its kind.
+fn bound_of(parameter: Param) -> Option<Interval>
+    ensures { result ≡ bound_of parameter }
+{
+    match parameter.form {
+        Form::SingleWord => match parameter.label {
+            Label::Public => Some(full_of(parameter.kind)),
+            Label::Secret => None,
+        },
+        Form::FixedArray => None,
+        Form::MutableArray => None,
+    }
+}
+
+/// What is known of parameters.
+fn bounds_of(alloc: Global, parameters: &[Param]) -> Result<Vec<Option<Interval>>, AllocError>
+    ensures { IfOk result (λ bounds. bounds.items ≡ map bound_of parameters.now) }
+{
+    let mut bounds = Vec::new(alloc);
+    for parameter in parameters {
+        bounds.push(bound_of(*parameter))?;
+    }
+    Ok(bounds)
+}
+
+/// What is known where the body begins: nothing of what it declares.
+fn first_bounds(alloc: Global, flat: &Flat) -> Result<Vec<Option<Interval>>, AllocError>
+    ensures { IfOk result (λ bounds. bounds.items ≡ first_bounds flat.now) }
+{
+    let parameters = flat.parameters();
+    let mut bounds = bounds_of(alloc, parameters)?;
+    for _ in parameters.len()..flat.declared().len() {
+        bounds.push(None)?;
+    }
+    Ok(bounds)
+}
+
+/// A walk over a whole program.
+fn walked(alloc: Global, flat: &Flat) -> Result<Walk, AllocError>
+    ensures turns { IfOk result (λ walk. walk.turns.items ≡ turns_of flat.now) }
+    ensures first { IfOk result (λ walk. walk.first.seen ≡ fold sooner None (range_violations flat.now)) }
+{
+    let declared = flat.declared();
+    let mut walk = Walk {
+        known: Known {
+            alloc,
+            bounds: first_bounds(alloc, flat)?,
+            changes: Vec::new(alloc),
+        },
+        turns: vec![in alloc; 0; declared.len()]?,
+        first: First { seen: None },
+    };
+    statements(declared, &mut walk, flat.body())?;
+    if let Some(value) = flat.value() {
+        note_term(
+            &mut walk.first,
+            declared,
+            walk.known.bounds.as_slice(),
+            value,
+        );
+    }
+    Ok(walk)
+}
+
+/// The body with these turns and its work, where that is within the limit.
+fn with_work<'f>(flat: &'f Flat, turns: Vec<u32>) -> Result<Ranged<'f>, Refusal>
+    requires { turns.items ≡ turns_of flat.now }
+    ensures accepted { IfOk result (λ result. result ≡ ranged flat.now) }
+    ensures worked { OnOk result (length (work_violations flat.now) ≡ 0) }
+    ensures refused { IfErr result (λ refusal. IsRefusedFor (work_violations flat.now) refusal.rule refusal.place) }
+{
+    match work(turns.as_slice(), flat) {
+        Some(work) => Ok(Ranged::new(flat, turns, work)),
+        None => Err(Refusal::at(Rule::TooMuchWork, flat.place())),
+    }
+}
+
+/// The body with what is counted for it, where each index is within its array, no divisor is 0 and the work is within
+/// the limit; else the first of these that is not so, the work last.
+pub fn check_ranges<'f>(alloc: Global, flat: &'f Flat) -> Result<Ranged<'f>, Refusal>
+    ensures accepted { IfOk result (λ result. result ≡ ranged flat.now) }
+    ensures in_range { OnOk result (length (range_violations flat.now) ≡ 0) }
+    ensures worked { OnOk result (length (work_violations flat.now) ≡ 0) }
+    ensures refused { IfErr result (λ refusal. IsRefusedByRanges flat.now refusal.rule refusal.place) }
+{
+    let walk = walked(alloc, flat)?;
+    match walk.first.seen {
+        Some(first) => Err(Refusal::at(first.rule, first.place)),
+        None => with_work(flat, walk.turns),
+    }
+}

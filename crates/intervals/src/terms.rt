@@ -1,0 +1,132 @@
+ghost use Rattle.std.specs.Prelude.{◌≡◌, fold, map};
+ghost use Rattle.inline.specs.Flat.{term_tree, variable};
+ghost use Rattle.intervals.specs.Intervals.{full_at, interval};
+ghost use Rattle.intervals.specs.Ranges.{index_violations, term_violations, terms_violations};
+ghost use Rattle.labels.specs.Sooner.{sooner};
+
+use crate::Interval;
+use crate::known::bound_of;
+use crate::operators::{
+    EITHER_TRUTH, converted_interval, full, full_of, hull, operated_interval, prefix_interval,
+};
+use inline::{FlatVariable, Term};
+use labels::First;
+use language::{Kind, Place, Rule};
+
+/// All that a variable, or an element of an array, may be.
+pub fn full_at(declared: &[FlatVariable], variable: u32) -> Interval
+    ensures { result ≡ full_at declared.now variable }
+{
+    match declared.get(variable as usize) {
+        Some(declaration) => full_of(declaration.word.kind),
+        None => full_of(Kind::Uint32),
+    }
+}
+
+/// The interval of a variable.
+fn interval_of(declared: &[FlatVariable], bounds: &[Option<Interval>], x: u32) -> Interval
+    ensures { result ≡ interval declared.now bounds.now (variable x) }
+{
+    match bound_of(bounds, x) {
+        Some(bound) => bound,
+        None => full_at(declared, x),
+    }
+}
+
+/// The interval of an expression, by what is known of the variables.
+pub fn interval(declared: &[FlatVariable], bounds: &[Option<Interval>], term: &Term) -> Interval
+    ensures { result ≡ interval declared.now bounds.now (term_tree term.now) }
+{
+    match term {
+        Term::Number(value, _) => Interval {
+            low: *value,
+            high: *value,
+        },
+        Term::Truth(_) => EITHER_TRUTH,
+        Term::Variable(x) => interval_of(declared, bounds, *x),
+        Term::Prefix(operator, width, _) => prefix_interval(*operator, *width),
+        Term::Binary(_, operator, width, left, right) => {
+            let left = interval(declared, bounds, left);
+            let right = interval(declared, bounds, right);
+            operated_interval(*operator, *width, left, right)
+        }
+        Term::Rotate(width, _, _) => full(*width),
+        Term::Convert(kind, operand) => {
+            converted_interval(*kind, interval(declared, bounds, operand))
+        }
+        Term::Select(_, accepted, otherwise) => {
+            let accepted = interval(declared, bounds, accepted);
+            hull(accepted, interval(declared, bounds, otherwise))
+        }
+        Term::Element(_, x, _, _) => full_at(declared, *x),
+    }
+}
+
+/// Notes an index of this interval that may not be below the size of its array.
+pub fn note_index(first: &mut First, place: Place, size: u32, index: Interval)
+    ensures { first.new.seen ≡ fold sooner first.old.seen (index_violations place size index) }
+{
+    first.note_if(size <= index.high, place, Rule::IndexOutOfRange);
+}
+
+/// Notes the indices and divisors of an expression that are out of range, and gives its interval.
+pub fn note_term(
+    first: &mut First,
+    declared: &[FlatVariable],
+    bounds: &[Option<Interval>],
+    term: &Term,
+) -> Interval
+    ensures interval { result ≡ interval declared.now bounds.now (term_tree term.now) }
+    ensures first { first.new.seen ≡ fold sooner first.old.seen (term_violations declared.now bounds.now (term_tree term.now)) }
+{
+    match term {
+        Term::Number(value, _) => Interval {
+            low: *value,
+            high: *value,
+        },
+        Term::Truth(_) => EITHER_TRUTH,
+        Term::Variable(x) => interval_of(declared, bounds, *x),
+        Term::Prefix(operator, width, operand) => {
+            note_term(first, declared, bounds, operand);
+            prefix_interval(*operator, *width)
+        }
+        Term::Binary(place, operator, width, left, right) => {
+            let left = note_term(first, declared, bounds, left);
+            let right = note_term(first, declared, bounds, right);
+            let may_be_zero = operator.divides() && right.low == 0;
+            first.note_if(may_be_zero, *place, Rule::DivisorMayBeZero);
+            operated_interval(*operator, *width, left, right)
+        }
+        Term::Rotate(width, operand, _) => {
+            note_term(first, declared, bounds, operand);
+            full(*width)
+        }
+        Term::Convert(kind, operand) => {
+            converted_interval(*kind, note_term(first, declared, bounds, operand))
+        }
+        Term::Select(condition, accepted, otherwise) => {
+            note_term(first, declared, bounds, condition);
+            let accepted = note_term(first, declared, bounds, accepted);
+            hull(accepted, note_term(first, declared, bounds, otherwise))
+        }
+        Term::Element(place, x, size, index) => {
+            let index = note_term(first, declared, bounds, index);
+            note_index(first, *place, *size, index);
+            full_at(declared, *x)
+        }
+    }
+}
+
+/// Notes what is out of range in expressions.
+pub fn note_terms(
+    first: &mut First,
+    declared: &[FlatVariable],
+    bounds: &[Option<Interval>],
+    terms: &[Term],
+)
+    ensures { first.new.seen ≡ fold sooner first.old.seen (terms_violations declared.now bounds.now (map term_tree terms.now)) }
+{
+    for term in terms {
+        note_term(first, declared, bounds, term);
+    }
+}

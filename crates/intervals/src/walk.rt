@@ -1,0 +1,198 @@
+// A walk over a body: what is known of its variables from statement to statement.
+
+ghost use Rattle.std.specs.Prelude.{◌≡◌, fold, map, slice_set, OnOk};
+ghost use Rattle.inline.specs.Flat.{flat_block, flat_tree, term_tree};
+ghost use Rattle.intervals.specs.Intervals.{with_bound};
+ghost use Rattle.intervals.specs.Narrowing.{where_false, where_true};
+ghost use Rattle.intervals.specs.Ranges.{bounds_after, bounds_after_all, counted, counted_all, counter_interval, is_steady, most_turns, violations, violations_all};
+ghost use Rattle.intervals.specs.Undoing.{CameFrom};
+ghost use Rattle.labels.specs.Sooner.{sooner};
+
+use crate::Interval;
+use crate::known::Known;
+use crate::narrowing::{learn_false, learn_true};
+use crate::terms::{note_index, note_term, note_terms};
+use inline::{FlatStatement, FlatVariable, Term};
+use labels::First;
+use language::{Label, WordType};
+use std::alloc::AllocError;
+
+/// What a walk gathers.
+#[derive(Drop)]
+pub struct Walk {
+    pub known: Known,
+    /// The turns of each loop, at its counter's number.
+    pub turns: Vec<u32>,
+    pub first: First,
+}
+
+/// Whether a variable keeps its value, and is public.
+fn is_steady(word: WordType, mutable: bool) -> bool
+    ensures { result ≡ is_steady word mutable }
+{
+    !(matches!(word.label, Label::Secret) || mutable)
+}
+
+/// How many turns a loop makes at most, by the intervals of its bounds.
+fn most_turns(low: Interval, high: Interval) -> u32
+    ensures { result ≡ most_turns low high }
+{
+    high.high.saturating_sub(low.low)
+}
+
+/// What the counter of a loop is.
+fn counter_interval(low: Interval, high: Interval) -> Interval
+    ensures { result ≡ counter_interval low high }
+{
+    if low.low < high.high {
+        Interval {
+            low: low.low,
+            high: high.high - 1,
+        }
+    } else {
+        Interval {
+            low: low.low,
+            high: low.low,
+        }
+    }
+}
+
+/// Counts so many turns for a counter.
+fn count(turns: &mut Vec<u32>, counter: u32, most: u32)
+    ensures { turns.new.items ≡ slice_set turns.old.items counter most }
+{
+    if let Some(turns) = turns.get_mut(counter as usize) {
+        *turns = most;
+    }
+}
+
+/// A statement: what is known after it, its turns, and what it has out of range.
+#[cycle(walk)]
+fn statement(
+    declared: &[FlatVariable],
+    walk: &mut Walk,
+    statement: &FlatStatement,
+) -> Result<(), AllocError>
+    ensures bounds { OnOk result (walk.new.known.bounds.items ≡ bounds_after declared.now walk.old.known.bounds.items (flat_tree statement.now)) }
+    ensures from { OnOk result (CameFrom walk.old.known walk.new.known) }
+    ensures turns { OnOk result (walk.new.turns.items ≡ counted declared.now walk.old.known.bounds.items walk.old.turns.items (flat_tree statement.now)) }
+    ensures first { OnOk result (walk.new.first.seen ≡ fold sooner walk.old.first.seen (violations declared.now walk.old.known.bounds.items (flat_tree statement.now))) }
+{
+    let bounds = walk.known.bounds.as_slice();
+    match statement {
+        FlatStatement::Declare(x, word, mutable, value) => {
+            let value = note_term(&mut walk.first, declared, bounds, value);
+            if is_steady(*word, *mutable) {
+                walk.known.set(*x, value)?;
+            }
+            Ok(())
+        }
+        FlatStatement::DeclareArray(_, _, _, _, values) => {
+            note_terms(&mut walk.first, declared, bounds, values.as_slice());
+            Ok(())
+        }
+        FlatStatement::Assign(_, value) => {
+            note_term(&mut walk.first, declared, bounds, value);
+            Ok(())
+        }
+        FlatStatement::AssignElement(place, _, size, index, value) => {
+            let index = note_term(&mut walk.first, declared, bounds, index);
+            note_index(&mut walk.first, *place, *size, index);
+            note_term(&mut walk.first, declared, bounds, value);
+            Ok(())
+        }
+        FlatStatement::Branch(label, condition, accepted, otherwise) => {
+            note_term(&mut walk.first, declared, bounds, condition);
+            accepted_arm(declared, walk, accepted.as_slice(), *label, condition)?;
+            otherwise_arm(declared, walk, otherwise.as_slice(), *label, condition)
+        }
+        FlatStatement::Loop(counter, low, high, body) => {
+            let low = note_term(&mut walk.first, declared, bounds, low);
+            let high = note_term(&mut walk.first, declared, bounds, high);
+            count(&mut walk.turns, *counter, most_turns(low, high));
+            let numbers = counter_interval(low, high);
+            turns(declared, walk, *counter, numbers, body.as_slice())
+        }
+    }
+}
+
+/// The arm in which a condition is true. What is known in it alone is taken back behind it.
+#[cycle(walk)]
+fn accepted_arm(
+    declared: &[FlatVariable],
+    walk: &mut Walk,
+    arm: &[FlatStatement],
+    label: Label,
+    condition: &Term,
+) -> Result<(), AllocError>
+    ensures bounds { OnOk result (walk.new.known.bounds.items ≡ walk.old.known.bounds.items) }
+    ensures changes { OnOk result (walk.new.known.changes.items ≡ walk.old.known.changes.items) }
+    ensures turns { OnOk result (walk.new.turns.items ≡ counted_all declared.now (where_true declared.now walk.old.known.bounds.items label (term_tree condition.now)) walk.old.turns.items (flat_block arm.now)) }
+    ensures first { OnOk result (walk.new.first.seen ≡ fold sooner walk.old.first.seen (violations_all declared.now (where_true declared.now walk.old.known.bounds.items label (term_tree condition.now)) (flat_block arm.now))) }
+{
+    let outside = walk.known.mark();
+    learn_true(declared, &mut walk.known, label, condition)?;
+    statements(declared, walk, arm)?;
+    walk.known.rewind(outside);
+    Ok(())
+}
+
+/// The arm in which it is false.
+#[cycle(walk)]
+fn otherwise_arm(
+    declared: &[FlatVariable],
+    walk: &mut Walk,
+    arm: &[FlatStatement],
+    label: Label,
+    condition: &Term,
+) -> Result<(), AllocError>
+    ensures bounds { OnOk result (walk.new.known.bounds.items ≡ walk.old.known.bounds.items) }
+    ensures changes { OnOk result (walk.new.known.changes.items ≡ walk.old.known.changes.items) }
+    ensures turns { OnOk result (walk.new.turns.items ≡ counted_all declared.now (where_false declared.now walk.old.known.bounds.items label (term_tree condition.now)) walk.old.turns.items (flat_block arm.now)) }
+    ensures first { OnOk result (walk.new.first.seen ≡ fold sooner walk.old.first.seen (violations_all declared.now (where_false declared.now walk.old.known.bounds.items label (term_tree condition.now)) (flat_block arm.now))) }
+{
+    let outside = walk.known.mark();
+    learn_false(declared, &mut walk.known, label, condition)?;
+    statements(declared, walk, arm)?;
+    walk.known.rewind(outside);
+    Ok(())
+}
+
+/// The turns of a loop, whose counter is one of these numbers.
+#[cycle(walk)]
+fn turns(
+    declared: &[FlatVariable],
+    walk: &mut Walk,
+    counter: u32,
+    numbers: Interval,
+    body: &[FlatStatement],
+) -> Result<(), AllocError>
+    ensures bounds { OnOk result (walk.new.known.bounds.items ≡ walk.old.known.bounds.items) }
+    ensures changes { OnOk result (walk.new.known.changes.items ≡ walk.old.known.changes.items) }
+    ensures turns { OnOk result (walk.new.turns.items ≡ counted_all declared.now (with_bound walk.old.known.bounds.items counter numbers) walk.old.turns.items (flat_block body.now)) }
+    ensures first { OnOk result (walk.new.first.seen ≡ fold sooner walk.old.first.seen (violations_all declared.now (with_bound walk.old.known.bounds.items counter numbers) (flat_block body.now))) }
+{
+    let outside = walk.known.mark();
+    walk.known.set(counter, numbers)?;
+    statements(declared, walk, body)?;
+    walk.known.rewind(outside);
+    Ok(())
+}
+
+/// Statements in their order.
+#[cycle(walk)]
+pub fn statements(
+    declared: &[FlatVariable],
+    walk: &mut Walk,
+    body: &[FlatStatement],
+) -> Result<(), AllocError>
+    ensures bounds { OnOk result (walk.new.known.bounds.items ≡ bounds_after_all declared.now walk.old.known.bounds.items (flat_block body.now)) }
+    ensures from { OnOk result (CameFrom walk.old.known walk.new.known) }
+    ensures turns { OnOk result (walk.new.turns.items ≡ counted_all declared.now walk.old.known.bounds.items walk.old.turns.items (flat_block body.now)) }
+    ensures first { OnOk result (walk.new.first.seen ≡ fold sooner walk.old.first.seen (violations_all declared.now walk.old.known.bounds.items (flat_block body.now))) }
+{
+    for one in body {
+        statement(declared, walk, one)?;
+    }
+    Ok(())
+}
