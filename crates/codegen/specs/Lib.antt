@@ -4,6 +4,7 @@ pub mod TermCode
 pub mod Jumps
 pub mod Emitted
 pub mod Generated
+pub mod Room
 pub mod Loaded
 pub mod Bases
 pub mod Followed
