@@ -17,3 +17,4 @@ pub mod Elements
 pub mod ExpressionRuns
 pub mod Offsets
 pub mod Slots
+pub mod StatementCode
