@@ -1,120 +1,306 @@
 -- The arguments, loaded: what the variables hold, and what lies in the slots.
-use Rattle.std.proofs.Common.{◌≡◌, ℕ, zero, suc, ◌+◌, ◌*◌, ◌/◌, ◌%◌, ◌^◌, ◌<◌, ◌≤◌, true, ◌&&◌, cond, nat_le, nat_lt, List, [], ◌∷◌, length, Some, None, is_some, refl, ap, ap₂, ◌∙◌, subst, arith, inl, inr}
-use Rattle.std.proofs.lemmas.Bool.Decides.{nat_tests}
-use Rattle.std.specs.List.{AllByRecursion}
-use Rattle.arguments.specs.Within.{AreWithin, IsWithin, HasShape, greatest_of}
-use Rattle.branch_removal.specs.StraightMeaning.{start}
-use Rattle.codegen.specs.Layout.{variable_offset, control_offset, slots_from}
-use Rattle.inline.specs.FlatSize.{IsWord}
+use Rattle.std.proofs.Common.{◌≡◌, ◌≢◌, ℕ, zero, suc, ◌+◌, ◌*◌, ◌/◌, ◌%◌, ◌^◌, ◌<◌, ◌≤◌, ◌-◌, true, false, List, [], ◌∷◌, length, map, take, drop, replicate, All, Option, Some, None, is_some, slice_get, slice_index, slice_index_or, refl, sym, ap, ◌∙◌, subst, arith}
+use Rattle.std.proofs.lemmas.List.{length-replicate}
+use Rattle.std.proofs.lemmas.List.Elements.{All-replicate}
+use Rattle.std.proofs.lemmas.Option.{same_Some, none-some}
+use Rattle.arguments.specs.Within.{AreWithin, IsWithin, HasShape, greatest_of, words_of}
+use Rattle.codegen.specs.Layout.{variable_offset, result_offset, control_offset, temporaries_offset, slots_from}
+use Rattle.codegen.specs.Loaded.{with_numbers, with_argument, with_arguments}
+use Rattle.inline.specs.declared.flat.FlatVariable.{FlatVariable}
+use Rattle.inline.specs.Fitting.{Fits, IsHeld, IsWithinKind}
+use Rattle.inline.specs.Flat.{numbers_in, declaration_of}
 use Rattle.inline.specs.FlatMeaning.{given}
-use Rattle.rv_machine.specs.Bytes.{ByteMap, joined, number_at, with_number, zeros}
-use Rattle.rv_machine.proofs.ByteLaws.{number_at_apart, number_at-with_number, number_at-zero, number_at-suc}
-use Rattle.rv_machine.specs.Machine.{State}
+use Rattle.inline.specs.FlatSize.{declared_words}
+use Rattle.inline.specs.FlatSize as flat_size
+use Rattle.inline.specs.FlatTyping.{types_of}
 use Rattle.language.specs.declared.signature.Form.{Form}
+use Rattle.language.specs.declared.signature.Form.TheVariants.{SingleWord, FixedArray, MutableArray}
 use Rattle.language.specs.declared.signature.Kind.{Kind}
 use Rattle.language.specs.declared.signature.Kind.TheVariants.{Boolean, Uint8, Uint16, Uint32}
+use Rattle.language.specs.declared.signature.Label.{Label}
 use Rattle.language.specs.declared.signature.Param.{Param}
 use Rattle.language.specs.declared.values.Arg.{Arg}
 use Rattle.language.specs.declared.values.Arg.TheVariants.{Word, Array}
-use Rattle.codegen.specs.Loaded.{with_argument, with_arguments}
+use Rattle.language.specs.Size.{element_bytes, array_words}
+use Rattle.language.specs.Types.{bits_of}
+use Rattle.rv_machine.specs.Bytes.{ByteMap, number_at, with_number, zeros}
+use Rattle.rv_machine.proofs.ByteLaws.{number_at_same, number_at-with_number, with_number_below, with_number_above, is_some-with_number}
+use Rattle.rv_machine.specs.Machine.{State}
+use Rattle.branch_removal.specs.StraightMeaning.{StraightState}
+use Rattle.codegen.proofs.Held.{number_there}
+use Rattle.codegen.proofs.Masks.{mask_of}
+use Rattle.codegen.proofs.Numbers.{numbers_below, numbers_above, numbers_there, zero_byte, zero_number}
+use Rattle.codegen.proofs.Places.{bytes_of, place_of, place_within, ends_before_result}
+use Rattle.codegen.proofs.Straight.{Setting}
 use Rattle.codegen.proofs.Values.{Ready}
 
-greatest : (kind : Kind) → greatest_of kind < 2 ^ 32
-greatest Boolean = omega arith
-greatest Uint8 = omega arith
-greatest Uint16 = omega arith
-greatest Uint32 = omega arith
+greatest : (kind : Kind) (v : ℕ) → v ≤ greatest_of kind → v < 2 ^ bits_of kind
+greatest Boolean v h = omega (arith, h)
+greatest Uint8 v h = omega (arith, h)
+greatest Uint16 v h = omega (arith, h)
+greatest Uint32 v h = omega (arith, h)
 
--- a single word is no array
-no_array : (p : Param) (words : List ℕ) → IsWord p → IsWithin p (Array words) → ⊥
-no_array p words is within = subst (λ (form : Form). HasShape form p.length (Array words)) is.form within.shape
+kept_whole : (kind : Kind) (v : ℕ) → v ≤ greatest_of kind → v % 256 ^ element_bytes kind ≡ v
+kept_whole Boolean v h = omega (arith, h)
+kept_whole Uint8 v h = omega (arith, h)
+kept_whole Uint16 v h = omega (arith, h)
+kept_whole Uint32 v h = omega (arith, h)
 
-small_word : (p : Param) (w : ℕ) → IsWithin p (Word w) → w < 2 ^ 32
-small_word p w within =
-    let most = greatest p.kind in
-    let fits : w ≤ greatest_of p.kind = within.values 0 0 (omega arith) in
-    omega (arith, most, fits)
+small_word : (kind : Kind) (v : ℕ) → v ≤ greatest_of kind → v % 256 ^ 4 ≡ v
+small_word Boolean v h = omega (arith, h)
+small_word Uint8 v h = omega (arith, h)
+small_word Uint16 v h = omega (arith, h)
+small_word Uint32 v h = omega (arith, h)
 
--- each variable holds a word in the beginning
-pub given_fits : (ps : List Param) (args : List Arg) (x : ℕ) → AllByRecursion IsWord ps → AreWithin ps args → given args x < 2 ^ 32
-given_fits [] [] x words fits = omega arith
-given_fits [] (arg ∷ args) x words fits = absurd fits
-given_fits (p ∷ ps) [] x words fits = absurd fits
-given_fits (p ∷ ps) (Array ws ∷ args) x words fits = absurd (no_array p ws words.0 fits.0)
-given_fits (p ∷ ps) (Word w ∷ args) zero words fits = small_word p w fits.0
-given_fits (p ∷ ps) (Word w ∷ args) (suc x) words fits = given_fits ps args x words.1 fits.1
+in_words : (kind : Kind) (n m : ℕ) → m ≡ n → element_bytes kind * m ≤ 4 * array_words kind n
+in_words Boolean n m e = omega (arith, e)
+in_words Uint8 n m e = omega (arith, e)
+in_words Uint16 n m e = omega (arith, e)
+in_words Uint32 n m e = omega (arith, e)
 
--- beyond the parameters 0
-given_beyond : (ps : List Param) (args : List Arg) (x : ℕ) → AreWithin ps args → length ps ≤ x → given args x ≡ 0
-given_beyond [] [] x fits beyond = refl
-given_beyond [] (arg ∷ args) x fits beyond = absurd fits
-given_beyond (p ∷ ps) [] x fits beyond = absurd fits
-given_beyond (p ∷ ps) (arg ∷ args) zero fits beyond = absurd (omega (arith, beyond))
-given_beyond (p ∷ ps) (arg ∷ args) (suc x) fits beyond = given_beyond ps args x fits.1 (omega (arith, beyond))
+-- One argument.
 
-within_zeros : (base n a : ℕ) → base ≤ a → a < base + n → (nat_le base a && nat_lt a (base + n)) ≡ true
-within_zeros base n a low high = grind (arith, nat_tests)
+array_there : (frame : ℕ) (bytes : ByteMap) (low n : ℕ) (kind : Kind) (ws : List ℕ) (i : ℕ) → length ws ≡ n → All (λ word. word ≤ greatest_of kind) ws → i < n
+    → number_at (with_numbers bytes (element_bytes kind) (frame + low) ws) (element_bytes kind) (frame + (low + element_bytes kind * i)) ≡ Some (slice_index ws i)
+array_there frame bytes low n kind ws i long values below =
+    let at : frame + (low + element_bytes kind * i) ≡ frame + low + element_bytes kind * i = omega arith in
+    ap (λ a. number_at (with_numbers bytes (element_bytes kind) (frame + low) ws) (element_bytes kind) a) at
+    ∙ numbers_there bytes (element_bytes kind) (frame + low) ws i (λ j less. kept_whole kind (slice_index ws j) (values j 0 less)) (omega (arith, below, long))
 
--- each number in the zeros is 0
-number_at-zeros : (base n m a : ℕ) → base ≤ a → a + m ≤ base + n → number_at (zeros base n) m a ≡ Some 0
-number_at-zeros base n zero a low high = number_at-zero (zeros base n) a
-number_at-zeros base n (suc m) a low high =
-    let byte : zeros base n a ≡ Some 0 = ap (λ b. cond b (Some 0) None) (within_zeros base n a low (omega arith)) in
-    number_at-suc (zeros base n) m a ∙ ap₂ joined byte (number_at-zeros base n m (a + 1) (omega arith) (omega arith))
+word_there : (frame : ℕ) (bytes : ByteMap) (low : ℕ) (kind : Kind) (w i : ℕ) → w ≤ greatest_of kind → i < 1
+    → number_at (with_number bytes 4 (frame + low) w) 4 (frame + (low + 4 * i)) ≡ Some (slice_index (w ∷ []) i)
+word_there frame bytes low kind w zero small below =
+    let at : frame + (low + 4 * 0) ≡ frame + low = omega arith in
+    ap (λ a. number_at (with_number bytes 4 (frame + low) w) 4 a) at ∙ (number_at-with_number bytes 4 (frame + low) w ∙ ap Some (small_word kind w small))
+word_there frame bytes low kind w (suc i) small below = absurd (omega (arith, below))
+
+abbrev made : Kind → Label → ℕ → Form → Param
+made k l n form = record { kind = k; label = l; form = form; length = n }
+
+module _ (frame : ℕ) where
+  -- the numbers of an argument lie in its slot
+  argument_there_by : (k : Kind) (l : Label) (n : ℕ) (form : Form) (bytes : ByteMap) (low : ℕ) (arg : Arg) (i : ℕ) → IsWithin (made k l n form) arg → i < numbers_in (declaration_of (made k l n form)).elements
+      → number_at (with_argument frame bytes (record { param = made k l n form; offset = low }) arg) (bytes_of (declaration_of (made k l n form))) (frame + (low + bytes_of (declaration_of (made k l n form)) * i)) ≡ Some (slice_index (words_of arg) i)
+  argument_there_by k l n SingleWord bytes low (Word w) i within below = word_there frame bytes low k w i (within.values 0 0 (omega arith)) below
+  argument_there_by k l n SingleWord bytes low (Array ws) i within below = absurd within.shape
+  argument_there_by k l n FixedArray bytes low (Word w) i within below = absurd within.shape
+  argument_there_by k l n FixedArray bytes low (Array ws) i within below = array_there frame bytes low n k ws i within.shape within.values below
+  argument_there_by k l n MutableArray bytes low (Word w) i within below = absurd within.shape
+  argument_there_by k l n MutableArray bytes low (Array ws) i within below = array_there frame bytes low n k ws i within.shape within.values below
+
+  argument_there : (p : Param) (bytes : ByteMap) (low : ℕ) (arg : Arg) (i : ℕ) → IsWithin p arg → i < numbers_in (declaration_of p).elements
+      → number_at (with_argument frame bytes (record { param = p; offset = low }) arg) (bytes_of (declaration_of p)) (frame + (low + bytes_of (declaration_of p) * i)) ≡ Some (slice_index (words_of arg) i)
+  argument_there p = argument_there_by p.kind p.label p.length p.form
+
+  argument_below : (p : Param) (bytes : ByteMap) (low : ℕ) (arg : Arg) (x : ℕ) → x < frame + low → with_argument frame bytes (record { param = p; offset = low }) arg x ≡ bytes x
+  argument_below p bytes low (Word w) x below = with_number_below bytes 4 (frame + low) w x below
+  argument_below p bytes low (Array ws) x below = numbers_below bytes (element_bytes p.kind) (frame + low) ws x below
+
+  array_above : (bytes : ByteMap) (low n : ℕ) (k : Kind) (ws : List ℕ) (x : ℕ) → length ws ≡ n → frame + low + 4 * array_words k n ≤ x → with_numbers bytes (element_bytes k) (frame + low) ws x ≡ bytes x
+  array_above bytes low n k ws x long above =
+      let h = in_words k n (length ws) long in
+      numbers_above bytes (element_bytes k) (frame + low) ws x (omega (arith, h, above))
+
+  argument_above_by : (k : Kind) (l : Label) (n : ℕ) (form : Form) (bytes : ByteMap) (low : ℕ) (arg : Arg) (x : ℕ) → IsWithin (made k l n form) arg → frame + low + 4 * flat_size.words_of (declaration_of (made k l n form)) ≤ x → with_argument frame bytes (record { param = made k l n form; offset = low }) arg x ≡ bytes x
+  argument_above_by k l n SingleWord bytes low (Word w) x within above = with_number_above bytes 4 (frame + low) w x above
+  argument_above_by k l n SingleWord bytes low (Array ws) x within above = absurd within.shape
+  argument_above_by k l n FixedArray bytes low (Word w) x within above = absurd within.shape
+  argument_above_by k l n FixedArray bytes low (Array ws) x within above = array_above bytes low n k ws x within.shape above
+  argument_above_by k l n MutableArray bytes low (Word w) x within above = absurd within.shape
+  argument_above_by k l n MutableArray bytes low (Array ws) x within above = array_above bytes low n k ws x within.shape above
+
+  argument_above : (p : Param) (bytes : ByteMap) (low : ℕ) (arg : Arg) (x : ℕ) → IsWithin p arg → frame + low + 4 * flat_size.words_of (declaration_of p) ≤ x → with_argument frame bytes (record { param = p; offset = low }) arg x ≡ bytes x
+  argument_above p = argument_above_by p.kind p.label p.length p.form
+
+  -- All of them.
+
+  -- bytes below the slots stay as they are
+  arguments_below : (bytes : ByteMap) (low : ℕ) (ps : List Param) (args : List Arg) (x : ℕ) → x < frame + low → with_arguments frame bytes (slots_from low ps) args x ≡ bytes x
+  arguments_below bytes low [] args x below = refl
+  arguments_below bytes low (p ∷ ps) [] x below = refl
+  arguments_below bytes low (p ∷ ps) (arg ∷ args) x below =
+      arguments_below (with_argument frame bytes (record { param = p; offset = low }) arg) (low + 4 * flat_size.words_of (declaration_of p)) ps args x (omega (arith, below))
+      ∙ argument_below p bytes low arg x below
+
+  -- bytes of the frame that are behind all slots
+  arguments_above : (bytes : ByteMap) (low : ℕ) (ps : List Param) (args : List Arg) (x : ℕ) → AreWithin ps args → frame + low + 4 * declared_words (map declaration_of ps) ≤ x → with_arguments frame bytes (slots_from low ps) args x ≡ bytes x
+  arguments_above bytes low [] args x within above = refl
+  arguments_above bytes low (p ∷ ps) [] x within above = refl
+  arguments_above bytes low (p ∷ ps) (arg ∷ args) x within above =
+      arguments_above (with_argument frame bytes (record { param = p; offset = low }) arg) (low + 4 * flat_size.words_of (declaration_of p)) ps args x within.1 (omega (arith, above))
+      ∙ argument_above p bytes low arg x within.0 (omega (arith, above))
+
+  -- what is data stays data
+  numbers_data : (size : ℕ) (bytes : ByteMap) (n at : ℕ) (vs : List ℕ) → ((x : ℕ) → x < size → is_some (bytes (frame + x)) ≡ true) → frame ≤ at → at + n * length vs ≤ frame + size → (x : ℕ) → x < size → is_some (with_numbers bytes n at vs (frame + x)) ≡ true
+  numbers_data size bytes n at [] here low high x less = here x less
+  numbers_data size bytes n at (v ∷ vs) here low high x less =
+      numbers_data size (with_number bytes n at v) n (at + n) vs (λ y below. is_some-with_number bytes n at v (frame + y) (run_there size bytes n at here low (omega (arith, high))) ∙ here y below) (omega (arith, low)) (omega (arith, high)) x less
+    where
+      run_there : (size : ℕ) (bytes : ByteMap) (n at : ℕ) → ((x : ℕ) → x < size → is_some (bytes (frame + x)) ≡ true) → frame ≤ at → at + n ≤ frame + size → is_some (number_at bytes n at) ≡ true
+      run_there size bytes n at here low high =
+          number_there bytes n at
+          (λ i below.
+          let e : frame + (at + i - frame) ≡ at + i = omega (arith, low) in
+          ap (λ a. is_some (bytes a)) (sym e) ∙ here (at + i - frame) (omega (arith, low, below, high)))
+
+  argument_data_by : (size : ℕ) (k : Kind) (l : Label) (n : ℕ) (form : Form) (bytes : ByteMap) (low : ℕ) (arg : Arg) → IsWithin (made k l n form) arg → ((x : ℕ) → x < size → is_some (bytes (frame + x)) ≡ true) → low + 4 * flat_size.words_of (declaration_of (made k l n form)) ≤ size
+      → (x : ℕ) → x < size → is_some (with_argument frame bytes (record { param = made k l n form; offset = low }) arg (frame + x)) ≡ true
+  argument_data_by size k l n SingleWord bytes low (Word w) within here room = numbers_data size bytes 4 (frame + low) (w ∷ []) here (omega arith) (omega (arith, room))
+  argument_data_by size k l n SingleWord bytes low (Array ws) within here room = absurd within.shape
+  argument_data_by size k l n FixedArray bytes low (Word w) within here room = absurd within.shape
+  argument_data_by size k l n FixedArray bytes low (Array ws) within here room = let h = in_words k n (length ws) within.shape in numbers_data size bytes (element_bytes k) (frame + low) ws here (omega arith) (omega (arith, room, h))
+  argument_data_by size k l n MutableArray bytes low (Word w) within here room = absurd within.shape
+  argument_data_by size k l n MutableArray bytes low (Array ws) within here room = let h = in_words k n (length ws) within.shape in numbers_data size bytes (element_bytes k) (frame + low) ws here (omega arith) (omega (arith, room, h))
+
+  arguments_data : (size : ℕ) (bytes : ByteMap) (low : ℕ) (ps : List Param) (args : List Arg) → AreWithin ps args → ((x : ℕ) → x < size → is_some (bytes (frame + x)) ≡ true) → low + 4 * declared_words (map declaration_of ps) ≤ size
+      → (x : ℕ) → x < size → is_some (with_arguments frame bytes (slots_from low ps) args (frame + x)) ≡ true
+  arguments_data size bytes low [] args within here room = here
+  arguments_data size bytes low (p ∷ ps) [] within here room = absurd within
+  arguments_data size bytes low (p ∷ ps) (arg ∷ args) within here room =
+      arguments_data size (with_argument frame bytes (record { param = p; offset = low }) arg) (low + 4 * flat_size.words_of (declaration_of p)) ps args within.1
+      (argument_data_by size p.kind p.label p.length p.form bytes low arg within.0 here (omega (arith, room))) (omega (arith, room))
+
+head_is : (e d : FlatVariable) (es ds : List FlatVariable) → e ∷ es ≡ d ∷ ds → e ≡ d
+head_is e d es ds h = cc
+
+tail_is : (e d : FlatVariable) (es ds : List FlatVariable) → e ∷ es ≡ d ∷ ds → es ≡ ds
+tail_is e d es ds h = cc
+
+no_cons : (d : FlatVariable) (ds : List FlatVariable) → [] ≡ d ∷ ds → ⊥
+no_cons d ds h = cc
+
+pub zero_at : (n i : ℕ) → slice_index (replicate n 0) i ≡ 0
+zero_at zero i = refl
+zero_at (suc n) zero = refl
+zero_at (suc n) (suc i) = zero_at n i
+
+-- without arguments each variable holds zeros
+given_none : (declared : List FlatVariable) (x : ℕ) (d : FlatVariable) → slice_get declared x ≡ Some d → given declared [] x ≡ replicate (numbers_in d.elements) 0
+given_none [] x d is = absurd (none-some d is)
+given_none (e ∷ ds) zero d is = ap (λ (f : FlatVariable). replicate (numbers_in f.elements) 0) (same_Some e d is)
+given_none (e ∷ ds) (suc x) d is = given_none ds x d is
 
 module _ (frame size : ℕ) where
-  below_one : (bytes : ByteMap) (low : ℕ) (p : Param) (arg : Arg) (x : ℕ) → x + 4 ≤ low → number_at (with_argument frame bytes (record { param = p; offset = low }) arg) 4 (frame + x) ≡ number_at bytes 4 (frame + x)
-  below_one bytes low p (Word w) x below = number_at_apart bytes 4 (frame + low) w 4 (frame + x) (inl (omega arith))
-  below_one bytes low p (Array ws) x below = refl
+  -- from an offset on each byte of the frame is 0
+  abbrev IsBlank : ℕ → ByteMap → Type 0
+  IsBlank low bytes = (o : ℕ) → low ≤ o → o < size → bytes (frame + o) ≡ Some 0
 
-  -- words below the slots stay as they are
-  below_all : (bytes : ByteMap) (low : ℕ) (ps : List Param) (args : List Arg) (x : ℕ) → x + 4 ≤ low → number_at (with_arguments frame bytes (slots_from low ps) args) 4 (frame + x) ≡ number_at bytes 4 (frame + x)
-  below_all bytes low [] args x below = refl
-  below_all bytes low (p ∷ ps) [] x below = refl
-  below_all bytes low (p ∷ ps) (arg ∷ args) x below =
-      below_all (with_argument frame bytes (record { param = p; offset = low }) arg) (low + 4) ps args x (omega arith) ∙ below_one bytes low p arg x below
-
-  -- from an offset on each word is 0
-  IsBlank : ℕ → ByteMap → Type 0
-  IsBlank low bytes = (o : ℕ) → low ≤ o → o + 4 ≤ size → number_at bytes 4 (frame + o) ≡ Some 0
+  blank_number : (low : ℕ) (bytes : ByteMap) (n o : ℕ) → IsBlank low bytes → low ≤ o → o + n ≤ size → number_at bytes n (frame + o) ≡ Some 0
+  blank_number low bytes n o blank above inside =
+      zero_number bytes n (frame + o)
+      (λ x from to.
+      let e : frame + (x - frame) ≡ x = omega (arith, from) in
+      ap bytes (sym e) ∙ blank (x - frame) (omega (arith, from, above)) (omega (arith, from, to, inside)))
 
   -- the arguments lie in their order, and zeros after them
-  laid : (bytes : ByteMap) (low : ℕ) (ps : List Param) (args : List Arg) (x : ℕ) → AllByRecursion IsWord ps → AreWithin ps args → IsBlank low bytes → low + 4 * x + 4 ≤ size → number_at (with_arguments frame bytes (slots_from low ps) args) 4 (frame + (low + 4 * x)) ≡ Some (given args x)
-  unfolding IsBlank
-  laid bytes low [] [] x words fits blank room = blank (low + 4 * x) (omega arith) room
-  laid bytes low [] (arg ∷ args) x words fits blank room = absurd fits
-  laid bytes low (p ∷ ps) [] x words fits blank room = absurd fits
-  laid bytes low (p ∷ ps) (Array ws ∷ args) x words fits blank room = absurd (no_array p ws words.0 fits.0)
-  laid bytes low (p ∷ ps) (Word w ∷ args) zero words fits blank room =
-      let small = small_word p w fits.0 in
-      let cut : w % 256 ^ 4 ≡ w = omega (arith, small) in
-      let start : low + 4 * 0 ≡ low = omega arith in
-      let next = with_number bytes 4 (frame + low) w in
-      ap (λ o. number_at (with_arguments frame next (slots_from (low + 4) ps) args) 4 (frame + o)) start
-      ∙ (below_all next (low + 4) ps args low (omega arith) ∙ (number_at-with_number bytes 4 (frame + low) w ∙ ap Some cut))
-  laid bytes low (p ∷ ps) (Word w ∷ args) (suc x) words fits blank room =
-      let step : low + 4 * suc x ≡ (low + 4) + 4 * x = omega arith in
-      let next = with_number bytes 4 (frame + low) w in
-      ap (λ o. number_at (with_arguments frame next (slots_from (low + 4) ps) args) 4 (frame + o)) step
-      ∙ laid next (low + 4) ps args x words.1 fits.1 (λ o above inside. number_at_apart bytes 4 (frame + low) w 4 (frame + o) (inr (omega (arith, above))) ∙ blank o (omega (arith, above)) inside) (omega (arith, room, step))
+  laid : (bytes : ByteMap) (low : ℕ) (ps : List Param) (args : List Arg) (declared : List FlatVariable) (x : ℕ) (d : FlatVariable) (i : ℕ)
+      → AreWithin ps args → take (length ps) declared ≡ map declaration_of ps → IsBlank low bytes → slice_get declared x ≡ Some d → i < numbers_in d.elements
+      → low + place_of declared x d i + bytes_of d ≤ size
+      → number_at (with_arguments frame bytes (slots_from low ps) args) (bytes_of d) (frame + (low + place_of declared x d i)) ≡ Some (slice_index (given declared args x) i)
+  laid bytes low [] [] declared x d i within first blank is below inside =
+      blank_number low bytes (bytes_of d) (low + place_of declared x d i) blank (omega arith) (omega (arith, inside))
+      ∙ ap Some (sym (ap (λ (l : List ℕ). slice_index l i) (given_none declared x d is) ∙ zero_at (numbers_in d.elements) i))
+  laid bytes low [] (arg ∷ args) declared x d i within first blank is below inside = absurd within
+  laid bytes low (p ∷ ps) [] declared x d i within first blank is below inside = absurd within
+  laid bytes low (p ∷ ps) (arg ∷ args) [] x d i within first blank is below inside = absurd (no_cons (declaration_of p) (map declaration_of ps) first)
+  laid bytes low (p ∷ ps) (arg ∷ args) (e ∷ ds) zero d i within first blank is below inside =
+      let next = with_argument frame bytes (record { param = p; offset = low }) arg in
+      let at = low + 4 * flat_size.words_of (declaration_of p) in
+      let kind : declaration_of p ≡ d = sym (head_is e (declaration_of p) (take (length ps) ds) (map declaration_of ps) first) ∙ same_Some e d is in
+      let here : frame + (low + place_of (e ∷ ds) 0 d i) ≡ frame + (low + bytes_of d * i) = omega arith in
+      let w = place_within (declaration_of p ∷ []) 0 (declaration_of p) i (subst (λ (f : FlatVariable). i < numbers_in f.elements) (sym kind) below) in
+      ap (λ a. number_at (with_arguments frame next (slots_from at ps) args) (bytes_of d) a) here
+      ∙ subst (λ (f : FlatVariable). number_at (with_arguments frame next (slots_from at ps) args) (bytes_of f) (frame + (low + bytes_of f * i)) ≡ Some (slice_index (words_of arg) i)) kind
+      (number_at_same next (with_arguments frame next (slots_from at ps) args) (bytes_of (declaration_of p)) (frame + (low + bytes_of (declaration_of p) * i)) (λ a from to. arguments_below frame next at ps args a (omega (arith, to, w)))
+      ∙ argument_there frame p bytes low arg i within.0 (subst (λ (f : FlatVariable). i < numbers_in f.elements) (sym kind) below))
+  laid bytes low (p ∷ ps) (arg ∷ args) (e ∷ ds) (suc x) d i within first blank is below inside =
+      let next = with_argument frame bytes (record { param = p; offset = low }) arg in
+      let at = low + 4 * flat_size.words_of (declaration_of p) in
+      let kind : flat_size.words_of e ≡ flat_size.words_of (declaration_of p) = ap flat_size.words_of (head_is e (declaration_of p) (take (length ps) ds) (map declaration_of ps) first) in
+      let there : frame + (low + place_of (e ∷ ds) (suc x) d i) ≡ frame + (at + place_of ds x d i) = omega (arith, kind) in
+      ap (λ a. number_at (with_arguments frame next (slots_from at ps) args) (bytes_of d) a) there
+      ∙ laid next at ps args ds x d i within.1 (tail_is e (declaration_of p) (take (length ps) ds) (map declaration_of ps) first)
+      (λ o above less. argument_above frame p bytes low arg (frame + o) within.0 (omega (arith, above)) ∙ blank o (omega (arith, above)) less)
+      is below (omega (arith, inside, kind))
 
-  -- the word of the frame with a number
-  word_at : (ps : List Param) (args : List Arg) (o x : ℕ) → o ≡ 4 * x → AllByRecursion IsWord ps → AreWithin ps args → o + 4 ≤ size → number_at (with_arguments frame (zeros frame size) (slots_from 0 ps) args) 4 (frame + o) ≡ Some (given args x)
-  unfolding IsBlank
-  word_at ps args o x is words fits room =
-      let same : o ≡ 0 + 4 * x = omega (arith, is) in
-      ap (λ a. number_at (with_arguments frame (zeros frame size) (slots_from 0 ps) args) 4 (frame + a)) same
-      ∙ laid (zeros frame size) 0 ps args x words fits (λ a low inside. number_at-zeros frame size 4 (frame + a) (omega arith) (omega (arith, inside))) (omega (arith, room, is))
+-- Values within their kinds.
 
-  module _ (variables controls : ℕ) (ps : List Param) (args : List Arg) (few : length ps ≤ variables) (room : control_offset variables controls ≤ size) (words : AllByRecursion IsWord ps) (fits : AreWithin ps args) (s : State) (base : s.regs 2 ≡ frame) (bytes : s.bytes ≡ with_arguments frame (zeros frame size) (slots_from 0 ps) args) where
-    there : (o x : ℕ) → o ≡ 4 * x → o + 4 ≤ size → number_at s.bytes 4 (frame + o) ≡ Some (given args x)
-    there o x is inside = ap (λ (b : ByteMap). number_at b 4 (frame + o)) bytes ∙ word_at ps args o x is words fits inside
+held_argument_by : (k : Kind) (l : Label) (n : ℕ) (form : Form) (arg : Arg) → IsWithin (made k l n form) arg → IsHeld (declaration_of (made k l n form)) (words_of arg)
+held_argument_by k l n SingleWord (Word w) within = record { count = refl; within = λ j d less. greatest k _ (within.values j d less) }
+held_argument_by k l n SingleWord (Array ws) within = absurd within.shape
+held_argument_by k l n FixedArray (Word w) within = absurd within.shape
+held_argument_by k l n FixedArray (Array ws) within = record { count = within.shape; within = λ j d less. greatest k _ (within.values j d less) }
+held_argument_by k l n MutableArray (Word w) within = absurd within.shape
+held_argument_by k l n MutableArray (Array ws) within = record { count = within.shape; within = λ j d less. greatest k _ (within.values j d less) }
 
-    -- the beginning of a run
-    pub loaded : Ready frame size variables controls (start args) s
-    loaded = record {
-      held = record { base = base; data_there = λ o aligned inside. ap is_some (there o (o / 4) (omega (arith, aligned)) inside) };
-      words = λ x below. given_fits ps args x words fits;
-      variables_there = λ x below. there (variable_offset x) x refl (omega (arith, below, room));
-      controls_there = λ c below. there (control_offset variables c) (variables + 1 + c) (omega arith) (omega (arith, below, room)) ∙ ap Some (given_beyond ps args (variables + 1 + c) fits (omega (arith, few)));
-    }
+held_argument : (p : Param) (arg : Arg) → IsWithin p arg → IsHeld (declaration_of p) (words_of arg)
+held_argument p = held_argument_by p.kind p.label p.length p.form
+
+zero_fits : (k : Kind) → 0 < 2 ^ bits_of k
+zero_fits Boolean = omega arith
+zero_fits Uint8 = omega arith
+zero_fits Uint16 = omega arith
+zero_fits Uint32 = omega arith
+
+pub held_zeros : (d : FlatVariable) → IsHeld d (replicate (numbers_in d.elements) 0)
+held_zeros d = record { count = length-replicate (numbers_in d.elements) 0; within = All-replicate (IsWithinKind d.word.kind) (numbers_in d.elements) 0 (zero_fits d.word.kind) }
+
+-- each variable holds what it is declared as in the beginning
+pub given_fits : (ps : List Param) (args : List Arg) (declared : List FlatVariable) → AreWithin ps args → take (length ps) declared ≡ map declaration_of ps → Fits (types_of declared) (given declared args)
+given_fits [] [] declared within first x d is = subst (λ (l : List ℕ). IsHeld d l) (sym (given_none declared x d is)) (held_zeros d)
+given_fits [] (arg ∷ args) declared within first x d is = absurd within
+given_fits (p ∷ ps) [] declared within first x d is = absurd within
+given_fits (p ∷ ps) (arg ∷ args) [] within first x d is = absurd (no_cons (declaration_of p) (map declaration_of ps) first)
+given_fits (p ∷ ps) (arg ∷ args) (e ∷ ds) within first zero d is =
+    subst (λ (f : FlatVariable). IsHeld f (words_of arg)) (sym (head_is e (declaration_of p) (take (length ps) ds) (map declaration_of ps) first) ∙ same_Some e d is) (held_argument p arg within.0)
+given_fits (p ∷ ps) (arg ∷ args) (e ∷ ds) within first (suc x) d is =
+    given_fits ps args ds within.1 (tail_is e (declaration_of p) (take (length ps) ds) (map declaration_of ps) first) x d is
+
+-- the parameters end where the other variables begin, or before
+words_first : (ps : List Param) (declared : List FlatVariable) → take (length ps) declared ≡ map declaration_of ps → declared_words (map declaration_of ps) ≤ declared_words declared
+words_first [] declared first = omega arith
+words_first (p ∷ ps) [] first = absurd (no_cons (declaration_of p) (map declaration_of ps) first)
+words_first (p ∷ ps) (e ∷ ds) first =
+    let kind : flat_size.words_of e ≡ flat_size.words_of (declaration_of p) = ap flat_size.words_of (head_is e (declaration_of p) (take (length ps) ds) (map declaration_of ps) first) in
+    let rest = words_first ps ds (tail_is e (declaration_of p) (take (length ps) ds) (map declaration_of ps) first) in
+    omega (arith, kind, rest)
+
+module _ (z : Setting) (ps : List Param) (args : List Arg) (first : take (length ps) z.declared ≡ map declaration_of ps) (within : AreWithin ps args) (s : State) (base : s.regs 2 ≡ z.frame) (bytes : s.bytes ≡ with_arguments z.frame (zeros z.frame z.size) (slots_from 0 ps) args) where
+  blank : IsBlank z.frame z.size 0 (zeros z.frame z.size)
+  blank o low inside = zero_byte z.frame z.size (z.frame + o) (omega arith) (omega (arith, inside))
+
+  words : declared_words (map declaration_of ps) ≤ declared_words z.declared
+  words = words_first ps z.declared first
+
+  begun : StraightState
+  begun = record { variables = given z.declared args; controls = λ c. false }
+
+  behind : (o : ℕ) → result_offset z.declared ≤ o → o < z.size → s.bytes (z.frame + o) ≡ Some 0
+  behind o above inside =
+      let few = words in
+      ap (λ (b : ByteMap). b (z.frame + o)) bytes
+      ∙ (arguments_above z.frame (zeros z.frame z.size) 0 ps args (z.frame + o) within (omega (arith, few, above)) ∙ zero_byte z.frame z.size (z.frame + o) (omega arith) (omega (arith, inside)))
+
+  -- the beginning of a run
+  pub loaded : Ready z (record { variables = given z.declared args; controls = λ c. false }) s
+  loaded = record {
+    held = record { base = base; data_there = λ o inside. ap (λ (b : ByteMap). is_some (b (z.frame + o))) bytes ∙ all_data o inside };
+    fits = given_fits ps args z.declared within first;
+    variables_there = λ x d i is below.
+        let w = place_within z.declared x d i below in
+        let e = ends_before_result z.declared x d is in
+        let room = z.room in
+        let from : place_of z.declared x d i ≡ 0 + place_of z.declared x d i = omega arith in
+        ap (λ (b : ByteMap). number_at b (bytes_of d) (z.frame + place_of z.declared x d i)) bytes
+        ∙ ap (λ o. number_at (with_arguments z.frame (zeros z.frame z.size) (slots_from 0 ps) args) (bytes_of d) (z.frame + o)) from
+        ∙ laid z.frame z.size (zeros z.frame z.size) 0 ps args z.declared x d i within first blank is below (omega (arith, w, e, room));
+    controls_there = λ c below.
+        let room = z.room in
+        zero_number s.bytes 4 (z.frame + control_offset z.declared c)
+        (λ x from to.
+        let e : z.frame + (x - z.frame) ≡ x = omega (arith, from) in
+        ap s.bytes (sym e) ∙ behind (x - z.frame) (omega (arith, from)) (omega (arith, from, to, below, room)));
+  }
+    where
+      all_data : (o : ℕ) → o < z.size → is_some (with_arguments z.frame (zeros z.frame z.size) (slots_from 0 ps) args (z.frame + o)) ≡ true
+      all_data o inside = arguments_data z.frame z.size (zeros z.frame z.size) 0 ps args within (λ x less. ap is_some (zero_byte z.frame z.size (z.frame + x) (omega arith) (omega (arith, less)))) (let few = words in let room = z.room in omega (arith, few, room)) o inside

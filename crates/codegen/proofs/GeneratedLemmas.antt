@@ -1,9 +1,10 @@
 -- The image that is generated for straight code is the code's.
-use Rattle.std.proofs.Common.{◌≡◌, ℕ, ◌+◌, List, [], ◌∷◌, length, map, Option, None, Some, refl, ap, arith}
+use Rattle.std.proofs.Common.{◌≡◌, ℕ, ◌+◌, ◌*◌, List, [], ◌∷◌, length, map, Option, None, Some, refl, ap, arith}
 use Rattle.std.proofs.lemmas.List.{length-map}
 use Rattle.std.specs.Option.{option_map}
 use Rattle.branch_removal.specs.Bounds.{IsBounded}
 use Rattle.branch_removal.specs.Straight.{StraightProgram}
+use Rattle.branch_removal.specs.StraightTyping.{IsTypedStraight}
 use Rattle.codegen.specs.Followed.{IsGenerated, type_in}
 use Rattle.codegen.specs.Generated.{program_code, result_slot, image_of}
 use Rattle.codegen.specs.Layout.{slots_from}
@@ -11,6 +12,9 @@ use Rattle.codegen.proofs.ImageLemmas.{room_frame}
 use Rattle.codegen.proofs.RoomLemmas.{has_room}
 use Rattle.codegen.proofs.WholeRuns.{followed}
 use Rattle.image.specs.declared.slot.Slot.{Slot}
+use Rattle.inline.specs.declared.flat.FlatVariable.{FlatVariable}
+use Rattle.inline.specs.Flat.{declaration_of}
+use Rattle.inline.specs.FlatSize.{words_of}
 use Rattle.language.specs.declared.signature.Param.{Param}
 use Rattle.language.specs.declared.typing.WordType.{WordType}
 use Rattle.rv_code.specs.Words.{word_of}
@@ -18,23 +22,23 @@ use Rattle.rv_code.specs.Words.{word_of}
 -- the slots have the parameters
 slot_params : (low : ℕ) (ps : List Param) → map (λ (slot : Slot). slot.param) (slots_from low ps) ≡ ps
 slot_params low [] = refl
-slot_params low (p ∷ ps) = ap (λ (rest : List Param). p ∷ rest) (slot_params (low + 4) ps)
+slot_params low (p ∷ ps) = ap (λ (rest : List Param). p ∷ rest) (slot_params (low + 4 * words_of (declaration_of p)) ps)
 
 -- the result's slot has the type of the result
-slot_type : (variables : ℕ) (returned : Option WordType) → option_map type_in (option_map (result_slot variables) returned) ≡ returned
-slot_type variables None = refl
-slot_type variables (Some word) = refl
+slot_type : (declared : List FlatVariable) (returned : Option WordType) → option_map type_in (option_map (result_slot declared) returned) ≡ returned
+slot_type declared None = refl
+slot_type declared (Some word) = refl
 
-pub is_generated : (p : StraightProgram) → IsBounded p → IsGenerated p (image_of p)
-is_generated p is =
-    let room = has_room p is in
+pub is_generated : (p : StraightProgram) → IsTypedStraight p → IsBounded p → IsGenerated p (image_of p)
+is_generated p typed is =
+    let room = has_room p typed is in
     let words : length (map word_of (program_code p)) ≡ length (program_code p) = length-map {B = ℕ} (program_code p) word_of in
     let most = room.code in
     record {
       parameters = slot_params 0 p.parameters;
-      returned = slot_type p.variables p.returned;
+      returned = slot_type p.declared p.returned;
       max_steps = refl;
-      frame_size = (room_frame p room).temporaries_fit;
+      frame_size = room_frame p room;
       word_count = omega (arith, most, words);
-      follows = λ code frame bases. followed p room is.result code frame bases;
+      follows = λ code frame bases. followed p room code frame bases;
     }

@@ -1,102 +1,157 @@
 -- The generated image's fields are allowed.
-use Rattle.std.proofs.Common.{◌≡◌, ℕ, suc, ◌+◌, ◌*◌, ◌%◌, ◌^◌, ◌<◌, ◌≤◌, List, [], ◌∷◌, length, map, All, Option, None, Some, IfSome, refl, sym, ap, subst, ◌∙◌, arith, length-append}
+use Rattle.std.proofs.Common.{◌≡◌, ℕ, suc, ◌+◌, ◌*◌, ◌%◌, ◌^◌, ◌<◌, ◌≤◌, true, List, [], ◌∷◌, length, map, All, Option, None, Some, IfSome, refl, sym, ap, subst, ◌∙◌, arith, length-append}
+use Rattle.std.proofs.lemmas.Bool.{eq-eqb, le-leb, and_from}
 use Rattle.std.proofs.lemmas.List.{length-map}
 use Rattle.std.proofs.lemmas.List.Elements.{recursion_from_All}
 use Rattle.std.specs.List.{AllByRecursion}
 use Rattle.std.specs.Option.{option_map}
 use Rattle.branch_removal.specs.Straight.{StraightProgram}
 use Rattle.rv_code.specs.Words.{word_of}
-use Rattle.image.specs.Fields.{IsImage, AreSlots, IsResultSlot, slot_end, result_end, slots_end, slot_bytes}
+use Rattle.image.specs.Fields.{IsImage, AreSlots, IsResultSlot, is_length, slot_end, result_end, slots_end}
 use Rattle.image.specs.declared.slot.Slot.{Slot}
 use Rattle.image.specs.declared.slot.ResultSlot.{ResultSlot}
+use Rattle.language.specs.declared.limits.TheConstants.{MOST_ELEMENTS}
 use Rattle.language.specs.declared.signature.Form.{Form}
+use Rattle.language.specs.declared.signature.Form.TheVariants.{SingleWord, FixedArray, MutableArray}
+use Rattle.language.specs.declared.signature.Kind.{Kind}
+use Rattle.language.specs.declared.signature.Kind.TheVariants.{Boolean, Uint8, Uint16, Uint32}
 use Rattle.language.specs.declared.signature.Param.{Param}
 use Rattle.language.specs.declared.typing.WordType.{WordType}
-use Rattle.codegen.specs.Generated.{program_code, program_height, result_slot, step_limit, image_of}
-use Rattle.codegen.specs.Layout.{slots_from, temporaries_offset}
-use Rattle.codegen.specs.Room.{HasFrame, HasRoom}
-use Rattle.inline.specs.FlatSize.{IsWord}
+use Rattle.language.specs.Size.{held_words, array_words}
+use Rattle.codegen.proofs.Offsets.{parameter_words}
+use Rattle.codegen.specs.Generated.{program_base, program_code, program_height, result_slot, step_limit, image_of}
+use Rattle.codegen.specs.Layout.{slots_from, result_offset}
+use Rattle.codegen.specs.Room.{HasRoom}
+use Rattle.inline.specs.declared.flat.FlatVariable.{FlatVariable}
+use Rattle.inline.specs.Flat.{declaration_of}
+use Rattle.inline.specs.FlatSize.{HasLength, words_of, declared_words}
+
+-- The parameters' slots.
+
+abbrev AreLengths : List Param → Type 0
+AreLengths = AllByRecursion (λ (parameter : Param). HasLength parameter.form parameter.length)
+
+-- how many words parameters take
+abbrev words_in : List Param → ℕ
+words_in ps = declared_words (map declaration_of ps)
 
 pub length-slots_from : (low : ℕ) (ps : List Param) → length (slots_from low ps) ≡ length ps
 length-slots_from low [] = refl
-length-slots_from low (p ∷ ps) = ap suc (length-slots_from (low + 4) ps)
+length-slots_from low (p ∷ ps) = ap suc (length-slots_from (low + 4 * words_of (declaration_of p)) ps)
 
-word_bytes : (p : Param) → IsWord p → slot_bytes p.form p.kind p.length ≡ 4
-word_bytes p is = ap (λ (form : Form). slot_bytes form p.kind p.length) is.form
+among_lengths : (n : ℕ) → 1 ≤ n → n ≤ MOST_ELEMENTS → is_length FixedArray n ≡ true
+among_lengths n some few = and_from _ _ (le-leb 1 n some) (le-leb n MOST_ELEMENTS few)
 
-multiple : (low : ℕ) → low % 4 ≡ 0 → (low + 4) % 4 ≡ 0
-multiple low h = omega arith
+length_allowed : (form : Form) (n : ℕ) → HasLength form n → is_length form n ≡ true
+length_allowed SingleWord n is = eq-eqb n 1 is
+length_allowed FixedArray n is = among_lengths n is.0 is.1
+length_allowed MutableArray n is = among_lengths n is.0 is.1
 
-pub slots_are : (low : ℕ) (ps : List Param) → AllByRecursion IsWord ps → low % 4 ≡ 0 → low + 4 * length ps < 2 ^ 32 → AreSlots low (slots_from low ps)
-slots_are low [] words aligned room = tt
-slots_are low (p ∷ ps) words aligned room = (
-  record { form = words.0.form; length = words.0.length; aligned = aligned; above = omega arith; fits = omega arith },
-  subst (λ n. AreSlots (low + n) (slots_from (low + 4) ps)) (sym (word_bytes p words.0)) (slots_are (low + 4) ps words.1 (multiple low aligned) (omega arith)),
-)
+some_words : (kind : Kind) (n : ℕ) → 1 ≤ n → 1 ≤ array_words kind n
+some_words Boolean n some = omega (arith, some)
+some_words Uint8 n some = omega (arith, some)
+some_words Uint16 n some = omega (arith, some)
+some_words Uint32 n some = omega (arith, some)
 
-pub slots_end-slots_from : (low : ℕ) (ps : List Param) → AllByRecursion IsWord ps → slots_end low (slots_from low ps) ≡ low + 4 * length ps
-slots_end-slots_from low [] words = omega arith
-slots_end-slots_from low (p ∷ ps) words =
-    ap (λ n. slots_end (low + n) (slots_from (low + 4) ps)) (word_bytes p words.0) ∙ (slots_end-slots_from (low + 4) ps words.1 ∙ omega arith)
+-- a parameter takes a word at least
+held_some : (form : Form) (kind : Kind) (n : ℕ) → HasLength form n → 1 ≤ held_words form kind n
+held_some SingleWord kind n is = omega arith
+held_some FixedArray kind n is = some_words kind n is.0
+held_some MutableArray kind n is = some_words kind n is.0
 
-pub slots_inside : (low frame : ℕ) (ps : List Param) → AllByRecursion IsWord ps → low + 4 * length ps ≤ frame → AllByRecursion (λ slot. slot_end slot ≤ frame) (slots_from low ps)
-slots_inside low frame [] words room = tt
-slots_inside low frame (p ∷ ps) words room =
-    let bytes = word_bytes p words.0 in
-    (omega (arith, bytes, room), slots_inside (low + 4) frame ps words.1 (omega arith))
+-- so there are no more of them than words
+pub count_in_words : (ps : List Param) → AreLengths ps → length ps ≤ words_in ps
+count_in_words [] lengths = omega arith
+count_in_words (p ∷ ps) lengths =
+    let some = held_some p.form p.kind p.length lengths.0 in
+    let same = parameter_words p in
+    let rest = count_in_words ps lengths.1 in
+    omega (arith, some, same, rest)
 
--- a result after the variables
-returned_is : (variables low : ℕ) (word : Option WordType) → low ≤ 4 * variables → 4 * variables ≤ 32768 → IfSome (option_map (result_slot variables) word) (λ slot. IsResultSlot low slot)
-returned_is variables low None above few = tt
-returned_is variables low (Some word) above few = record { aligned = omega arith; above = omega (arith, above); fits = omega (arith, few) }
+-- a slot ends where the next begins
+ends_at : (low : ℕ) (p : Param) → slot_end (record { param = p; offset = low }) ≡ low + 4 * words_of (declaration_of p)
+ends_at low p = ap (λ n. low + 4 * n) (parameter_words p)
 
-returned_inside : (variables frame : ℕ) (word : Option WordType) → 4 * variables + 4 ≤ frame → IfSome (option_map (result_slot variables) word) (λ slot. result_end slot ≤ frame)
-returned_inside variables frame None room = tt
-returned_inside variables frame (Some word) room = omega (arith, room)
+multiple : (low n : ℕ) → low % 4 ≡ 0 → (low + 4 * n) % 4 ≡ 0
+multiple low n h = omega (arith, h)
+
+pub slots_are : (low : ℕ) (ps : List Param) → AreLengths ps → low % 4 ≡ 0 → low + 4 * words_in ps < 2 ^ 32
+    → AreSlots low (slots_from low ps)
+slots_are low [] lengths aligned room = tt
+slots_are low (p ∷ ps) lengths aligned room =
+    let words = words_of (declaration_of p) in
+    (record { length = length_allowed p.form p.length lengths.0; aligned = aligned; above = omega arith; fits = omega (arith, room) },
+    subst (λ n. AreSlots n (slots_from (low + 4 * words) ps)) (sym (ends_at low p)) (slots_are (low + 4 * words) ps lengths.1 (multiple low words aligned) (omega (arith, room))))
+
+pub slots_end-slots_from : (low : ℕ) (ps : List Param) → slots_end low (slots_from low ps) ≡ low + 4 * words_in ps
+slots_end-slots_from low [] = omega arith
+slots_end-slots_from low (p ∷ ps) =
+    let words = words_of (declaration_of p) in
+    ap (λ n. slots_end n (slots_from (low + 4 * words) ps)) (ends_at low p) ∙ (slots_end-slots_from (low + 4 * words) ps ∙ omega arith)
+
+pub slots_inside : (low frame : ℕ) (ps : List Param) → low + 4 * words_in ps ≤ frame → AllByRecursion (λ slot. slot_end slot ≤ frame) (slots_from low ps)
+slots_inside low frame [] room = tt
+slots_inside low frame (p ∷ ps) room =
+    let words = words_of (declaration_of p) in
+    let end = ends_at low p in
+    (omega (arith, end, room), slots_inside (low + 4 * words) frame ps (omega (arith, room)))
+
+-- The result's slot, behind the variables.
+
+returned_is : (declared : List FlatVariable) (low : ℕ) (word : Option WordType) → low ≤ result_offset declared → result_offset declared ≤ 32768
+    → IfSome (option_map (result_slot declared) word) (λ slot. IsResultSlot low slot)
+returned_is declared low None above few = tt
+returned_is declared low (Some word) above few = record { aligned = omega arith; above = omega (arith, above); fits = omega (arith, few) }
+
+returned_inside : (declared : List FlatVariable) (frame : ℕ) (word : Option WordType) → result_offset declared + 4 ≤ frame
+    → IfSome (option_map (result_slot declared) word) (λ slot. result_end slot ≤ frame)
+returned_inside declared frame None room = tt
+returned_inside declared frame (Some word) room = omega (arith, room)
 
 code_there : (p : StraightProgram) → 1 ≤ length (map word_of (program_code p))
 code_there p = simp (length-map, length-append) (omega arith)
 
 -- the frame of a program with room
-pub room_frame : (p : StraightProgram) → HasRoom p → HasFrame p.variables p.controls (program_height p)
+pub room_frame : (p : StraightProgram) → HasRoom p → program_base p + 4 * program_height p ≤ 65536
 room_frame p room =
-    let v = room.variables in
+    let d = room.declared in
     let n = room.nodes in
     let f = room.frame in
-    record {
-      variables_fit = omega (arith, v);
-      controls_fit = omega (arith, f, n);
-      temporaries_fit = omega (arith, v, n, f);
-    }
+    omega (arith, d, n, f)
 
 -- the fields that are generated for a program with room are allowed
 pub image_allowed : (p : StraightProgram) → HasRoom p → AllByRecursion (λ word. word < 2 ^ 32) (map word_of (program_code p)) → IsImage (image_of p)
 image_allowed p room fit =
     let few = room.parameters in
-    let v = room.variables in
+    let d = room.declared in
     let n = room.nodes in
-    let most = (room_frame p room).temporaries_fit in
-    let count = length-slots_from 0 p.parameters in
+    let w = room.work in
+    let slots = length-slots_from 0 p.parameters in
+    let count = count_in_words p.parameters room.lengths in
     let size = length-map {B = ℕ} (program_code p) word_of in
     let code = room.code in
-    let end = slots_end-slots_from 0 p.parameters room.words in
+    let end = slots_end-slots_from 0 p.parameters in
     record {
-      count = omega (arith, count, few, v);
-      slots = slots_are 0 p.parameters room.words refl (omega (arith, few, v));
-      returned = returned_is p.variables (slots_end 0 (slots_from 0 p.parameters)) p.returned (omega (arith, end, few)) v;
+      count = omega (arith, slots, count, few, d);
+      slots = slots_are 0 p.parameters room.lengths refl (omega (arith, few, d));
+      returned = returned_is p.declared (slots_end 0 (slots_from 0 p.parameters)) p.returned (omega (arith, end, few)) d;
       frame_aligned = omega arith;
-      frame_size = most;
-      slots_inside = slots_inside 0 (temporaries_offset p.variables p.controls + 4 * program_height p) p.parameters room.words (omega (arith, few));
-      returned_inside = returned_inside p.variables (temporaries_offset p.variables p.controls + 4 * program_height p) p.returned (omega arith);
+      frame_size = room_frame p room;
+      slots_inside = slots_inside 0 (program_base p + 4 * program_height p) p.parameters (omega (arith, few));
+      returned_inside = returned_inside p.declared (program_base p + 4 * program_height p) p.returned (omega arith);
       some_step = omega arith;
-      steps = omega (arith, n);
+      steps = omega (arith, w);
       some_word = code_there p;
       word_count = omega (arith, size, code, n);
       words = fit;
     }
 
 -- so are fields that are equal to them, one by one
-pub fields_allowed : (p : StraightProgram) → HasRoom p → (slots : List Slot) (returned : Option ResultSlot) (frame steps : ℕ) (words : List ℕ) → slots ≡ slots_from 0 p.parameters → returned ≡ option_map (result_slot p.variables) p.returned → frame ≡ temporaries_offset p.variables p.controls + 4 * program_height p → steps ≡ step_limit p.nodes → words ≡ map word_of (program_code p) → All (λ word. word < 2 ^ 32) words → IsImage (record { slots = slots; returned = returned; frame_bytes = frame; max_steps = steps; words = words })
+pub fields_allowed : (p : StraightProgram) → HasRoom p → (slots : List Slot) (returned : Option ResultSlot) (frame steps : ℕ) (words : List ℕ)
+    → slots ≡ slots_from 0 p.parameters → returned ≡ option_map (result_slot p.declared) p.returned
+    → frame ≡ program_base p + 4 * program_height p → steps ≡ step_limit p.work
+    → words ≡ map word_of (program_code p) → All (λ word. word < 2 ^ 32) words
+    → IsImage (record { slots = slots; returned = returned; frame_bytes = frame; max_steps = steps; words = words })
 fields_allowed p room slots returned frame steps words a b c d e fit =
     let allowed = image_allowed p room (subst (AllByRecursion (λ word. word < 2 ^ 32)) e (recursion_from_All (λ word. word < 2 ^ 32) words fit)) in
     rw (a, b, c, d, e) allowed

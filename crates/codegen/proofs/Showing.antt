@@ -1,5 +1,5 @@
 -- What is shown after a piece of a statement's code.
-use Rattle.std.proofs.Common.{◌≡◌, ◌≢◌, ℕ, ◌+◌, ◌*◌, ◌%◌, ◌^◌, ◌<◌, ◌≤◌, ◌==◌, Bool, true, false, cond, List, Some, slice_get, slice_index, refl, sym, ap, ◌∙◌, subst, arith, inl}
+use Rattle.std.proofs.Common.{◌≡◌, ◌≢◌, ℕ, ◌+◌, ◌*◌, ◌%◌, ◌^◌, ◌<◌, ◌≤◌, ◌==◌, Bool, true, false, cond, List, Some, slice_get, slice_index, refl, sym, ap, ◌∙◌, subst, arith, inl, inr}
 use Rattle.inline.proofs.Fitting.{value_fits}
 use Rattle.inline.specs.declared.flat.FlatVariable.{FlatVariable}
 use Rattle.inline.specs.Fitting.{Fits}
@@ -69,6 +69,18 @@ module _ (z : Setting) where
         let e = ends_before_result z.declared x d is in
         other_number z n o w (bytes_of d) (place_of z.declared x d i) s t wrote (inl (omega (arith, p, e, above))) ∙ ready.variables_there x d i is below;
     controls_there = λ c below. other_number z n o w 4 (control_offset z.declared c) s t wrote (inl (omega (arith, below, above))) ∙ ready.controls_there c below;
+  }
+
+  -- or only the result's slot
+  pub ready_result : (env : StraightState) (s t : machine.State) (w : ℕ) → Ready z env s → Wrote z 4 (result_offset z.declared) w s t → Ready z env t
+  ready_result env s t w ready wrote = record {
+    held = wrote.held;
+    fits = ready.fits;
+    variables_there = λ x d i is below.
+        let p = place_within z.declared x d i below in
+        let e = ends_before_result z.declared x d is in
+        other_number z 4 (result_offset z.declared) w (bytes_of d) (place_of z.declared x d i) s t wrote (inl (omega (arith, p, e))) ∙ ready.variables_there x d i is below;
+    controls_there = λ c below. other_number z 4 (result_offset z.declared) w 4 (control_offset z.declared c) s t wrote (inr (omega arith)) ∙ ready.controls_there c below;
   }
 
   -- a word that is declared lies before the result

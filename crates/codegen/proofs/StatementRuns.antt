@@ -13,9 +13,11 @@ use Rattle.language.specs.WellTyped.{labelled}
 use Rattle.language.specs.declared.signature.Kind.TheVariants.{Boolean}
 use Rattle.language.specs.declared.signature.Label.TheVariants.{Public}
 use Rattle.rv_machine.specs.Machine as machine
-use Rattle.codegen.proofs.ArrayRuns.{clear_runs, fill_runs, put_runs, put_under_runs}
+use Rattle.codegen.proofs.PutRuns.{put_runs, put_under_runs}
 use Rattle.codegen.proofs.BranchRuns.{branch_runs}
+use Rattle.codegen.proofs.ClearRuns.{clear_runs}
 use Rattle.codegen.proofs.CodeLengths.{test_length, count_length, block_length}
+use Rattle.codegen.proofs.FillRuns.{fill_runs}
 use Rattle.codegen.proofs.LoopRuns.{repeats_runs}
 use Rattle.codegen.proofs.SetRuns.{set_runs, set_under_runs, take_runs}
 use Rattle.codegen.proofs.Showing.{Shown}
@@ -35,7 +37,7 @@ module _ (z : Setting) where
     statement_runs depth (put place x size index value) typed room within few = put_runs z depth place x size index value typed room (omega (arith, within))
     statement_runs depth (take c enclosing condition) typed room within few = take_runs z depth c enclosing condition typed.2.0 typed.0 typed.1 typed.2.1 room (omega (arith, within))
     statement_runs depth (set_under c x value) typed room within few = set_under_runs z depth c x value typed.0 typed.1 room (omega (arith, within))
-    statement_runs depth (put_under c place x size index value) typed room within few = put_under_runs z depth c place x size index value typed.0 typed.1 room (omega (arith, within))
+    statement_runs depth (put_under c place x size index value) typed room within few = put_under_runs z depth place x size index value typed.1 room (omega (arith, within)) c typed.0
     statement_runs depth (branch condition accepted otherwise) typed room within few =
         let a = le-max_left (height_of condition) (max (height_in_all accepted) (height_in_all otherwise)) in
         let b = le-max_right (height_of condition) (max (height_in_all accepted) (height_in_all otherwise)) in

@@ -1,163 +1,152 @@
 -- The image of straight code, loaded and run.
-use Rattle.std.proofs.Common.{◌≡◌, ℕ, ◌+◌, ◌*◌, ◌≤◌, List, [], ◌∷◌, ◌++◌, length, All, Option, Some, None, is_some, unwrap_or, refl, sym, ap, subst, arith, length-append}
-use Rattle.std.proofs.lemmas.Bool.{true≢false, false≢true}
+use Rattle.std.proofs.Common.{◌≡◌, ℕ, ◌+◌, ◌*◌, ◌≤◌, List, [], ◌∷◌, ◌++◌, length, All, None, Some, slice_index, refl, sym, ap, ap₂, ◌∙◌, subst, arith, length-append}
 use Rattle.std.proofs.lemmas.List.Elements.{All-append}
-use Rattle.std.specs.Option.{option_map}
 use Rattle.std.proofs.Math.Nat.{le-max_left, le-max_right}
 use Rattle.arguments.specs.Within.{AreWithin}
-use Rattle.branch_removal.specs.Fitness.{AreFit, IsFitResult, IsFitOn}
-use Rattle.branch_removal.specs.Path.{Path, path_along, path_of}
 use Rattle.branch_removal.specs.Straight.{StraightProgram}
-use Rattle.branch_removal.specs.StraightMeaning.{StraightState, start, after_all, outcome_of}
-use Rattle.codegen.specs.Emitted.{statements_code, height_in_all}
-use Rattle.codegen.specs.Generated.{program_code, result_code, result_height, result_slot, image_of}
+use Rattle.branch_removal.specs.StraightMeaning.{StraightState, start, after_all, path_along, outcome_of, path_of}
+use Rattle.codegen.specs.Bases.{IsInside, AreBases}
+use Rattle.codegen.specs.Emitted.{block_code, height_in_all, depth_in_all}
+use Rattle.codegen.specs.Followed.{RunsAs, IsFollowed}
+use Rattle.codegen.specs.Generated.{program_base, program_code, result_code, result_height, image_of}
+use Rattle.codegen.specs.Loaded.{code_at, loaded_at, results_in}
 use Rattle.codegen.specs.Room.{HasRoom}
-use Rattle.inline.specs.Flat.{TermTree}
-use Rattle.inline.specs.FlatMeaning.{value_in}
+use Rattle.inline.specs.FlatSize.{value_nodes}
+use Rattle.inline.specs.FlatTyping.{types_of}
+use Rattle.inline.specs.Path.{Path, AreFine}
+use Rattle.language.specs.declared.values.Arg.{Arg}
 use Rattle.rv_code.specs.declared.instructions.Instr.{Instr}
 use Rattle.rv_code.specs.declared.instructions.Instr.TheVariants as instr
 use Rattle.rv_machine.specs.declared.observation.Observation.{Observation}
 use Rattle.rv_machine.specs.declared.stops.Stop.TheVariants.{Ecall}
+use Rattle.rv_machine.specs.Bytes.{number_at}
 use Rattle.rv_machine.specs.Leakage.{Halts}
 use Rattle.rv_machine.specs.Machine as machine
 use Rattle.rv_machine.specs.Machine.{IsAt}
 use Rattle.rv_machine.proofs.RunLaws.{Halts-after}
 use Rattle.rv_machine.proofs.TurnLaws.{ecall_halts}
-use Rattle.language.specs.declared.typing.WordType.{WordType}
-use Rattle.language.specs.declared.values.Arg.{Arg}
-use Rattle.codegen.specs.Bases.{IsInside, AreBases}
-use Rattle.codegen.specs.Followed.{RunsAs, IsFollowed}
-use Rattle.codegen.specs.Loaded.{code_at, loaded_at, results_in, word_in}
 use Rattle.codegen.proofs.Arguments.{loaded}
+use Rattle.codegen.proofs.Places.{bytes_of}
 use Rattle.codegen.proofs.Placing.{placed}
-use Rattle.codegen.proofs.ResultRuns.{steps_of_result, ResultFitted, Left, result_runs}
-use Rattle.codegen.proofs.StatementRuns.{AllAble, statements_runs}
+use Rattle.codegen.proofs.ResultRuns.{steps_of_result, Given, result_runs}
+use Rattle.codegen.proofs.Results.{arrays_are, returned_is}
+use Rattle.codegen.proofs.Showing.{Shown}
+use Rattle.codegen.proofs.StatementRuns.{block_runs}
 use Rattle.codegen.proofs.Steps.{All-one}
-use Rattle.codegen.proofs.Straight.{Placed, Placed-left, Placed-right, Straight, Steps, After, Runs, Then, seq, weaken, beside}
+use Rattle.codegen.proofs.Straight.{Setting, Placed, Placed-left, Placed-right, Straight, Steps, Runs, seq, weaken, cheaper, beside}
 use Rattle.codegen.proofs.Values.{Ready}
 
 -- the state that the value is taken in
 abbrev last_state : StraightProgram → StraightState → StraightState
-last_state p env = after_all env p.statements
+last_state p env = after_all env p.body
 
--- what a run is asked
-pub record Begins (p : StraightProgram) (frame size : ℕ) (env : StraightState) (s : machine.State) : Type 0 where
-  pub ready : Ready frame size p.variables p.controls env s
-  pub fit : AreFit env p.statements
-  pub value : IsFitResult (last_state p env).variables p.value
+module _ (p : StraightProgram) (room : HasRoom p) (code frame : ℕ) (bases : AreBases (image_of p) code frame) where
+  abbrev setting : Setting
+  setting = record {
+    code = code_at code (image_of p);
+    frame = frame;
+    size = (image_of p).frame_bytes;
+    counts = p.turns;
+    declared = p.declared;
+    controls = p.controls;
+    depths = depth_in_all p.body;
+    even = bases.frame_aligned;
+    ends = bases.frame_ends;
+    room = omega arith;
+  }
 
-module _ (p : StraightProgram) (room : HasRoom p) (result : is_some p.value ≡ is_some p.returned) (code frame : ℕ) (bases : AreBases (image_of p) code frame) where
   -- all but the end
   body : List Instr
-  body = statements_code p.variables p.controls p.statements ++ result_code p.variables p.controls p.value
-
-  Shown : After
-  Shown env s t = Ready frame (image_of p).frame_bytes p.variables p.controls (last_state p env) t
-
-  Taken : After
-  Taken env s t = Left frame p.variables p.value (last_state p env) t
-
-  After_body : After
-  After_body = Then Shown Taken
+  body = block_code p.declared p.controls (depth_in_all p.body) 0 p.body ++ result_code p.declared (program_base p) p.value
 
   steps : Steps
-  steps env = path_along env p.statements ++ steps_of_result p.value (last_state p env)
+  steps env = path_along env p.body ++ steps_of_result p.value (last_state p env)
 
-  body_runs : Runs (code_at code (image_of p)) frame (image_of p).frame_bytes steps body (Begins p frame (image_of p).frame_bytes) After_body
-  unfolding body Shown Taken After_body steps
+  Finished : StraightState → machine.State → machine.State → Type 0
+  Finished env s t = Given setting p.value (last_state p env) s t
+
+  body_runs : Runs setting (32 * p.work) steps body (Ready setting) Finished
+  unfolding body steps Finished
   body_runs =
-      let c = code_at code (image_of p) in
-      let n = (image_of p).frame_bytes in
-      let even = bases.frame_aligned in
-      let ends = bases.frame_ends in
-      let v = p.variables in
-      let k = p.controls in
-      let xs = statements_code v k p.statements in
-      let ys = result_code v k p.value in
-      let l = le-max_left (height_in_all p.statements) (result_height p.value) in
-      let r = le-max_right (height_in_all p.statements) (result_height p.value) in
-      let P = Begins p frame n in
-      let Q1 = λ (env : StraightState) (s t : machine.State). Ready frame n v k (last_state p env) t in
-      let Q2 = λ (env : StraightState) (s t : machine.State). Left frame v p.value (last_state p env) t in
-      let a : Steps = λ env. path_along env p.statements in
-      let b : Steps = λ env. steps_of_result p.value (last_state p env) in
-      let one = weaken c frame n a xs (AllAble frame n v k p.statements) P Q1 Q1 (λ env s begins. record { ready = begins.ready; fit = begins.fit }) (λ env s t begins done. done) (statements_runs c frame n even ends v k p.statements room.statements (omega (arith, l))) in
-      let two = beside c frame n (last_state p) (steps_of_result p.value) ys (ResultFitted frame n v k p.value) (λ env s t. Left frame v p.value env t) (result_runs c frame n even ends v k p.value room.value (omega (arith, r))) in
-      seq c frame n a b xs ys P (λ env s. ResultFitted frame n v k p.value (last_state p env) s) Q1 Q2 one two (λ env s t begins done. record { ready = done; fit = begins.value })
+      let l = le-max_left (height_in_all p.body) (result_height p.value) in
+      let r = le-max_right (height_in_all p.body) (result_height p.value) in
+      let worked = room.worked in
+      let counted = room.counted in
+      let nodes = room.nodes in
+      cheaper setting (omega (arith, worked))
+      (weaken setting {P = Ready setting}
+      (λ env s fine ready. ready)
+      (λ env s t fine ready done. record { ready = done.second.ready; left = done.second.left })
+      (seq setting
+      (block_runs setting 0 p.body room.typed.body (omega (arith, l)) (omega arith) (omega (arith, counted, nodes)))
+      (beside setting (last_state p) (result_runs setting p.returned p.value room.typed.result (omega (arith, r))))
+      (λ env s t ready done. done.ready)))
 
-  all_placed : Placed (code_at code (image_of p)) code (body ++ instr.Ecall ∷ [])
+  all_placed : Placed setting.code code (body ++ instr.Ecall ∷ [])
   unfolding body
   all_placed = placed code (image_of p).words [] (program_code p) code bases.code_aligned bases.code_ends refl (omega arith)
 
-  straight : Straight (code_at code (image_of p)) frame (image_of p).frame_bytes code steps body (Begins p frame (image_of p).frame_bytes) After_body
-  straight = body_runs code (Placed-left (code_at code (image_of p)) code body (instr.Ecall ∷ []) all_placed)
+  straight : Straight setting code (32 * p.work) steps body (Ready setting) Finished
+  straight = body_runs code (Placed-left setting.code code body (instr.Ecall ∷ []) all_placed)
 
   last : ℕ
   last = code + 4 * length body
 
-  stands_last : (s : machine.State) → s.pc ≡ last → IsAt (code_at code (image_of p)) s.pc instr.Ecall
+  stands_last : (s : machine.State) → s.pc ≡ last → IsAt setting.code s.pc instr.Ecall
   unfolding last
   stands_last s at =
-      let there = Placed-right (code_at code (image_of p)) code body (instr.Ecall ∷ []) all_placed in
-      subst (λ q. IsAt (code_at code (image_of p)) q instr.Ecall) (sym at) (record { aligned = there.0; word = there.2; in_range = tt })
+      let there = Placed-right setting.code code body (instr.Ecall ∷ []) all_placed in
+      subst (λ q. IsAt setting.code q instr.Ecall) (sym at) (record { aligned = there.0; word = there.2; in_range = tt })
 
   end_shown : List Observation
   end_shown = record { pc = last; event = None } ∷ []
 
-  ends_there : (s : machine.State) → s.pc ≡ last → Halts (code_at code (image_of p)) 1 s end_shown Ecall s
+  ends_there : (s : machine.State) → s.pc ≡ last → Halts setting.code 1 s end_shown Ecall s
   unfolding end_shown
   ends_there s at =
-      subst (λ q. Halts (code_at code (image_of p)) 1 s (record { pc = q; event = None } ∷ []) Ecall s) at (ecall_halts (code_at code (image_of p)) s (stands_last s at))
+      subst (λ q. Halts setting.code 1 s (record { pc = q; event = None } ∷ []) Ecall s) at (ecall_halts setting.code s (stands_last s at))
 
   end_inside : All (λ (o : Observation). IsInside frame (image_of p).frame_bytes o.event) end_shown
   unfolding end_shown
   end_inside = All-one (λ (o : Observation). IsInside frame (image_of p).frame_bytes o.event) (record { pc = last; event = None }) tt
 
-  word_count : length body + 1 ≤ (image_of p).max_steps
-  unfolding body
-  word_count =
-      let all = length-append body (instr.Ecall ∷ []) in
-      let most = room.code in
-      omega (arith, all, most)
+  begins : (args : List Arg) → AreWithin p.parameters args → Ready setting (start p args) (loaded_at code frame (image_of p) args)
+  begins args within = loaded setting p.parameters args room.typed.parameters within (loaded_at code frame (image_of p) args) refl refl
 
-  begins : (args : List Arg) → AreWithin p.parameters args → IsFitOn p args → Begins p frame (image_of p).frame_bytes (start args) (loaded_at code frame (image_of p) args)
-  begins args within fit = record {
-    ready = loaded frame (image_of p).frame_bytes p.variables p.controls p.parameters args room.parameters (omega arith) room.words within (loaded_at code frame (image_of p) args) refl refl;
-    fit = fit.statements;
-    value = fit.value;
-  }
-
-  -- the outcome, where the result's slot has the result
-  outcome_by : (returned : Option WordType) (value : Option TermTree) → is_some value ≡ is_some returned → (env : StraightState) (t : machine.State) → Left frame p.variables value env t
-      → option_map (λ slot. word_in frame t.bytes slot.offset) (option_map (result_slot p.variables) returned) ≡ option_map (value_in env.variables) value
-  outcome_by None None same env t left = refl
-  outcome_by (Some word) None same env t left = absurd (false≢true same)
-  outcome_by None (Some value) same env t left = absurd (true≢false same)
-  outcome_by (Some word) (Some value) same env t left = ap (λ x. Some (unwrap_or x 0)) left
-
-  outcome : (args : List Arg) (s t : machine.State) → After_body (start args) s t → results_in frame (image_of p) t.bytes ≡ outcome_of p args
-  unfolding Shown Taken After_body
+  outcome : (args : List Arg) (s t : machine.State) → Finished (start p args) s t → results_in frame (image_of p) t.bytes ≡ outcome_of p args
+  unfolding Finished
   outcome args s t done =
-      ap (λ x. record { returned = x; arrays = [] }) (outcome_by p.returned p.value result (last_state p (start args)) t done.second)
+      let m = (last_state p (start p args)).variables in
+      ap₂ (λ r arrays. record { returned = r; arrays = arrays })
+      (returned_is frame p.declared (types_of p.declared) p.returned p.value m t.bytes room.typed.result done.left)
+      (arrays_are frame t.bytes m p.parameters p.declared 0 0 room.typed.parameters
+      (λ y d is. let e : 0 + y ≡ y = omega arith in ap (λ k. length (m k)) e ∙ (done.ready.fits y d is).count)
+      (λ y d i is below.
+      let e : 0 + y ≡ y = omega arith in
+      ap (λ o. number_at t.bytes (bytes_of d) (frame + o)) (omega arith) ∙ (done.ready.variables_there y d i is below ∙ ap (λ k. Some (slice_index (m k) i)) (sym e))))
 
-  runs_as : (args : List Arg) → AreWithin p.parameters args → IsFitOn p args → RunsAs p (image_of p) code frame args ((straight.leak (path_of p args ++ [])).0 ++ end_shown)
+  runs_as : (args : List Arg) → AreWithin p.parameters args → AreFine p.turns (path_of p args) → RunsAs p (image_of p) code frame args ((straight.leak (path_of p args ++ [])).0 ++ end_shown)
   unfolding steps last
-  runs_as args within fit =
+  runs_as args within fine =
       let s = loaded_at code frame (image_of p) args in
-      let done = straight.runs (start args) s [] refl (begins args within fit) in
+      let done = straight.runs (start p args) s [] refl fine (begins args within) in
       let all = Halts-after done.leads (ends_there done.end done.at) in
       let inside = All-append (λ (o : Observation). IsInside frame (image_of p).frame_bytes o.event) done.seen end_shown done.inside end_inside in
       let same : (straight.leak (path_of p args ++ [])).0 ≡ done.seen = ap (λ (r : List Observation × Path). r.0) done.shown in
+      let few = done.within in
       subst (λ (seen : List Observation). RunsAs p (image_of p) code frame args (seen ++ end_shown)) (sym same)
       (record {
-        turns = length body + 1;
+        turns = done.turns + 1;
         end = done.end;
         halts = all;
-        within_steps = word_count;
+        within_steps = omega (arith, few);
         within_frame = inside;
         outcome = outcome args s done.end done.done;
       })
 
-  -- the machine follows the code
-  pub followed : IsFollowed p (image_of p) code frame
-  followed = record { shown = λ path. (straight.leak (path ++ [])).0 ++ end_shown; runs = runs_as }
+-- the machine follows the code
+pub followed : (p : StraightProgram) → HasRoom p → (code frame : ℕ) → AreBases (image_of p) code frame → IsFollowed p (image_of p) code frame
+followed p room code frame bases = record {
+  shown = λ path. ((straight p room code frame bases).leak (path ++ [])).0 ++ end_shown p room code frame bases;
+  runs = λ args within fine. runs_as p room code frame bases args within fine;
+}

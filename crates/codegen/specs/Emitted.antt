@@ -65,13 +65,13 @@ element_store_code kind offset =
 -- all words of an array become 0: from the address in one register up to that in another
 abbrev pub clear_code : ℕ → ℕ → List Instr
 clear_code offset words =
-    constant_code address_register offset
-    ++ Register Add address_register address_register frame_register ∷ []
+    constant_code left_register offset
+    ++ Register Add left_register left_register frame_register ∷ []
     ++ constant_code condition_register (4 * words)
-    ++ Register Add condition_register condition_register address_register ∷ []
+    ++ Register Add condition_register condition_register left_register ∷ []
     ++ loop_code
-    (Register Sub value_register condition_register address_register ∷ [])
-    (Store Sw zero_register address_register 0 ∷ Immediate Addi address_register address_register 4 ∷ [])
+    (Register Sub value_register condition_register left_register ∷ [])
+    (Store Sw zero_register left_register 0 ∷ Immediate Addi left_register left_register 4 ∷ [])
 
 -- values into the elements from this one on
 abbrev pub fill_code : List FlatVariable → ℕ → Kind → ℕ → List TermTree → List Instr

@@ -1,25 +1,31 @@
 -- Programs that the frame and an image have room for.
-use Rattle.std.specs.Prelude.{ℕ, ◌+◌, ◌*◌, ◌≤◌, length}
+use Rattle.std.specs.Prelude.{◌+◌, ◌*◌, ◌≤◌, length, map}
 use Rattle.std.specs.List.{AllByRecursion}
-use Rattle.branch_removal.specs.Bounds.{HasPlaces}
-use Rattle.branch_removal.specs.Straight.{StraightTree, StraightProgram}
+use Rattle.branch_removal.specs.Bounds.{block_nodes, block_work}
+use Rattle.branch_removal.specs.Straight.{StraightProgram}
+use Rattle.branch_removal.specs.StraightTyping.{IsTypedStraight}
+use Rattle.codegen.specs.Emitted.{depth_in_all}
 use Rattle.codegen.specs.Generated.{program_code, program_height}
-use Rattle.codegen.specs.Layout.{temporaries_offset}
-use Rattle.inline.specs.FlatSize.{IsResultUpTo, IsWord}
-
--- a layout whose temporaries have room for so many slots
-pub record HasFrame (variables controls height : ℕ) : Type 0 where
-  pub variables_fit : variables ≤ 8192
-  pub controls_fit : controls ≤ 6001
-  pub temporaries_fit : temporaries_offset variables controls + 4 * height ≤ 65536
+use Rattle.codegen.specs.Layout.{Frame}
+use Rattle.inline.specs.Flat.{declaration_of}
+use Rattle.inline.specs.FlatSize.{HasLength, declared_words, value_nodes}
+use Rattle.intervals.specs.declared.limits.TheConstants.{MOST_WORK}
+use Rattle.language.specs.declared.limits.TheConstants.{MOST_NODES, MOST_DECLARED_BYTES}
+use Rattle.language.specs.declared.signature.Param.{Param}
 
 pub record HasRoom (p : StraightProgram) : Type 0 where
-  pub words : AllByRecursion IsWord p.parameters
-  pub parameters : length p.parameters ≤ p.variables
-  pub variables : 4 * p.variables ≤ 32768
-  pub nodes : p.nodes ≤ 6000
-  -- one number past the variables has a word too, the result's, which is written last
-  pub statements : AllByRecursion (λ (statement : StraightTree). HasPlaces p.variables p.controls statement) p.statements
-  pub value : IsResultUpTo p.variables p.value
-  pub frame : p.controls + program_height p ≤ p.nodes + 1
+  pub typed : IsTypedStraight p
+  pub lengths : AllByRecursion (λ (parameter : Param). HasLength parameter.form parameter.length) p.parameters
+  pub parameters : declared_words (map declaration_of p.parameters) ≤ declared_words p.declared
+  pub declared : 4 * declared_words p.declared ≤ MOST_DECLARED_BYTES
+  pub nodes : p.nodes ≤ MOST_NODES
+  pub work : p.work ≤ MOST_WORK
+  pub worked : block_work p.turns p.body + value_nodes p.value ≤ p.work
+  pub counted : block_nodes p.body ≤ p.nodes
+  -- the words that lie behind the variables and the result
+  pub frame : p.controls + 2 * depth_in_all p.body + program_height p ≤ p.nodes
   pub code : length (program_code p) ≤ 32 * p.nodes + 64
+
+-- how a program is laid out
+abbrev pub frame_of : StraightProgram → Frame
+frame_of p = record { declared = p.declared; controls = p.controls; depths = depth_in_all p.body }

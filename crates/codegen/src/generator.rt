@@ -1,15 +1,17 @@
-ghost use Rattle.std.specs.Prelude.{◌≡◌, ◌<◌, ◌^◌, map, All, IfOk};
+ghost use Rattle.std.specs.Prelude.{◌≡◌, ◌+◌, ◌*◌, ◌<◌, ◌≤◌, ◌^◌, map, All, IfOk};
 ghost use Rattle.std.specs.Option.{option_map};
 ghost use Rattle.branch_removal.specs.Bounds.{IsBounded};
+ghost use Rattle.branch_removal.specs.StraightTyping.{IsTypedStraight};
 ghost use Rattle.codegen.specs.Followed.{IsGenerated};
 ghost use Rattle.codegen.specs.Generated.{program_code, program_height, result_slot, step_limit, image_of};
-ghost use Rattle.codegen.specs.Room.{HasRoom};
+ghost use Rattle.codegen.specs.Room.{HasRoom, frame_of};
+ghost use Rattle.intervals.specs.declared.limits.TheConstants.{MOST_WORK};
 ghost use Rattle.rv_code.specs.Words.{word_of};
 
 use crate::emit;
 use crate::expressions::{expression, height};
-use crate::layout::{Layout, WORD_BYTES, slots};
-use crate::statements::{greatest_height, statements};
+use crate::layout::{Layout, WORD_BYTES, offsets, slots};
+use crate::statements::{greatest_depth, greatest_height, statements};
 use branch_removal::Straight;
 use image::{Image, ResultSlot};
 use rv_code::{Instr, Reg, encode};
@@ -28,14 +30,17 @@ fn words(alloc: Global, code: &[Instr]) -> Result<Vec<u32>, AllocError>
 }
 
 /// The code of a program, in its layout.
-fn code(alloc: Global, straight: &Straight<'_>, layout: Layout) -> Result<Vec<Instr>, AllocError>
+fn code(
+    alloc: Global,
+    straight: &Straight<'_>,
+    layout: &Layout<'_>,
+) -> Result<Vec<Instr>, AllocError>
     requires room { HasRoom straight.now }
-    requires variables { layout.variables ≡ straight.now.variables }
-    requires controls { layout.controls ≡ straight.now.controls }
+    requires frame { layout.now ≡ frame_of straight.now }
     ensures { IfOk result (λ code. code.items ≡ program_code straight.now) }
 {
     let mut code = Vec::new(alloc);
-    statements(&mut code, layout, straight.statements())?;
+    statements(alloc, &mut code, layout, 0, straight.body())?;
     if let Some(value) = straight.value() {
         expression(&mut code, layout, layout.temporaries(), value)?;
         emit::store(&mut code, Reg::X5, layout.result())?;
@@ -53,14 +58,13 @@ fn temporaries(straight: &Straight<'_>) -> u32
         Some(value) => height(value),
         None => 0,
     };
-    greatest_height(straight.statements()).max(result)
+    greatest_height(straight.body()).max(result)
 }
 
 /// The slot of the result, where there is one.
-fn result_slot(straight: &Straight<'_>, layout: Layout) -> Option<ResultSlot>
-    requires room { HasRoom straight.now }
-    requires variables { layout.variables ≡ straight.now.variables }
-    ensures { result ≡ option_map (result_slot straight.now.variables) straight.now.returned }
+fn result_slot(straight: &Straight<'_>, layout: &Layout<'_>) -> Option<ResultSlot>
+    requires { layout.now ≡ frame_of straight.now }
+    ensures { result ≡ option_map (result_slot straight.now.declared) straight.now.returned }
 {
     let word = straight.returned()?;
     Some(ResultSlot {
@@ -70,11 +74,12 @@ fn result_slot(straight: &Straight<'_>, layout: Layout) -> Option<ResultSlot>
     })
 }
 
-/// How many instructions a run may take, by how many nodes the source has.
-fn step_limit(nodes: u32) -> u64
-    ensures { result ≡ step_limit nodes }
+/// How many instructions a run may take, by the work.
+fn step_limit(work: u64) -> u64
+    requires { work ≤ MOST_WORK }
+    ensures { result ≡ step_limit work }
 {
-    32 * u64::from(nodes) + 64
+    32 * work + 64
 }
 
 /// The image of straight code, as the definition lists it.
@@ -82,23 +87,24 @@ fn listed(alloc: Global, straight: &Straight<'_>) -> Result<Image, AllocError>
     requires { HasRoom straight.now }
     ensures { IfOk result (λ image. image ≡ image_of straight.now) }
 {
-    let layout = Layout {
-        variables: straight.variables(),
-        controls: straight.controls(),
-    };
-    let returned = result_slot(straight, layout);
-    let code = code(alloc, straight, layout)?;
+    let declared = straight.declared();
+    let offsets = offsets(alloc, declared)?;
+    let depths = greatest_depth(straight.body());
+    let layout = Layout::new(declared, offsets.as_slice(), straight.controls(), depths);
+    let returned = result_slot(straight, &layout);
+    let code = code(alloc, straight, &layout)?;
     let slots = slots(alloc, straight.parameters())?;
     let words = words(alloc, code.as_slice())?;
     let frame_bytes = layout.temporaries() + WORD_BYTES * temporaries(straight);
-    let max_steps = step_limit(straight.nodes());
+    let max_steps = step_limit(straight.work());
     Ok(Image::new(slots, returned, frame_bytes, max_steps, words))
 }
 
 /// The image of straight code. The machine, running it, follows the code: the outcome is that of the code, and what it
 /// shows is decided by the path of public values.
 pub fn generate(alloc: Global, straight: &Straight<'_>) -> Result<Image, AllocError>
-    requires { IsBounded straight.now }
+    requires typed { IsTypedStraight straight.now }
+    requires bounded { IsBounded straight.now }
     ensures { IfOk result (IsGenerated straight.now) }
 {
     listed(alloc, straight)

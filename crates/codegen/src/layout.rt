@@ -20,7 +20,7 @@ const LOOP_BYTES: u32 = 8;
 
 /// The variables with where they lie, how many control values there are, and how many loops stand in one
 /// another at most.
-#[derive(Debug)]
+#[derive(Debug, Drop)]
 pub struct Layout<'f> {
     declared: &'f [FlatVariable],
     /// The offset of each variable, and that of the result behind them.

@@ -6,3 +6,9 @@ pub mod BoundLemmas
 pub mod RefusalLemmas
 pub mod StrictRuns
 pub mod Safe
+pub mod LooseTypes
+pub mod LooseIntervals
+pub mod LooseTerms
+pub mod LooseNarrowing
+pub mod LooseStatements
+pub mod Counting

@@ -1,10 +1,12 @@
 // The laws, which hold of the definitions alone.
 
-ghost use Rattle.std.specs.Prelude.{◌≡◌, ℕ, List};
+ghost use Rattle.std.specs.Prelude.{◌≡◌, ℕ, List, length};
 ghost use Rattle.arguments.specs.Within.{AreWithin};
 ghost use Rattle.inline.specs.Flat.{FlatProgram};
 ghost use Rattle.inline.specs.FlatMeaning.{ending_of, outcome_of, path_of};
+ghost use Rattle.inline.specs.FlatTyping.{IsTypedProgram};
 ghost use Rattle.intervals.specs.Loose.{IsLooseRun, IsSafe};
+ghost use Rattle.intervals.specs.Ranges.{range_violations, turns_of};
 ghost use Rattle.language.specs.Meaning.{gives};
 ghost use Rattle.language.specs.declared.values.Arg.{Arg};
 
@@ -17,4 +19,10 @@ pub fn strict_runs_are_loose()
 pub fn safe_runs_meet_no_fault()
     ensures { (p : FlatProgram) (turns : List ℕ) (args : List Arg) → IsSafe p turns → AreWithin p.parameters args
         → ending_of p args ≡ gives (outcome_of p args) }
+{}
+
+/// A well-typed program whose ranges are kept is safe: no run on arguments within its parameter types, whatever the secrets in
+/// it are, meets a fault or makes more turns in a loop than are counted for it.
+pub fn accepted_is_safe()
+    ensures { (p : FlatProgram) → IsTypedProgram p → length (range_violations p) ≡ 0 → IsSafe p (turns_of p) }
 {}

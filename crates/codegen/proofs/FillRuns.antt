@@ -1,0 +1,248 @@
+-- The code that fills an array with values.
+use Rattle.std.proofs.Common.{◌≡◌, ℕ, ◌+◌, ◌*◌, ◌%◌, ◌^◌, ◌<◌, ◌≤◌, ◌==◌, Bool, true, false, cond, nat_lt, List, [], ◌∷◌, ◌++◌, length, map, None, Some, slice_get, is_some, refl, sym, ap, ◌∙◌, subst, arith, eq-eqb, append_assoc, length-append}
+use Rattle.std.specs.Prelude.{slice_set}
+use Rattle.std.proofs.Math.Nat.{le-max_left, le-max_right}
+use Rattle.std.proofs.Math.Seq.{set-append_seam}
+use Rattle.std.proofs.lemmas.Bool.{eqb-true}
+use Rattle.std.proofs.lemmas.Bool.Decides.{nat_tests}
+use Rattle.inline.specs.declared.flat.FlatVariable.{FlatVariable}
+use Rattle.inline.specs.Flat.{TermTree, array_as}
+use Rattle.inline.specs.FlatMeaning.{Values, with_value, value_in, path_in_all}
+use Rattle.inline.specs.FlatSize.{term_nodes, terms_nodes}
+use Rattle.inline.specs.FlatTyping.{types_of, Suits, AllSuit}
+use Rattle.branch_removal.proofs.Scopes.{but_among, suits_among}
+use Rattle.branch_removal.proofs.Values.{one_path_all, all_values}
+use Rattle.branch_removal.specs.Straight.{fill}
+use Rattle.branch_removal.specs.StraightMeaning.{StraightState, with_variable, with_element, value_at, after, path_at}
+use Rattle.branch_removal.specs.StraightTyping.{IsFilled, types_but}
+use Rattle.codegen.specs.Emitted.{store_by, element_store_code, fill_code, statement_code, height_of_all}
+use Rattle.codegen.specs.Layout.{variable_offset}
+use Rattle.codegen.specs.TermCode.{upper_part, lower_part, expr_code, height_of}
+use Rattle.language.specs.declared.signature.Kind.{Kind}
+use Rattle.language.specs.declared.typing.WordType.{WordType}
+use Rattle.language.specs.Size.{element_bytes}
+use Rattle.rv_code.specs.declared.instructions.Instr.TheVariants as instr
+use Rattle.rv_code.specs.declared.operations.RegisterOperation.TheVariants.{Add}
+use Rattle.rv_code.specs.declared.operations.UpperOperation.TheVariants.{Lui}
+use Rattle.rv_machine.specs.Bytes.{ByteMap, number_at, with_number}
+use Rattle.rv_machine.specs.Effects.{store_size, sum_of, sign_extended}
+use Rattle.rv_machine.specs.Machine as machine
+use Rattle.rv_machine.specs.Registers.{register}
+use Rattle.rv_machine.specs.Sizes.{byte_count}
+use Rattle.codegen.proofs.Arithmetic.{near_address, far_address, upper_fits, lower_fits}
+use Rattle.codegen.proofs.ExpressionRuns.{steps_of, kind_known}
+use Rattle.codegen.proofs.Held.{HeldAt, Held, held_store, frame_there}
+use Rattle.codegen.proofs.Places.{place_of, place_aligned}
+use Rattle.codegen.proofs.PutRuns.{store_bytes, element_before, element_inside}
+use Rattle.codegen.proofs.Showing.{Shown, suits_fits, value_runs, ready_valued, wrote_as}
+use Rattle.codegen.proofs.Slots.{Wrote, hidden_then, hidden_kept, hidden_wrote, cut_element, ready_same, ready_put}
+use Rattle.codegen.proofs.Steps.{Always, Inside, Fit, Moves, storing, computing}
+use Rattle.codegen.proofs.Straight.{Setting, base_of, none, Runs, seq, quiet, weaken, cheaper, beside, along, as_code, idle}
+use Rattle.codegen.proofs.TermLengths.{height}
+use Rattle.codegen.proofs.Values.{Ready}
+
+-- The value's register into an element of a fixed place.
+module _ (z : Setting) (kind : Kind) (o : ℕ) (inside : o + element_bytes kind ≤ z.size) (even : (z.frame + o) % element_bytes kind ≡ 0) where
+  abbrev stored : ℕ
+  stored = byte_count (store_size (store_by kind))
+
+  in_frame : Inside z stored (z.frame + o)
+  in_frame =
+      let bytes = store_bytes kind in
+      record { even = ap (λ m. (z.frame + o) % m) bytes ∙ even; low = omega arith; high = omega (arith, inside, bytes) }
+
+  fits_at : (s : machine.State) (r l : ℕ) → HeldAt z s → sum_of (register s.regs r) (sign_extended 12 l) ≡ z.frame + o → Fit stored r l (z.frame + o) s
+  fits_at s r l held address = record {
+    address = address;
+    data_there = ap (λ m. is_some (number_at s.bytes m (z.frame + o))) (store_bytes kind) ∙ frame_there z s held (element_bytes kind) o inside;
+  }
+
+  wrote_by : (s t : machine.State) (v : ℕ) → HeldAt z s → t.regs 2 ≡ s.regs 2 → t.bytes ≡ with_number s.bytes stored (z.frame + o) v → Wrote z (element_bytes kind) o v s t
+  wrote_by s t v held base bytes =
+      let written = bytes ∙ ap (λ m. with_number s.bytes m (z.frame + o) v) (store_bytes kind) in
+      record { held = held_store z s t (element_bytes kind) o v inside base written held; written = written }
+
+  near_element : o < 2048 → Runs z 3 none (instr.Store (store_by kind) 5 2 o ∷ []) (Held z) (λ env s t. Wrote z (element_bytes kind) o (s.regs 5) s t)
+  near_element near =
+      let ends = z.ends in
+      cheaper z (omega arith)
+      (weaken z
+      (λ env s fine held. fits_at s 2 o held (ap (λ x. sum_of x (sign_extended 12 o)) held.base ∙ near_address z.frame o near (omega (arith, ends, inside))))
+      (λ env s t fine held writes. wrote_by s t (s.regs 5) held (ap (λ (regs : ℕ → ℕ). regs 2) writes.same) writes.written)
+      (storing z (store_by kind) 5 2 o (z.frame + o) (omega arith, omega arith, omega (arith, near)) in_frame))
+
+  raised : Runs z 2 none (instr.Upper Lui 28 (upper_part o) ∷ instr.Register Add 28 28 2 ∷ []) (Held z) (λ env s t. Moves 28 (sum_of (upper_part o * 2 ^ 12) z.frame) s t)
+  raised =
+      weaken z {P = Always}
+      (λ env s fine held. tt)
+      (λ env s t fine held both.
+      let m = both.middle in
+      let one = both.first in
+      let two = both.second in
+      let base : m.regs 2 ≡ z.frame = one.others 2 (λ e. omega arith) ∙ held.base in
+      record {
+        there = two.there ∙ (ap (λ x. sum_of x (m.regs 2)) one.there ∙ ap (λ x. sum_of (upper_part o * 2 ^ 12) x) base);
+        others = λ q h. two.others q h ∙ one.others q h;
+        same = two.same ∙ one.same;
+      })
+      (seq z
+      (computing z (instr.Upper Lui 28 (upper_part o)) 28 (λ regs. upper_part o * 2 ^ 12) (omega arith, upper_fits o) (λ e. omega arith) (λ pc regs. refl))
+      (computing z (instr.Register Add 28 28 2) 28 (λ regs. sum_of (regs 28) (regs 2)) (omega arith, omega arith, omega arith) (λ e. omega arith) (λ pc regs. refl))
+      (λ env s t fit done. tt))
+
+  far_element : Runs z 3 none (instr.Upper Lui 28 (upper_part o) ∷ instr.Register Add 28 28 2 ∷ instr.Store (store_by kind) 5 28 (lower_part o) ∷ []) (Held z) (λ env s t. Wrote z (element_bytes kind) o (s.regs 5) s t)
+  far_element =
+      let ends = z.ends in
+      weaken z {P = Held z}
+      (λ env s fine held. held)
+      (λ env s t fine held both.
+      let m = both.middle in
+      let one = both.first in
+      let two = both.second in
+      wrote_by s t (s.regs 5) held (ap (λ (regs : ℕ → ℕ). regs 2) two.same ∙ one.others 2 (λ e. omega arith))
+      (two.written ∙ (ap (λ (b : ByteMap). with_number b stored (z.frame + o) (m.regs 5)) one.same ∙ ap (λ v. with_number s.bytes stored (z.frame + o) v) (one.others 5 (λ e. omega arith)))))
+      (seq z raised
+      (storing z (store_by kind) 5 28 (lower_part o) (z.frame + o) (omega arith, omega arith, lower_fits o) in_frame)
+      (λ env s t held moves. record {
+        address = ap (λ x. sum_of x (sign_extended 12 (lower_part o))) moves.there ∙ far_address z.frame o (omega (arith, ends, inside));
+        data_there = ap (λ (b : ByteMap). is_some (number_at b stored (z.frame + o))) moves.same ∙ (fits_there s held);
+      }))
+    where
+      fits_there : (s : machine.State) → HeldAt z s → is_some (number_at s.bytes stored (z.frame + o)) ≡ true
+      fits_there s held = ap (λ m. is_some (number_at s.bytes m (z.frame + o))) (store_bytes kind) ∙ frame_there z s held (element_bytes kind) o inside
+
+  element_by : (b : Bool) → nat_lt o 2048 ≡ b
+      → Runs z 3 none (cond b (instr.Store (store_by kind) 5 2 o ∷ []) (instr.Upper Lui 28 (upper_part o) ∷ instr.Register Add 28 28 2 ∷ instr.Store (store_by kind) 5 28 (lower_part o) ∷ []))
+      (Held z) (λ env s t. Wrote z (element_bytes kind) o (s.regs 5) s t)
+  element_by true h = near_element (grind (arith, nat_tests))
+  element_by false h = far_element
+
+  element_runs : Runs z 3 none (element_store_code kind o) (Held z) (λ env s t. Wrote z (element_bytes kind) o (s.regs 5) s t)
+  element_runs = element_by (nat_lt o 2048) refl
+
+-- a variable that is not known by its type is not read
+unread : (declared : List FlatVariable) (x : ℕ) (m : Values) (l : List ℕ) (y : ℕ) (d : FlatVariable) → types_but declared x y ≡ Some d → m y ≡ with_value m x l y
+unread declared x m l y d known = by_number (y == x) known
+  where
+    by_number : (b : Bool) → cond b None (slice_get declared y) ≡ Some d → m y ≡ cond b l (m y)
+    by_number true h = absurd cc
+    by_number false h = refl
+
+module _ (z : Setting) (depth : ℕ) (within : depth ≤ z.depths) (x size : ℕ) (word : WordType) (mutable : Bool) (known : slice_get z.declared x ≡ Some (array_as word mutable size)) where
+  abbrev d : FlatVariable
+  d = array_as word mutable size
+
+  abbrev at : ℕ → ℕ
+  at k = place_of z.declared x d k
+
+  -- one element is set, and then those after it
+  abbrev step : ℕ → TermTree → StraightState → StraightState
+  step k e env = with_element env x k (value_in env.variables e)
+
+  abbrev filled : ℕ → List TermTree → StraightState → StraightState
+  filled k [] env = env
+  filled k (e ∷ es) env = filled (k + 1) es (step k e env)
+
+  one_runs : (k : ℕ) (e : TermTree) → k < size → Suits (types_but z.declared x) word e → base_of z + 4 * height_of e ≤ z.size
+      → Runs z (16 * term_nodes e + 3) (steps_of e) (expr_code z.declared (base_of z) e ++ element_store_code word.kind (at k)) (Ready z) (Shown z depth (step k e))
+  one_runs k e below suits room =
+      let every = suits_among (types_but z.declared x) (types_of z.declared) (but_among z.declared x) word e suits in
+      let before = element_before z x size word mutable known k below in
+      let n = element_bytes word.kind in
+      weaken z {P = Ready z}
+      (λ env s fine ready. ready)
+      (λ env s t fine ready done.
+      let m = done.middle in
+      let v = value_in env.variables e in
+      let fits = suits_fits z.declared word e env.variables ready.fits every in
+      let wrote = wrote_as z n (at k) (m.regs 5) v m t done.first.there done.second in
+      record {
+        ready = ready_put z x k v v d known below fits env m t (ready_valued z e env s m ready done.first) wrote (cut_element word.kind size v fits);
+        hidden = hidden_then z depth s m t (hidden_kept z depth s m within done.first.kept) (hidden_wrote z depth n (at k) v m t (omega (arith, before)) wrote);
+      })
+      (quiet z (value_runs z word e every room)
+      (element_runs z word.kind (at k) (element_inside z x size word mutable known k below) (place_aligned z.declared x d k z.frame z.even))
+      (λ env s t ready valued. valued.held))
+
+  fill_from : (k o : ℕ) (es : List TermTree) → o ≡ at k → AllSuit (types_but z.declared x) word es → k + length es ≤ size → base_of z + 4 * height_of_all es ≤ z.size
+      → Runs z (32 * terms_nodes es) (λ env. path_in_all env.variables es) (fill_code z.declared (base_of z) word.kind o es) (Ready z) (Shown z depth (filled k es))
+  fill_from k o [] is suits few room =
+      weaken z
+      (λ env s fine ready. ready)
+      (λ env s t fine ready still. record {
+        ready = subst (λ (u : machine.State). Ready z env u) (sym still) ready;
+        hidden = λ a low high. ap (λ (u : machine.State). u.bytes (z.frame + a)) still;
+      })
+      (idle z {P = Ready z})
+  fill_from k o (e ∷ es) is suits few room =
+      let a = le-max_left (height_of e) (height_of_all es) in
+      let b = le-max_right (height_of e) (height_of_all es) in
+      let h = height e in
+      cheaper z (omega (arith, h))
+      (weaken z {P = Ready z}
+      (λ env s fine ready. ready)
+      (λ env s t fine ready done. record {
+        ready = done.second.ready;
+        hidden = hidden_then z depth s done.middle t done.first.hidden done.second.hidden;
+      })
+      (seq z
+      (as_code z (ap (λ p. expr_code z.declared (base_of z) e ++ element_store_code word.kind p) is) (one_runs k e (omega (arith, few)) suits.0 (omega (arith, room, a))))
+      (along z (λ env. one_path_all (types_but z.declared x) env.variables (step k e env).variables (λ y f there public. unread z.declared x env.variables _ y f there) word es suits.1)
+      (beside z (step k e) (fill_from (k + 1) (o + element_bytes word.kind) es (omega (arith, is)) suits.1 (omega (arith, few)) (omega (arith, room, b)))))
+      (λ env s t ready done. done.ready)))
+
+  -- What is held then.
+
+  other_kept : (k : ℕ) (es : List TermTree) (env : StraightState) (y : ℕ) → (y == x) ≡ false → (filled k es env).variables y ≡ env.variables y
+  other_kept k [] env y other = refl
+  other_kept k (e ∷ es) env y other =
+      other_kept (k + 1) es (step k e env) y other
+      ∙ ap (λ (b : Bool). cond b (slice_set (env.variables x) k (value_in env.variables e)) (env.variables y)) other
+
+  controls_kept : (k : ℕ) (es : List TermTree) (env : StraightState) (c : ℕ) → (filled k es env).controls c ≡ env.controls c
+  controls_kept k [] env c = refl
+  controls_kept k (e ∷ es) env c = controls_kept (k + 1) es (step k e env) c
+
+  no_more : (back : List ℕ) → length back ≡ 0 → back ≡ []
+  no_more [] h = refl
+  no_more (b ∷ back) h = absurd (omega (arith, h))
+
+  values_there : (k : ℕ) (es : List TermTree) (env : StraightState) (front back : List ℕ) → AllSuit (types_but z.declared x) word es
+      → env.variables x ≡ front ++ back → length front ≡ k → length back ≡ length es → (filled k es env).variables x ≡ front ++ map (value_in env.variables) es
+  values_there k [] env front back suits is long short = is ∙ ap (λ (b : List ℕ). front ++ b) (no_more back short)
+  values_there k (e ∷ es) env front [] suits is long short = absurd (omega (arith, short))
+  values_there k (e ∷ es) env front (b ∷ back) suits is long short =
+      let v = value_in env.variables e in
+      let own : (step k e env).variables x ≡ slice_set (env.variables x) k v = ap (λ (t : Bool). cond t (slice_set (env.variables x) k v) (env.variables x)) (eq-eqb x x refl) in
+      let seam : slice_set (front ++ b ∷ back) k v ≡ front ++ v ∷ back = subst (λ n. slice_set (front ++ b ∷ back) n v ≡ front ++ v ∷ back) long (set-append_seam front b back v) in
+      let all = own ∙ (ap (λ (l : List ℕ). slice_set l k v) is ∙ (seam ∙ sym (append_assoc front (v ∷ []) back))) in
+      let more = length-append front (v ∷ []) in
+      values_there (k + 1) es (step k e env) (front ++ v ∷ []) back suits.1 all (omega (arith, more, long)) (omega (arith, short))
+      ∙ (append_assoc front (v ∷ []) (map (value_in (step k e env).variables) es)
+      ∙ ap (λ (vs : List ℕ). front ++ v ∷ vs) (sym (all_values (types_but z.declared x) env.variables (step k e env).variables (λ y f there seen. unread z.declared x env.variables _ y f there) word es suits.1)))
+
+  all_filled : (values : List TermTree) (env : StraightState) → AllSuit (types_but z.declared x) word values → length (env.variables x) ≡ length values → (y : ℕ)
+      → (filled 0 values env).variables y ≡ (with_variable env x (map (value_at env) values)).variables y
+  all_filled values env suits long y = by_number (y == x) refl
+    where
+      by_number : (b : Bool) → (y == x) ≡ b → (filled 0 values env).variables y ≡ cond b (map (value_at env) values) (env.variables y)
+      by_number true is = ap (λ n. (filled 0 values env).variables n) (eqb-true y x is) ∙ values_there 0 values env [] (env.variables x) suits refl refl long
+      by_number false is = other_kept 0 values env y is
+
+pub fill_runs : (z : Setting) (depth x : ℕ) (values : List TermTree) → IsFilled z.declared x (length values) values → base_of z + 4 * height_of_all values ≤ z.size → depth ≤ z.depths
+    → Runs z (32 * (1 + length values + terms_nodes values)) (λ env. path_at env (fill x values)) (statement_code z.declared z.controls z.depths depth (fill x values)) (Ready z) (Shown z depth (λ env. after env (fill x values)))
+fill_runs z depth x values typed room within =
+    let d : FlatVariable = array_as typed.word typed.mutable (length values) in
+    as_code z (ap (λ k. fill_code z.declared (base_of z) k (variable_offset z.declared x) values) (kind_known z.declared x d typed.known))
+    (cheaper z (omega arith)
+    (weaken z {P = Ready z}
+    (λ env s fine ready. ready)
+    (λ env s t fine ready done. record {
+      ready =
+          ready_same z (filled z depth within x (length values) typed.word typed.mutable typed.known 0 values env) (with_variable env x (map (value_at env) values)) t
+          (all_filled z depth within x (length values) typed.word typed.mutable typed.known values env typed.suit (ready.fits x d typed.known).count)
+          (controls_kept z depth within x (length values) typed.word typed.mutable typed.known 0 values env)
+          done.ready;
+      hidden = done.hidden;
+    })
+    (fill_from z depth within x (length values) typed.word typed.mutable typed.known 0 (variable_offset z.declared x) values (omega arith) typed.suit (omega arith) room)))

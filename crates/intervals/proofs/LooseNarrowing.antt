@@ -1,0 +1,290 @@
+-- What a public condition tells holds in a loose run.
+use Rattle.std.proofs.Common.{◌≡◌, ◌≢◌, ◌⊎◌, inl, inr, ℕ, zero, suc, ◌+◌, ◌-◌, ◌<◌, ◌≤◌, ◌==◌, ◌&&◌, min, max, nat_lt, nat_le, Bool, true, false, if◌then◌else◌, List, [], ◌∷◌, ◌++◌, Option, Some, None, slice_index, refl, sym, ap, subst, arith}
+use Rattle.std.specs.Option.{option_to_list}
+use Rattle.std.proofs.Math.Nat.{le-min, max-le}
+use Rattle.std.proofs.lemmas.Bool.Decides.{nat_tests}
+use Rattle.std.proofs.lemmas.Option.{none-some, same_Some}
+use Rattle.inline.specs.declared.flat.FlatVariable.{FlatVariable}
+use Rattle.inline.specs.Flat.{word_as, TermTree, number, truth, variable, prefix, binary, rotate, convert, select, element}
+use Rattle.inline.specs.FlatMeaning.{Values}
+use Rattle.inline.specs.FlatTyping.{Types, types_of, HasType, of_variable, of_binary}
+use Rattle.inline.specs.Path.{Path}
+use Rattle.intervals.specs.declared.interval.Interval.{Interval}
+use Rattle.intervals.specs.declared.said.Said.{Said}
+use Rattle.intervals.specs.Intervals.{Bounds, known, with_bound, between, full_at, interval}
+use Rattle.intervals.specs.Loose.{Comes, to_number, to_truth, to_variable, to_prefix, to_binary, to_rotation, to_conversion, to_selection, to_element, to_anything}
+use Rattle.intervals.specs.Narrowing.{is_both, meet, met, met_all, met_at, named, said_where_false, said_where_true, says, told_false, told_true, told_where_false, told_where_true, where_false, where_true, with_meet}
+use Rattle.intervals.proofs.LooseIntervals.{IsIn}
+use Rattle.intervals.proofs.LooseTerms.{Holds, IsKept, both_public, element_of, full_of_variable, loose_in, secret_is_not}
+use Rattle.intervals.proofs.LooseTypes.{one_type}
+use Rattle.language.specs.Operators.{operated, truth_of}
+use Rattle.language.specs.declared.signature.Label.{Label}
+use Rattle.language.specs.declared.signature.Label.TheVariants.{Public, Secret}
+use Rattle.language.specs.declared.tree.BinaryOperator.{BinaryOperator}
+use Rattle.language.specs.declared.tree.BinaryOperator.TheVariants.{Either, Both, Equal, Unequal, Less, LessOrEqual, Greater, GreaterOrEqual, BitOr, BitXor, BitAnd, ShiftLeft, ShiftRight, Add, Subtract, Multiply, Divide, Remainder}
+use Rattle.language.specs.declared.typing.WordType.{WordType}
+use Rattle.word.specs.Operators.{word_of}
+
+-- What is known of a variable after something was learned of one.
+
+-- what was put at a number is there, and at no other
+pub at_number : (bounds : Bounds) (x : ℕ) (i : Interval) (y : ℕ) (j : Interval) → known (with_bound bounds x i) y ≡ Some j
+    → ((y ≡ x) × (i ≡ j)) ⊎ (known bounds y ≡ Some j)
+at_number [] x i y j h = inr h
+at_number (b ∷ bs) zero i zero j h = inl (refl, same_Some i j h)
+at_number (b ∷ bs) zero i (suc y) j h = inr h
+at_number (b ∷ bs) (suc x) i zero j h = inr h
+at_number (b ∷ bs) (suc x) i (suc y) j h = by (at_number bs x i y j h)
+  where
+    by : ((y ≡ x) × (i ≡ j)) ⊎ (known bs y ≡ Some j) → ((suc y ≡ suc x) × (i ≡ j)) ⊎ (known bs y ≡ Some j)
+    by (inl (same, is)) = inl (ap suc same, is)
+    by (inr there) = inr there
+
+-- all that is said of variables is so
+abbrev pub AreSo : Values → List Said → Type 0
+AreSo m [] = Unit {0}
+AreSo m (said ∷ rest) = IsIn said.interval (slice_index (m said.variable) 0) × AreSo m rest
+
+so_both : (m : Values) (xs ys : List Said) → AreSo m xs → AreSo m ys → AreSo m (xs ++ ys)
+so_both m [] ys one other = other
+so_both m (x ∷ xs) ys one other = (one.0, so_both m xs ys one.1 other)
+
+abbrev Kept : Types → Values → Bounds → Type 0
+Kept types m bounds = (x : ℕ) (i : Interval) → known bounds x ≡ Some i → IsKept types m x i
+
+module _ (types : Types) (m : Values) where
+  -- a meet of two intervals in which a value lies
+  met_kept : (bounds : Bounds) (x : ℕ) (before i : Interval) → Kept types m bounds → known bounds x ≡ Some before → IsIn i (slice_index (m x) 0) → Kept types m (with_meet bounds x (meet before i))
+  met_kept bounds x before i kept there so = by (nat_le (max before.low i.low) (min before.high i.high))
+    where
+      both : Interval
+      both = between (max before.low i.low) (min before.high i.high)
+
+      here : IsKept types m x both
+      here =
+          let old = kept x before there in
+          record {
+            word = old.word;
+            typed = old.typed;
+            public = old.public;
+            within = (max-le old.within.0 so.0, le-min old.within.1 so.1);
+          }
+
+      learned : Kept types m (with_bound bounds x both)
+      learned y j h = at (at_number bounds x both y j h)
+        where
+          at : ((y ≡ x) × (both ≡ j)) ⊎ (known bounds y ≡ Some j) → IsKept types m y j
+          at (inl (same, is)) = subst (λ z. IsKept types m z j) (sym same) (subst (λ k. IsKept types m x k) is here)
+          at (inr old) = kept y j old
+
+      by : (b : Bool) → Kept types m (with_meet bounds x (if b then Some both else None))
+      by true = learned
+      by false = kept
+
+  said_kept : (bounds : Bounds) (said : Said) → Kept types m bounds → IsIn said.interval (slice_index (m said.variable) 0) → Kept types m (met bounds said)
+  said_kept bounds said kept so = by (known bounds said.variable) refl
+    where
+      by : (o : Option Interval) → known bounds said.variable ≡ o → Kept types m (met_at bounds said.variable o said.interval)
+      by None e = kept
+      by (Some before) e = met_kept bounds said.variable before said.interval kept e so
+
+  all_kept : (told : List Said) (bounds : Bounds) → Kept types m bounds → AreSo m told → Kept types m (met_all bounds told)
+  all_kept [] bounds kept so = kept
+  all_kept (said ∷ rest) bounds kept so = all_kept rest (met bounds said) (said_kept bounds said kept so.0) so.1
+
+-- What a comparison tells.
+
+is_true : (b : Bool) → word_of b ≢ 0 → b ≡ true
+is_true true h = refl
+is_true false h = absurd (h refl)
+
+is_false : (b : Bool) → word_of b ≡ 0 → b ≡ false
+is_false true h = absurd (omega (arith, h))
+is_false false h = refl
+
+both_true : (a b : Bool) → (a && b) ≡ true → (a ≡ true) × (b ≡ true)
+both_true true true h = (refl, refl)
+both_true true false h = absurd cc
+both_true false b h = absurd cc
+
+not_zero : (v : ℕ) → truth_of v ≡ true → v ≢ 0
+not_zero v h is = grind (arith, nat_tests)
+
+module _ (m : Values) (x b : ℕ) (e : Interval) (inside : IsIn e b) where
+  true_so : (operator : BinaryOperator) (w : _) → operated operator w (slice_index (m x) 0) b ≢ 0 → AreSo m (option_to_list (said_where_true operator x e))
+  true_so Less w h = by (nat_lt 0 e.high) refl
+    where
+      less : slice_index (m x) 0 < b
+      less = let t = is_true (nat_lt (slice_index (m x) 0) b) h in grind (arith, nat_tests, t)
+
+      by : (c : Bool) → nat_lt 0 e.high ≡ c → AreSo m (option_to_list (if c then says x 0 (e.high - 1) else None))
+      by true some = ((omega arith, omega (arith, less, inside)), tt)
+      by false some = tt
+  true_so LessOrEqual w h =
+      let t = is_true (nat_le (slice_index (m x) 0) b) h in
+      let less : slice_index (m x) 0 ≤ b = grind (arith, nat_tests, t) in
+      ((omega arith, omega (arith, less, inside)), tt)
+  true_so Equal w h =
+      let t = is_true (slice_index (m x) 0 == b) h in
+      let same : slice_index (m x) 0 ≡ b = grind (arith, nat_tests, t) in
+      ((omega (arith, same, inside), omega (arith, same, inside)), tt)
+  true_so Either w h = tt
+  true_so Both w h = tt
+  true_so Unequal w h = tt
+  true_so Greater w h = tt
+  true_so GreaterOrEqual w h = tt
+  true_so BitOr w h = tt
+  true_so BitXor w h = tt
+  true_so BitAnd w h = tt
+  true_so ShiftLeft w h = tt
+  true_so ShiftRight w h = tt
+  true_so Add w h = tt
+  true_so Subtract w h = tt
+  true_so Multiply w h = tt
+  true_so Divide w h = tt
+  true_so Remainder w h = tt
+
+  false_so : (operator : BinaryOperator) (w : _) (greatest : ℕ) → slice_index (m x) 0 ≤ greatest → operated operator w (slice_index (m x) 0) b ≡ 0 → AreSo m (option_to_list (said_where_false operator x greatest e))
+  false_so Less w greatest most h =
+      let t = is_false (nat_lt (slice_index (m x) 0) b) h in
+      let more : b ≤ slice_index (m x) 0 = grind (arith, nat_tests, t) in
+      ((omega (arith, more, inside), most), tt)
+  false_so LessOrEqual w greatest most h = by (nat_lt e.low greatest)
+    where
+      more : b < slice_index (m x) 0
+      more = let t = is_false (nat_le (slice_index (m x) 0) b) h in grind (arith, nat_tests, t)
+
+      by : (c : Bool) → AreSo m (option_to_list (if c then says x (e.low + 1) greatest else None))
+      by true = ((omega (arith, more, inside), most), tt)
+      by false = tt
+  false_so Equal w greatest most h = tt
+  false_so Either w greatest most h = tt
+  false_so Both w greatest most h = tt
+  false_so Unequal w greatest most h = tt
+  false_so Greater w greatest most h = tt
+  false_so GreaterOrEqual w greatest most h = tt
+  false_so BitOr w greatest most h = tt
+  false_so BitXor w greatest most h = tt
+  false_so BitAnd w greatest most h = tt
+  false_so ShiftLeft w greatest most h = tt
+  false_so ShiftRight w greatest most h = tt
+  false_so Add w greatest most h = tt
+  false_so Subtract w greatest most h = tt
+  false_so Multiply w greatest most h = tt
+  false_so Divide w greatest most h = tt
+  false_so Remainder w greatest most h = tt
+
+-- Conditions.
+
+is_both_alone : (operator : BinaryOperator) → is_both operator ≡ true → operator ≡ Both
+is_both_alone Both is = refl
+is_both_alone Either is = absurd cc
+is_both_alone Equal is = absurd cc
+is_both_alone Unequal is = absurd cc
+is_both_alone Less is = absurd cc
+is_both_alone LessOrEqual is = absurd cc
+is_both_alone Greater is = absurd cc
+is_both_alone GreaterOrEqual is = absurd cc
+is_both_alone BitOr is = absurd cc
+is_both_alone BitXor is = absurd cc
+is_both_alone BitAnd is = absurd cc
+is_both_alone ShiftLeft is = absurd cc
+is_both_alone ShiftRight is = absurd cc
+is_both_alone Add is = absurd cc
+is_both_alone Subtract is = absurd cc
+is_both_alone Multiply is = absurd cc
+is_both_alone Divide is = absurd cc
+is_both_alone Remainder is = absurd cc
+
+named_variable : (e : TermTree) (x : ℕ) → named e ≡ Some x → e ≡ variable x
+named_variable (variable y) x is = ap variable (same_Some y x is)
+named_variable (number v k) x is = absurd (none-some x is)
+named_variable (truth v) x is = absurd (none-some x is)
+named_variable (prefix o w e) x is = absurd (none-some x is)
+named_variable (binary p o w l r) x is = absurd (none-some x is)
+named_variable (rotate w e n) x is = absurd (none-some x is)
+named_variable (convert k e) x is = absurd (none-some x is)
+named_variable (select c a b) x is = absurd (none-some x is)
+named_variable (element p y n e) x is = absurd (none-some x is)
+
+module _ (declared : List FlatVariable) (types : Types) (bounds : Bounds) (m : Values) (holds : Holds declared types bounds m) where
+  public_value : {x v : ℕ} {p : Path} {w : WordType} → Comes (types_of declared) m (variable x) v p → HasType types (variable x) w → w.label ≡ Public → v ≡ slice_index (m x) 0
+  public_value to_variable t public = refl
+  public_value {w = w} (to_anything {word = word} c t secret within) u public = absurd (secret_is_not w word (one_type declared types holds.listed u t) public secret)
+
+  named_value : {e : TermTree} {v : ℕ} {p : Path} {w : WordType} → Comes (types_of declared) m e v p → HasType types e w → w.label ≡ Public → (x : ℕ) → named e ≡ Some x → v ≡ slice_index (m x) 0
+  named_value {e = e} {v = v} {p = p} {w = w} c t public x is =
+      let same = named_variable e x is in
+      public_value (subst (λ f. Comes (types_of declared) m f v p) same c) (subst (λ f. HasType types f w) same t) public
+
+  greatest_value : {x : ℕ} {w : WordType} → HasType types (variable x) w → slice_index (m x) 0 ≤ (full_at declared x).high
+  greatest_value {x = x} (of_variable {word = word} {mutable = mutable} is) =
+      (full_of_variable declared types bounds m holds x (slice_index (m x) 0) (word_as word mutable) is (element_of declared types bounds m holds x 0 (word_as word mutable) is)).1
+
+  comparison_true : (operator : BinaryOperator) (w : _) (o : Option ℕ) (e : Interval) (a b : ℕ) → ((x : ℕ) → o ≡ Some x → a ≡ slice_index (m x) 0) → IsIn e b
+      → operated operator w a b ≢ 0 → AreSo m (option_to_list (told_where_true operator o e))
+  comparison_true operator w None e a b value inside h = tt
+  comparison_true operator w (Some x) e a b value inside h = true_so m x b e inside operator w (subst (λ v. operated operator w v b ≢ 0) (value x refl) h)
+
+  comparison_false : (operator : BinaryOperator) (w : _) (o : Option ℕ) (e : Interval) (a b : ℕ) → ((x : ℕ) → o ≡ Some x → (a ≡ slice_index (m x) 0) × (slice_index (m x) 0 ≤ (full_at declared x).high)) → IsIn e b
+      → operated operator w a b ≡ 0 → AreSo m (option_to_list (told_where_false declared operator o e))
+  comparison_false operator w None e a b value inside h = tt
+  comparison_false operator w (Some x) e a b value inside h =
+      false_so m x b e inside operator w (full_at declared x).high (value x refl).1 (subst (λ v. operated operator w v b ≡ 0) (value x refl).0 h)
+
+  condition_true : {e : TermTree} {v : ℕ} {p : Path} {w : WordType} → Comes (types_of declared) m e v p → HasType types e w → w.label ≡ Public → v ≢ 0 → AreSo m (told_true declared bounds e)
+  condition_true to_number t public h = tt
+  condition_true to_truth t public h = tt
+  condition_true to_variable t public h = tt
+  condition_true (to_prefix c) t public h = tt
+  condition_true (to_binary {operator = operator} {width = width} {left = left} {right = right} {a = a} {b = b} c d) (of_binary t u makes same) public h =
+      let labels = both_public makes public in
+      by (is_both operator) refl (λ some. condition_true c t labels.0 some) (λ some. condition_true d u labels.1 some) (named_value c t labels.0) (loose_in declared types bounds m holds d u labels.1)
+    where
+      by : (k : Bool) → is_both operator ≡ k → (a ≢ 0 → AreSo m (told_true declared bounds left)) → (b ≢ 0 → AreSo m (told_true declared bounds right))
+          → ((x : ℕ) → named left ≡ Some x → a ≡ slice_index (m x) 0) → IsIn (interval declared bounds right) b
+          → AreSo m (if k then told_true declared bounds left ++ told_true declared bounds right else option_to_list (told_where_true operator (named left) (interval declared bounds right)))
+      by true is one other value inside =
+          let truths = both_true (truth_of a) (truth_of b) (is_true (truth_of a && truth_of b) (subst (λ f. operated f width a b ≢ 0) (is_both_alone operator is) h)) in
+          so_both m (told_true declared bounds left) (told_true declared bounds right) (one (not_zero a truths.0)) (other (not_zero b truths.1))
+      by false is one other value inside = comparison_true operator width (named left) (interval declared bounds right) a b value inside h
+  condition_true (to_rotation c) t public h = tt
+  condition_true (to_conversion c) t public h = tt
+  condition_true (to_selection c d e) t public h = tt
+  condition_true (to_element c) t public h = tt
+  condition_true {w = w} (to_anything {word = word} c t secret within) u public h = absurd (secret_is_not w word (one_type declared types holds.listed u t) public secret)
+
+  condition_false : {e : TermTree} {v : ℕ} {p : Path} {w : WordType} → Comes (types_of declared) m e v p → HasType types e w → w.label ≡ Public → v ≡ 0 → AreSo m (option_to_list (told_false declared bounds e))
+  condition_false to_number t public h = tt
+  condition_false to_truth t public h = tt
+  condition_false to_variable t public h = tt
+  condition_false (to_prefix c) t public h = tt
+  condition_false (to_binary {operator = operator} {width = width} {left = left} {right = right} {a = a} {b = b} c d) (of_binary {one = one} t u makes same) public h =
+      let labels = both_public makes public in
+      comparison_false operator width (named left) (interval declared bounds right) a b
+      (λ x is. (named_value c t labels.0 x is, greatest_value (subst (λ f. HasType types f one) (named_variable left x is) t)))
+      (loose_in declared types bounds m holds d u labels.1) h
+  condition_false (to_rotation c) t public h = tt
+  condition_false (to_conversion c) t public h = tt
+  condition_false (to_selection c d e) t public h = tt
+  condition_false (to_element c) t public h = tt
+  condition_false {w = w} (to_anything {word = word} c t secret within) u public h = absurd (secret_is_not w word (one_type declared types holds.listed u t) public secret)
+
+  -- what is known in an arm holds where a run takes it
+  pub holds_where_true : (label : Label) {e : TermTree} {v : ℕ} {p : Path} {w : WordType} → Comes (types_of declared) m e v p → HasType types e w → w.label ≡ label → v ≢ 0
+      → Holds declared types (where_true declared bounds label e) m
+  holds_where_true Public {e = e} c t public h = record {
+    fits = holds.fits;
+    kept = all_kept types m (told_true declared bounds e) bounds holds.kept (condition_true c t public h);
+    listed = holds.listed;
+  }
+  holds_where_true Secret c t label h = holds
+
+  pub holds_where_false : (label : Label) {e : TermTree} {v : ℕ} {p : Path} {w : WordType} → Comes (types_of declared) m e v p → HasType types e w → w.label ≡ label → v ≡ 0
+      → Holds declared types (where_false declared bounds label e) m
+  holds_where_false Public {e = e} c t public h = record {
+    fits = holds.fits;
+    kept = all_kept types m (option_to_list (told_false declared bounds e)) bounds holds.kept (condition_false c t public h);
+    listed = holds.listed;
+  }
+  holds_where_false Secret c t label h = holds
