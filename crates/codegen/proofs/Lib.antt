@@ -36,3 +36,4 @@ pub mod RoomLemmas
 pub mod ImageLemmas
 pub mod WholeRuns
 pub mod GeneratedLemmas
+pub mod StatementCode

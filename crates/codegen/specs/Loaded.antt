@@ -1,5 +1,5 @@
 -- An image and its arguments, loaded: where the machine begins.
-use Rattle.std.specs.Prelude.{◌≡◌, ℕ, ◌+◌, ◌*◌, ◌≤◌, zero, suc, true, is_some, List, [], ◌∷◌, ◌++◌, map, unwrap_or}
+use Rattle.std.specs.Prelude.{◌≡◌, ℕ, ◌+◌, ◌≤◌, zero, suc, true, is_some, List, [], ◌∷◌, ◌++◌, map, unwrap_or}
 use Rattle.std.specs.Option.{option_map}
 use Rattle.image.specs.Fields.{Fields}
 use Rattle.image.specs.declared.slot.Slot.{Slot}

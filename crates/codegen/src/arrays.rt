@@ -1,18 +1,24 @@
 // Instructions for arrays and their elements.
 
-ghost use Rattle.std.specs.Prelude.{◌≡◌, ◌≤◌, ◌<◌, ◌+◌, ◌*◌, ◌++◌, map, length, OnOk};
+ghost use Rattle.std.specs.Prelude.{◌≡◌, ◌≤◌, ◌+◌, ◌*◌, ◌++◌, ◌∷◌, [], map, length, OnOk};
 ghost use Rattle.codegen.specs.Emitted.{store_by, element_store_code, clear_code, fill_code, index_code, put_code, put_under_code};
+ghost use Rattle.codegen.specs.Jumps.{loop_code};
+ghost use Rattle.codegen.specs.Registers.{zero_register, value_register, condition_register, address_register};
+ghost use Rattle.rv_code.specs.declared.instructions.Instr.TheVariants.{Immediate, Register, Store};
+ghost use Rattle.rv_code.specs.declared.operations.ImmediateOperation.TheVariants.{Addi};
+ghost use Rattle.rv_code.specs.declared.operations.RegisterOperation.TheVariants.{Sub};
+ghost use Rattle.rv_code.specs.declared.operations.StoreOperation.TheVariants.{Sw};
 ghost use Rattle.codegen.specs.Placed.{IsPlaced, ArePlacedTerms};
 ghost use Rattle.inline.specs.Flat.{term_tree};
 
 use crate::emit::{self, address, load_by};
 use crate::expressions::expression;
-use crate::jumps::repeat;
+use crate::jumping::repeat;
 use crate::layout::Layout;
 use inline::Term;
 use language::Kind;
 use rv_code::{
-    Immediate12, ImmediateOperation, Instr, LoadOperation, Reg, RegisterOperation, StoreOperation,
+    Immediate12, ImmediateOperation, Instr, Reg, RegisterOperation, StoreOperation, UpperOperation,
 };
 use std::alloc::{AllocError, Global};
 
@@ -65,7 +71,7 @@ pub fn clear(
     offset: u32,
     words: u32,
 ) -> Result<(), AllocError>
-    requires { words ≤ 16384 }
+    requires { words ≤ 65536 }
     ensures { OnOk result (code.new.items ≡ code.old.items ++ clear_code offset words) }
 {
     emit::constant(code, Reg::X28, offset)?;
@@ -85,14 +91,14 @@ pub fn fill(
     values: &[Term],
 ) -> Result<(), AllocError>
     requires placed { ArePlacedTerms (length layout.now.declared) free (map term_tree values.now) }
-    requires room { offset + 4 * length values.now ≤ 65536 }
+    requires room { offset + 4 * length values.now ≤ 131072 }
     ensures { OnOk result (code.new.items ≡ code.old.items ++ fill_code layout.now.declared free kind offset (map term_tree values.now)) }
 {
     let mut place = offset;
     for value in values {
         expression(code, layout, free, value)?;
         store_element(code, kind, place)?;
-        place += kind.element_bytes();
+        place += u32::from(kind.element_bytes());
     }
     Ok(())
 }
