@@ -169,7 +169,7 @@ tail_is e d es ds h = cc
 no_cons : (d : FlatVariable) (ds : List FlatVariable) → [] ≡ d ∷ ds → ⊥
 no_cons d ds h = cc
 
-zero_at : (n i : ℕ) → slice_index (replicate n 0) i ≡ 0
+pub zero_at : (n i : ℕ) → slice_index (replicate n 0) i ≡ 0
 zero_at zero i = refl
 zero_at (suc n) zero = refl
 zero_at (suc n) (suc i) = zero_at n i
@@ -242,7 +242,7 @@ zero_fits Uint8 = omega arith
 zero_fits Uint16 = omega arith
 zero_fits Uint32 = omega arith
 
-held_zeros : (d : FlatVariable) → IsHeld d (replicate (numbers_in d.elements) 0)
+pub held_zeros : (d : FlatVariable) → IsHeld d (replicate (numbers_in d.elements) 0)
 held_zeros d = record { count = length-replicate (numbers_in d.elements) 0; within = All-replicate (IsWithinKind d.word.kind) (numbers_in d.elements) 0 (zero_fits d.word.kind) }
 
 -- each variable holds what it is declared as in the beginning

@@ -27,7 +27,7 @@ pub element_store_length : (kind : Kind) (o : ℕ) → length (element_store_cod
 element_store_length kind o = one_of (nat_lt o 2048) _ _ 3 (omega arith) (omega arith)
 
 clear_length : (o words : ℕ) → length (clear_code o words) ≤ 16
-clear_length o words = simp length-append (omega (arith, constant_length 28 o, constant_length 7 (4 * words)))
+clear_length o words = simp length-append (omega (arith, constant_length 6 o, constant_length 7 (4 * words)))
 
 pub fill_length : (declared : List FlatVariable) (free : ℕ) (kind : Kind) (o : ℕ) (es : List TermTree) → length (fill_code declared free kind o es) ≤ 32 * terms_nodes es
 fill_length declared free kind o [] = omega arith

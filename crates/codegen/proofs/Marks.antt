@@ -21,7 +21,7 @@ index_leak leak (other ∷ rest) = ([], rest)
 
 module _ (z : Setting) where
   -- code that is never run
-  never : {n : ℕ} {steps : Steps} {is : List Instr} {P : Before} {Q : After} → ((env : StraightState) (s : machine.State) → P env s → ⊥) → Runs z n steps is P Q
+  pub never : {n : ℕ} {steps : Steps} {is : List Instr} {P : Before} {Q : After} → ((env : StraightState) (s : machine.State) → P env s → ⊥) → Runs z n steps is P Q
   never none_fits p placed = record { leak = always []; runs = λ env s rest at fine fit. absurd (none_fits env s fit) }
 
   -- code for each index below the size

@@ -15,7 +15,9 @@ use Rattle.language.specs.declared.signature.Label.TheVariants.{Public}
 use Rattle.rv_machine.specs.Machine as machine
 use Rattle.codegen.proofs.PutRuns.{put_runs, put_under_runs}
 use Rattle.codegen.proofs.BranchRuns.{branch_runs}
+use Rattle.codegen.proofs.ClearRuns.{clear_runs}
 use Rattle.codegen.proofs.CodeLengths.{test_length, count_length, block_length}
+use Rattle.codegen.proofs.FillRuns.{fill_runs}
 use Rattle.codegen.proofs.LoopRuns.{repeats_runs}
 use Rattle.codegen.proofs.SetRuns.{set_runs, set_under_runs, take_runs}
 use Rattle.codegen.proofs.Showing.{Shown}
@@ -30,8 +32,8 @@ module _ (z : Setting) where
     pub statement_runs : (depth : ℕ) (s : StraightTree) → IsTyped z.declared z.controls s → base_of z + 4 * height_in s ≤ z.size → depth + depth_in s ≤ z.depths → statement_nodes s ≤ 6000
         → Runs z (32 * statement_work z.counts s) (λ env. path_at env s) (statement_code z.declared z.controls z.depths depth s) (Ready z) (Shown z depth (λ env. after env s))
     statement_runs depth (set x value) typed room within few = set_runs z depth x value typed room (omega (arith, within))
-    statement_runs depth (clear x size) typed room within few = absurd typed.compiled
-    statement_runs depth (fill x values) typed room within few = absurd typed.compiled
+    statement_runs depth (clear x size) typed room within few = clear_runs z depth x size typed (omega (arith, within))
+    statement_runs depth (fill x values) typed room within few = fill_runs z depth x values typed room (omega (arith, within))
     statement_runs depth (put place x size index value) typed room within few = put_runs z depth place x size index value typed room (omega (arith, within))
     statement_runs depth (take c enclosing condition) typed room within few = take_runs z depth c enclosing condition typed.2.0 typed.0 typed.1 typed.2.1 room (omega (arith, within))
     statement_runs depth (set_under c x value) typed room within few = set_under_runs z depth c x value typed.0 typed.1 room (omega (arith, within))

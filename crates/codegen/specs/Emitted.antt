@@ -1,8 +1,8 @@
 -- The instructions that are emitted for statements.
-use Rattle.std.specs.Prelude.{ℕ, ◌+◌, ◌*◌, List, [], ◌∷◌, ◌++◌, length, Option, None, Some, max, if◌then◌else◌}
+use Rattle.std.specs.Prelude.{ℕ, ◌+◌, ◌*◌, List, [], ◌∷◌, ◌++◌, Option, None, Some, max, if◌then◌else◌}
 use Rattle.branch_removal.specs.Straight.{StraightTree, set, clear, fill, put, take, set_under, put_under, branch, repeats, StraightBlock, nothing, first}
 use Rattle.codegen.specs.Jumps.{branch_code, loop_code}
-use Rattle.codegen.specs.Layout.{variable_offset, control_offset, next_offset, bound_offset, temporaries_offset}
+use Rattle.codegen.specs.Layout.{variable_offset, control_offset, next_offset, temporaries_offset}
 use Rattle.codegen.specs.Registers.{zero_register, frame_register, value_register, left_register, condition_register, address_register}
 use Rattle.codegen.specs.TermCode.{is_near, upper_part, lower_part, load_code, store_code, constant_code, address_code, load_by, kind_at, expr_code, height_of}
 use Rattle.inline.specs.declared.flat.FlatVariable.{FlatVariable}
@@ -65,13 +65,13 @@ element_store_code kind offset =
 -- all words of an array become 0: from the address in one register up to that in another
 abbrev pub clear_code : ℕ → ℕ → List Instr
 clear_code offset words =
-    constant_code address_register offset
-    ++ Register Add address_register address_register frame_register ∷ []
+    constant_code left_register offset
+    ++ Register Add left_register left_register frame_register ∷ []
     ++ constant_code condition_register (4 * words)
-    ++ Register Add condition_register condition_register address_register ∷ []
+    ++ Register Add condition_register condition_register left_register ∷ []
     ++ loop_code
-    (Register Sub value_register condition_register address_register ∷ [])
-    (Store Sw zero_register address_register 0 ∷ Immediate Addi address_register address_register 4 ∷ [])
+    (Register Sub value_register condition_register left_register ∷ [])
+    (Store Sw zero_register left_register 0 ∷ Immediate Addi left_register left_register 4 ∷ [])
 
 -- values into the elements from this one on
 abbrev pub fill_code : List FlatVariable → ℕ → Kind → ℕ → List TermTree → List Instr

@@ -12,19 +12,19 @@ use rv_code::{
 use std::alloc::AllocError;
 
 /// What 12 bits hold as a number that is not negative.
-const NEAR: u32 = 2048;
+pub const NEAR: u32 = 2048;
 
 /// -1 as 12 bits.
 pub const MINUS_ONE: u32 = 4095;
 
 /// The upper part of a number, whose lower part is sign-extended when it is added.
-fn upper_part(n: u32) -> UpperImmediate
+pub fn upper_part(n: u32) -> UpperImmediate
     ensures { result ≡ upper_part n }
 {
     UpperImmediate::from_bits(((u64::from(n) + 2048) / 4096) as u32)
 }
 
-fn lower_part(n: u32) -> Immediate12
+pub fn lower_part(n: u32) -> Immediate12
     ensures { result ≡ lower_part n }
 {
     Immediate12::from_bits(n)

@@ -3,7 +3,10 @@
 // instructions, the machine and the image's fields.
 #![tactic(auto)]
 
+mod arrays;
 mod emit;
 mod expressions;
+mod jumping;
 mod layout;
 mod operators;
+mod statements;

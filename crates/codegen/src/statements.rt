@@ -1,56 +1,56 @@
-// A statement's code, and how many slots the temporaries of statements take.
+// A statement's code, and how many slots and how many loops in one another statements take.
 
-ghost use Rattle.std.specs.Prelude.{◌≡◌, ◌++◌, ◌+◌, ◌*◌, ◌<◌, ◌≤◌, OnOk};
-ghost use Rattle.std.specs.List.{AllByRecursion};
-ghost use Rattle.branch_removal.specs.Straight.{straight_tree, straight_trees};
+ghost use Rattle.std.specs.Prelude.{◌≡◌, ◌++◌, ◌+◌, ◌*◌, ◌<◌, ◌≤◌, map, length, OnOk};
+ghost use Rattle.branch_removal.specs.Straight.{straight_tree, straight_block};
 ghost use Rattle.branch_removal.specs.Straight as straight;
-ghost use Rattle.codegen.specs.Emitted.{statement_code, statements_code, height_of, height_in, height_in_all};
-ghost use Rattle.branch_removal.specs.Bounds.{HasPlaces};
-ghost use Rattle.codegen.specs.Room.{HasFrame};
+ghost use Rattle.codegen.specs.Emitted.{bounds_code, test_code, count_code, statement_code, block_code, height_of_all, height_in, height_in_all, depth_in, depth_in_all};
+ghost use Rattle.codegen.specs.Layout.{temporaries_offset};
+ghost use Rattle.codegen.specs.Placed.{IsPlaced, HasPlace, HavePlaces};
+ghost use Rattle.codegen.specs.TermCode.{height_of};
 ghost use Rattle.inline.specs.Flat.{term_tree};
+ghost use Rattle.language.specs.Size.{array_words};
 
-use crate::emit;
 use crate::expressions::{expression, height};
 use crate::layout::Layout;
+use crate::{arrays, emit, jumping};
 use branch_removal::StraightStatement;
 use inline::Term;
-use rv_code::{Instr, Reg};
-use std::alloc::AllocError;
+use language::Kind;
+use rv_code::{Immediate12, ImmediateOperation, Instr, Reg, RegisterOperation};
+use std::alloc::{AllocError, Global};
 
-fn height_of_statement(statement: &StraightStatement<'_>) -> u32
-    requires { height_in (straight_tree statement.now) ≤ 6001 }
-    ensures { result ≡ height_in (straight_tree statement.now) }
+/// How many words an array of so many elements takes.
+fn words(kind: Kind, size: u32) -> u32
+    requires { size ≤ 65536 }
+    ensures { result ≡ array_words kind size }
 {
-    match statement {
-        StraightStatement::Set(_, value) => height(value),
-        StraightStatement::Take(_, _, condition) => height(condition),
-        StraightStatement::SetUnder(_, _, value) => height(value),
-    }
+    (size * u32::from(kind.element_bytes())).div_ceil(4)
 }
 
-/// How many slots the temporaries of statements take, which share them.
-pub fn greatest_height(statements: &[StraightStatement<'_>]) -> u32
-    requires { height_in_all (straight_trees statements.now) ≤ 6001 }
-    ensures { result ≡ height_in_all (straight_trees statements.now) }
+/// Sets a variable.
+fn set(
+    code: &mut Vec<Instr>,
+    layout: &Layout<'_>,
+    variable: u32,
+    value: &Term,
+) -> Result<(), AllocError>
+    requires { HasPlace layout.now.declared layout.now.controls layout.now.depths 0 (straight.set variable (term_tree value.now)) }
+    ensures { OnOk result (code.new.items ≡ code.old.items ++ statement_code layout.now.declared layout.now.controls layout.now.depths 0 (straight.set variable (term_tree value.now))) }
 {
-    let mut greatest = 0;
-    for statement in statements {
-        greatest = greatest.max(height_of_statement(statement));
-    }
-    greatest
+    expression(code, layout, layout.temporaries(), value)?;
+    emit::store(code, Reg::X5, layout.variable(variable))
 }
 
 /// A condition, taken into a control value and the next.
 fn take(
     code: &mut Vec<Instr>,
-    layout: Layout,
+    layout: &Layout<'_>,
     control: u32,
     within: Option<u32>,
     condition: &Term,
 ) -> Result<(), AllocError>
-    requires frame { HasFrame layout.variables layout.controls (height_of (term_tree condition.now)) }
-    requires places { HasPlaces layout.variables layout.controls (straight.take control within (term_tree condition.now)) }
-    ensures { OnOk result (code.new.items ≡ code.old.items ++ statement_code layout.variables layout.controls (straight.take control within (term_tree condition.now))) }
+    requires { HasPlace layout.now.declared layout.now.controls layout.now.depths 0 (straight.take control within (term_tree condition.now)) }
+    ensures { OnOk result (code.new.items ≡ code.old.items ++ statement_code layout.now.declared layout.now.controls layout.now.depths 0 (straight.take control within (term_tree condition.now))) }
 {
     expression(code, layout, layout.temporaries(), condition)?;
     emit::masks(code)?;
@@ -64,14 +64,13 @@ fn take(
 /// Sets a variable under a control value: its slot is written in any case.
 fn set_under(
     code: &mut Vec<Instr>,
-    layout: Layout,
+    layout: &Layout<'_>,
     control: u32,
     variable: u32,
     value: &Term,
 ) -> Result<(), AllocError>
-    requires frame { HasFrame layout.variables layout.controls (height_of (term_tree value.now)) }
-    requires places { HasPlaces layout.variables layout.controls (straight.set_under control variable (term_tree value.now)) }
-    ensures { OnOk result (code.new.items ≡ code.old.items ++ statement_code layout.variables layout.controls (straight.set_under control variable (term_tree value.now))) }
+    requires { HasPlace layout.now.declared layout.now.controls layout.now.depths 0 (straight.set_under control variable (term_tree value.now)) }
+    ensures { OnOk result (code.new.items ≡ code.old.items ++ statement_code layout.now.declared layout.now.controls layout.now.depths 0 (straight.set_under control variable (term_tree value.now))) }
 {
     expression(code, layout, layout.temporaries(), value)?;
     emit::load(code, Reg::X6, layout.variable(variable))?;
@@ -80,19 +79,74 @@ fn set_under(
     emit::store(code, Reg::X5, layout.variable(variable))
 }
 
-fn statement(
+/// Both bounds of a loop into its words.
+fn bounds(
     code: &mut Vec<Instr>,
-    layout: Layout,
+    layout: &Layout<'_>,
+    next: u32,
+    low: &Term,
+    high: &Term,
+) -> Result<(), AllocError>
+    requires low { IsPlaced (length layout.now.declared) (temporaries_offset layout.now.declared layout.now.controls layout.now.depths) (term_tree low.now) }
+    requires high { IsPlaced (length layout.now.declared) (temporaries_offset layout.now.declared layout.now.controls layout.now.depths) (term_tree high.now) }
+    requires next { next ≤ 65536 }
+    ensures { OnOk result (code.new.items ≡ code.old.items ++ bounds_code layout.now.declared next (temporaries_offset layout.now.declared layout.now.controls layout.now.depths) (term_tree low.now) (term_tree high.now)) }
+{
+    let free = layout.temporaries();
+    expression(code, layout, free, low)?;
+    emit::store(code, Reg::X5, next)?;
+    expression(code, layout, free, high)?;
+    emit::store(code, Reg::X5, next + 4)
+}
+
+/// Whether the next number of a loop is below its bound.
+fn test(code: &mut Vec<Instr>, next: u32) -> Result<(), AllocError>
+    requires { next ≤ 65536 }
+    ensures { OnOk result (code.new.items ≡ code.old.items ++ test_code next) }
+{
+    emit::load(code, Reg::X6, next)?;
+    emit::load(code, Reg::X5, next + 4)?;
+    let below = RegisterOperation::Sltu;
+    code.push(Instr::Register(below, Reg::X5, Reg::X6, Reg::X5))?;
+    Ok(())
+}
+
+/// The next number into the counter, and one more for the turn after this one.
+fn count(code: &mut Vec<Instr>, next: u32, counter: u32) -> Result<(), AllocError>
+    ensures { OnOk result (code.new.items ≡ code.old.items ++ count_code next counter) }
+{
+    let one = Immediate12::from_bits(1);
+    emit::store(code, Reg::X6, counter)?;
+    code.push(Instr::Immediate(ImmediateOperation::Addi, Reg::X6, Reg::X6, one))?;
+    emit::store(code, Reg::X6, next)
+}
+
+/// A statement that so many loops are around.
+#[cycle(statements)]
+fn statement(
+    alloc: Global,
+    code: &mut Vec<Instr>,
+    layout: &Layout<'_>,
+    depth: u32,
     statement: &StraightStatement<'_>,
 ) -> Result<(), AllocError>
-    requires frame { HasFrame layout.variables layout.controls (height_in (straight_tree statement.now)) }
-    requires places { HasPlaces layout.variables layout.controls (straight_tree statement.now) }
-    ensures { OnOk result (code.new.items ≡ code.old.items ++ statement_code layout.variables layout.controls (straight_tree statement.now)) }
+    requires placed { HasPlace layout.now.declared layout.now.controls layout.now.depths depth (straight_tree statement.now) }
+    ensures { OnOk result (code.new.items ≡ code.old.items ++ statement_code layout.now.declared layout.now.controls layout.now.depths depth (straight_tree statement.now)) }
 {
     match statement {
-        StraightStatement::Set(variable, value) => {
-            expression(code, layout, layout.temporaries(), value)?;
-            emit::store(code, Reg::X5, layout.variable(*variable))
+        StraightStatement::Set(variable, value) => set(code, layout, *variable, value),
+        StraightStatement::Clear(array, size) => {
+            let words = words(layout.kind(*array), *size);
+            arrays::clear(alloc, code, layout.variable(*array), words)
+        }
+        StraightStatement::Fill(array, values) => {
+            let free = layout.temporaries();
+            let offset = layout.variable(*array);
+            arrays::fill(code, layout, free, layout.kind(*array), offset, values)
+        }
+        StraightStatement::Put(_, array, _, index, value) => {
+            arrays::index(code, layout, layout.temporaries(), index, value)?;
+            arrays::put(code, layout.kind(*array), layout.variable(*array))
         }
         StraightStatement::Take(control, within, condition) => {
             take(code, layout, *control, *within, condition)
@@ -100,21 +154,48 @@ fn statement(
         StraightStatement::SetUnder(control, variable, value) => {
             set_under(code, layout, *control, *variable, value)
         }
+        StraightStatement::PutUnder(control, _, array, _, index, value) => {
+            arrays::index(code, layout, layout.temporaries(), index, value)?;
+            let control = layout.control(*control);
+            arrays::put_under(code, control, layout.kind(*array), layout.variable(*array))
+        }
+        StraightStatement::Branch(condition, accepted, otherwise) => {
+            let mut one = Vec::new(alloc);
+            statements(alloc, &mut one, layout, depth, accepted)?;
+            let mut other = Vec::new(alloc);
+            statements(alloc, &mut other, layout, depth, otherwise)?;
+            expression(code, layout, layout.temporaries(), condition)?;
+            jumping::branch(code, one.as_slice(), other.as_slice())?;
+            Ok(())
+        }
+        StraightStatement::Repeat(counter, low, high, body) => {
+            let next = layout.next(depth);
+            let mut head = Vec::new(alloc);
+            test(&mut head, next)?;
+            let mut turn = Vec::new(alloc);
+            count(&mut turn, next, layout.variable(*counter))?;
+            statements(alloc, &mut turn, layout, depth + 1, body)?;
+            bounds(code, layout, next, low, high)?;
+            jumping::repeat(code, head.as_slice(), turn.as_slice())?;
+            Ok(())
+        }
     }
 }
 
-/// Statements, one after the other.
+/// Statements that so many loops are around, one after the other.
+#[cycle(statements)]
 pub fn statements(
+    alloc: Global,
     code: &mut Vec<Instr>,
-    layout: Layout,
+    layout: &Layout<'_>,
+    depth: u32,
     statements: &[StraightStatement<'_>],
 ) -> Result<(), AllocError>
-    requires frame { HasFrame layout.variables layout.controls (height_in_all (straight_trees statements.now)) }
-    requires places { AllByRecursion (HasPlaces layout.variables layout.controls) (straight_trees statements.now) }
-    ensures { OnOk result (code.new.items ≡ code.old.items ++ statements_code layout.variables layout.controls (straight_trees statements.now)) }
+    requires placed { HavePlaces layout.now.declared layout.now.controls layout.now.depths depth (straight_block statements.now) }
+    ensures { OnOk result (code.new.items ≡ code.old.items ++ block_code layout.now.declared layout.now.controls layout.now.depths depth (straight_block statements.now)) }
 {
     for each in statements {
-        statement(code, layout, each)?;
+        statement(alloc, code, layout, depth, each)?;
     }
     Ok(())
 }

@@ -1,0 +1,391 @@
+-- The code that makes an array of zeros.
+use Rattle.std.proofs.Common.{◌≡◌, ◌≢◌, ℕ, zero, suc, ◌+◌, ◌-◌, ◌*◌, ◌/◌, ◌%◌, ◌^◌, ◌<◌, ◌≤◌, ◌==◌, ◌⊎◌, inl, inr, Bool, true, false, cond, nat_lt, List, [], ◌∷◌, ◌++◌, length, replicate, None, Some, slice_get, slice_index, is_some, refl, sym, ap, ◌∙◌, subst, arith, ne_eqb}
+use Rattle.std.proofs.lemmas.Bool.{cases_eq}
+use Rattle.std.proofs.lemmas.Bool.Decides.{nat_tests}
+use Rattle.std.proofs.lemmas.Option.{same_Some}
+use Rattle.inline.specs.declared.flat.FlatVariable.{FlatVariable}
+use Rattle.inline.specs.Fitting.{IsHeld}
+use Rattle.inline.specs.Flat.{array_as, numbers_in}
+use Rattle.inline.specs.FlatMeaning.{turns, path_of_turns}
+use Rattle.inline.specs.FlatSize.{words_of}
+use Rattle.inline.specs.Path.{Path}
+use Rattle.branch_removal.specs.Straight.{clear}
+use Rattle.branch_removal.specs.StraightMeaning.{StraightState, with_variable, after, path_at}
+use Rattle.branch_removal.specs.StraightTyping.{IsFilled}
+use Rattle.codegen.specs.Emitted.{clear_code, statement_code}
+use Rattle.codegen.specs.Jumps.{loop_code}
+use Rattle.codegen.specs.Layout.{variable_offset, result_offset, control_offset, next_offset}
+use Rattle.codegen.specs.TermCode.{upper_part, lower_part, constant_code, kind_at}
+use Rattle.language.specs.declared.signature.Kind.{Kind}
+use Rattle.language.specs.declared.signature.Kind.TheVariants.{Boolean, Uint8, Uint16, Uint32}
+use Rattle.language.specs.declared.typing.WordType.{WordType}
+use Rattle.language.specs.Size.{array_words}
+use Rattle.rv_code.specs.declared.instructions.Instr.TheVariants as instr
+use Rattle.rv_code.specs.declared.operations.UpperOperation.TheVariants.{Lui}
+use Rattle.rv_code.specs.declared.operations.ImmediateOperation.TheVariants.{Addi}
+use Rattle.rv_code.specs.declared.operations.RegisterOperation.TheVariants.{Add, Sub}
+use Rattle.rv_code.specs.declared.operations.StoreOperation.TheVariants.{Sw}
+use Rattle.rv_machine.specs.Bytes.{ByteMap, number_at, with_number}
+use Rattle.rv_machine.specs.Effects.{sum_of, difference_of, sign_extended}
+use Rattle.rv_machine.specs.Machine as machine
+use Rattle.rv_machine.specs.Registers.{register}
+use Rattle.rv_machine.proofs.ByteLaws.{number_at_same, with_number-suc, with_number-zero, with_byte_same, with_byte_other, with_number_below, with_number_above}
+use Rattle.codegen.proofs.Arguments.{zero_at, held_zeros}
+use Rattle.codegen.proofs.Arithmetic.{near_field, parts, upper_fits, lower_fits}
+use Rattle.codegen.proofs.Computing.{same_number, computing_runs}
+use Rattle.codegen.proofs.ExpressionRuns.{kind_known}
+use Rattle.codegen.proofs.Held.{HeldAt, Held, held_regs, held_store, frame_there}
+use Rattle.codegen.proofs.Jumps.{Still, looping_for}
+use Rattle.codegen.proofs.Marks.{never}
+use Rattle.codegen.proofs.Numbers.{zero_number}
+use Rattle.codegen.proofs.Pieces.{register-at}
+use Rattle.codegen.proofs.Places.{bytes_of, place_of, place_within, ends_before_result, apart_from}
+use Rattle.codegen.proofs.Showing.{Shown}
+use Rattle.codegen.proofs.Steps.{Always, Moves, Fit, Inside, computing, storing}
+use Rattle.codegen.proofs.Straight.{Setting, Steps, none, Runs, seq, quiet, weaken, cheaper, along, as_code}
+use Rattle.codegen.proofs.Values.{Ready}
+
+-- No turn changes the state of straight code, or puts anything on the path.
+
+abbrev as_before : ℕ → StraightState → StraightState
+as_before i env = env
+
+abbrev nothing_more : ℕ → StraightState → Path
+nothing_more i env = []
+
+path_none : (n i : ℕ) (env : StraightState) → path_of_turns n i as_before nothing_more env ≡ []
+path_none zero i env = refl
+path_none (suc n) i env = path_none n (i + 1) env
+
+-- each byte of a 0 is 0
+zero_bytes : (bytes : ByteMap) (n a x : ℕ) → a ≤ x → x < a + n → with_number bytes n a 0 x ≡ Some 0
+zero_bytes bytes zero a x low high = absurd (omega (arith, low, high))
+zero_bytes bytes (suc n) a x low high = by_case (x == a) refl (λ above. zero_bytes bytes n (a + 1) x above (omega (arith, high)))
+  where
+    differ : x ≡ a → (x == a) ≡ false → ⊥
+    differ q h = grind (arith, nat_tests)
+
+    above : (x == a) ≡ false → a + 1 ≤ x
+    above h = grind (arith, nat_tests)
+
+    by_case : (b : Bool) → (x == a) ≡ b → (a + 1 ≤ x → with_number bytes n (a + 1) 0 x ≡ Some 0) → with_number bytes (suc n) a 0 x ≡ Some 0
+    by_case true e rest = ap (λ (m : ByteMap). m x) (with_number-suc bytes n a 0) ∙ with_byte_same (with_number bytes n (a + 1) (0 / 256)) a (0 % 256) x (same_number x a e)
+    by_case false e rest =
+        ap (λ (m : ByteMap). m x) (with_number-suc bytes n a 0)
+        ∙ (with_byte_other (with_number bytes n (a + 1) (0 / 256)) a (0 % 256) x (λ q. differ q e) ∙ rest (above e))
+
+-- so many words from an offset on are 0, and all else is as it was
+pub record Cleared (z : Setting) (offset count : ℕ) (o s : machine.State) : Type 0 where
+  pub zeros_there : (b : ℕ) → offset ≤ b → b < offset + 4 * count → s.bytes (z.frame + b) ≡ Some 0
+  pub others : (b : ℕ) → (b < offset) ⊎ (offset + 4 * count ≤ b) → s.bytes (z.frame + b) ≡ o.bytes (z.frame + b)
+
+module _ (z : Setting) (offset words : ℕ) (aligned : offset % 4 ≡ 0) (inside : offset + 4 * words ≤ z.size) where
+  -- a number into a working register
+  constant_by : (r n : ℕ) (small : r < 32) (nonzero : r ≢ 0) (near : Bool) → nat_lt n 2048 ≡ near → n < 2 ^ 32
+      → Runs z 2 none (cond near (instr.Immediate Addi r 0 n ∷ []) (instr.Upper Lui r (upper_part n) ∷ instr.Immediate Addi r r (lower_part n) ∷ [])) Always (λ env s t. Moves r n s t)
+  constant_by r n small nonzero true e fits =
+      let near : n < 2048 = grind (arith, nat_tests) in
+      let field = near_field n near in
+      cheaper z (omega arith)
+      (weaken z
+      (λ env s fine fit. tt)
+      (λ env s t fine fit moves. record { there = moves.there ∙ (ap (λ v. sum_of 0 v) field ∙ omega (arith, fits)); others = moves.others; same = moves.same })
+      (computing z (instr.Immediate Addi r 0 n) r (λ regs. sum_of 0 (sign_extended 12 n)) (small, omega arith, omega (arith, near)) nonzero (λ pc regs. refl)))
+  constant_by r n small nonzero false e fits =
+      weaken z {P = Always}
+      (λ env s fine fit. tt)
+      (λ env s t fine fit both.
+      let m = both.middle in
+      let one = both.first in
+      let two = both.second in
+      record {
+        there = two.there ∙ (ap (λ a. sum_of a (sign_extended 12 (lower_part n))) (register-at m.regs r nonzero ∙ one.there) ∙ parts n fits);
+        others = λ q h. two.others q h ∙ one.others q h;
+        same = two.same ∙ one.same;
+      })
+      (seq z
+      (computing z (instr.Upper Lui r (upper_part n)) r (λ regs. upper_part n * 2 ^ 12) (small, upper_fits n) nonzero (λ pc regs. refl))
+      (computing z (instr.Immediate Addi r r (lower_part n)) r (λ regs. sum_of (register regs r) (sign_extended 12 (lower_part n))) (small, small, lower_fits n) nonzero (λ pc regs. refl))
+      (λ env s t fit done. tt))
+
+  constant_runs : (r n : ℕ) → r < 32 → r ≢ 0 → n < 2 ^ 32 → Runs z 2 none (constant_code r n) Always (λ env s t. Moves r n s t)
+  constant_runs r n small nonzero fits = constant_by r n small nonzero (nat_lt n 2048) refl fits
+
+  -- the array's first address, and the one behind it
+  record Bounded (i : ℕ) (env : StraightState) (s : machine.State) : Type 0 where
+    held : HeldAt z s
+    six : s.regs 6 ≡ z.frame + (offset + 4 * i)
+    seven : s.regs 7 ≡ z.frame + (offset + 4 * words)
+
+  record Begun (env : StraightState) (s t : machine.State) : Type 0 where
+    bounds : Bounded 0 env t
+    same : t.bytes ≡ s.bytes
+
+  begin_runs : Runs z 6 none (constant_code 6 offset ++ instr.Register Add 6 6 2 ∷ [] ++ constant_code 7 (4 * words) ++ instr.Register Add 7 7 6 ∷ []) (Held z) Begun
+  begin_runs =
+      let ends = z.ends in
+      cheaper z (omega arith)
+      (weaken z {P = Held z}
+      (λ env s fine held. held)
+      (λ env s t fine held done.
+      let m3 = done.middle in
+      let m2 = done.first.middle in
+      let m1 = done.first.first.middle in
+      let one = done.first.first.first in
+      let two = done.first.first.second in
+      let three = done.first.second in
+      let four = done.second in
+      let base : m1.regs 2 ≡ z.frame = one.others 2 (λ e. omega arith) ∙ held.base in
+      let six : m2.regs 6 ≡ z.frame + offset = two.there ∙ (ap (λ a. sum_of a (m1.regs 2)) one.there ∙ (ap (λ b. sum_of offset b) base ∙ omega (arith, ends, inside))) in
+      let six' : m3.regs 6 ≡ z.frame + offset = three.others 6 (λ e. omega arith) ∙ six in
+      let same : t.bytes ≡ s.bytes = four.same ∙ (three.same ∙ (two.same ∙ one.same)) in
+      record {
+        bounds = record {
+          held = held_regs z s t (four.others 2 (λ e. omega arith) ∙ (three.others 2 (λ e. omega arith) ∙ (two.others 2 (λ e. omega arith) ∙ one.others 2 (λ e. omega arith)))) same held;
+          six = four.others 6 (λ e. omega arith) ∙ (six' ∙ omega arith);
+          seven = four.there ∙ (ap (λ a. sum_of a (m3.regs 6)) three.there ∙ (ap (λ b. sum_of (4 * words) b) six' ∙ omega (arith, ends, inside)));
+        };
+        same = same;
+      })
+      (quiet z
+      (quiet z
+      (quiet z
+      (weaken z {P' = Held z}
+      (λ env s fine held. tt)
+      (λ env s t fine held done. done)
+      (constant_runs 6 offset (omega arith) (λ e. omega arith) (omega (arith, ends, inside))))
+      (computing z (instr.Register Add 6 6 2) 6 (λ regs. sum_of (regs 6) (regs 2)) (omega arith, omega arith, omega arith) (λ e. omega arith) (λ pc regs. refl))
+      (λ env s t held done. tt))
+      (constant_runs 7 (4 * words) (omega arith) (λ e. omega arith) (omega (arith, ends, inside)))
+      (λ env s t held done. tt))
+      (computing z (instr.Register Add 7 7 6) 7 (λ regs. sum_of (regs 7) (regs 6)) (omega arith, omega arith, omega arith) (λ e. omega arith) (λ pc regs. refl))
+      (λ env s t held done. tt)))
+
+  -- The loop.
+
+  record TestedFor (left i : ℕ) (env : StraightState) (s t : machine.State) : Type 0 where
+    bounds : Bounded i env t
+    five : t.regs 5 ≡ 4 * left
+    same : t.bytes ≡ s.bytes
+
+  abbrev Turning : ℕ → ℕ → StraightState → machine.State → Type 0
+  Turning left i env s = Bounded i env s × (i + left ≡ words)
+
+  test_runs : (left i : ℕ) → Runs z 1 none (instr.Register Sub 5 7 6 ∷ []) (Turning left i) (TestedFor left i)
+  test_runs left i =
+      let ends = z.ends in
+      weaken z {P' = Turning left i}
+      (λ env s fine given. given.0.held)
+      (λ env s t fine given done.
+      let count = given.1 in
+      let six : t.regs 6 ≡ s.regs 6 = ap (λ (regs : ℕ → ℕ). regs 6) done.registers in
+      let seven : t.regs 7 ≡ s.regs 7 = ap (λ (regs : ℕ → ℕ). regs 7) done.registers in
+      record {
+        bounds = record { held = done.held; six = six ∙ given.0.six; seven = seven ∙ given.0.seven };
+        five =
+            ap (λ (regs : ℕ → ℕ). regs 5) done.registers
+            ∙ (ap (λ a. difference_of a (s.regs 6)) given.0.seven ∙ (ap (λ b. difference_of (z.frame + (offset + 4 * words)) b) given.0.six ∙ omega (arith, ends, inside, count)));
+        same = done.same;
+      })
+      (computing_runs z (instr.Register Sub 5 7 6 ∷ []) refl)
+
+  record Turned (i : ℕ) (env : StraightState) (u v : machine.State) : Type 0 where
+    bounds : Bounded (i + 1) env v
+    written : v.bytes ≡ with_number u.bytes 4 (z.frame + (offset + 4 * i)) 0
+
+  body_below : (left i : ℕ) → i < words → Runs z 2 none (instr.Store Sw 0 6 0 ∷ instr.Immediate Addi 6 6 4 ∷ []) (Turning (suc left) i) (Turned i)
+  body_below left i below =
+      let ends = z.ends in
+      let even = z.even in
+      weaken z {P = Turning (suc left) i}
+      (λ env s fine given. given)
+      (λ env s t fine given done.
+      let m = done.middle in
+      let one = done.first in
+      let two = done.second in
+      let written : t.bytes ≡ with_number s.bytes 4 (z.frame + (offset + 4 * i)) 0 = two.same ∙ one.written in
+      let six : m.regs 6 ≡ z.frame + (offset + 4 * i) = ap (λ (regs : ℕ → ℕ). regs 6) one.same ∙ given.0.six in
+      record {
+        bounds = record {
+          held = held_store z s t 4 (offset + 4 * i) 0 (omega (arith, inside, below)) (two.others 2 (λ e. omega arith) ∙ ap (λ (regs : ℕ → ℕ). regs 2) one.same) written given.0.held;
+          six = two.there ∙ (ap (λ a. sum_of a 4) six ∙ omega (arith, ends, inside, below));
+          seven = two.others 7 (λ e. omega arith) ∙ (ap (λ (regs : ℕ → ℕ). regs 7) one.same ∙ given.0.seven);
+        };
+        written = written;
+      })
+      (seq z
+      (weaken z {P' = Turning (suc left) i}
+      (λ env s fine given. record {
+        address = ap (λ a. sum_of a 0) given.0.six ∙ omega (arith, ends, inside, below);
+        data_there = frame_there z s given.0.held 4 (offset + 4 * i) (omega (arith, inside, below));
+      })
+      (λ env s t fine given done. done)
+      (storing z Sw 0 6 0 (z.frame + (offset + 4 * i)) (omega arith, omega arith, omega arith) (record { even = omega (arith, even, aligned); low = omega arith; high = omega (arith, inside, below) })))
+      (computing z (instr.Immediate Addi 6 6 4) 6 (λ regs. sum_of (regs 6) 4) (omega arith, omega arith, omega arith) (λ e. omega arith) (λ pc regs. refl))
+      (λ env s t given done. tt))
+
+  body_runs : (left i : ℕ) → Runs z 2 none (instr.Store Sw 0 6 0 ∷ instr.Immediate Addi 6 6 4 ∷ []) (Turning (suc left) i) (Turned i)
+  body_runs left i = by_case (nat_lt i words) refl
+    where
+      by_case : (b : Bool) → nat_lt i words ≡ b → Runs z 2 none (instr.Store Sw 0 6 0 ∷ instr.Immediate Addi 6 6 4 ∷ []) (Turning (suc left) i) (Turned i)
+      by_case true e = body_below left i (grind (arith, nat_tests))
+      by_case false e = never z (λ env s given. beyond e given.1)
+        where
+          beyond : nat_lt i words ≡ false → i + suc left ≡ words → ⊥
+          beyond e h = grind (arith, nat_tests)
+
+  abbrev Inv : ℕ → ℕ → StraightState → machine.State → machine.State → Type 0
+  Inv left i env o s = Turning left i env s × Cleared z offset i o s
+
+  abbrev Over : StraightState → machine.State → machine.State → Type 0
+  Over env o u = HeldAt z u × Cleared z offset words o u
+
+  bounded_still : (i : ℕ) (env : StraightState) (s t : machine.State) → Bounded i env s → Still s t → Bounded i env t
+  bounded_still i env s t given still = record {
+    held = held_regs z s t (ap (λ (regs : ℕ → ℕ). regs 2) still.regs) still.bytes given.held;
+    six = ap (λ (regs : ℕ → ℕ). regs 6) still.regs ∙ given.six;
+    seven = ap (λ (regs : ℕ → ℕ). regs 7) still.regs ∙ given.seven;
+  }
+
+  one_more : (i : ℕ) (o s u v w : machine.State) → u.bytes ≡ s.bytes → v.bytes ≡ with_number u.bytes 4 (z.frame + (offset + 4 * i)) 0 → w.bytes ≡ v.bytes → Cleared z offset i o s → Cleared z offset (i + 1) o w
+  one_more i o s u v w from written to before =
+      let all : w.bytes ≡ with_number s.bytes 4 (z.frame + (offset + 4 * i)) 0 = to ∙ (written ∙ ap (λ (b : ByteMap). with_number b 4 (z.frame + (offset + 4 * i)) 0) from) in
+      record {
+        zeros_there = λ b low high. ap (λ (m : ByteMap). m (z.frame + b)) all ∙ by_side b low high (nat_lt b (offset + 4 * i)) refl;
+        others = λ b side. ap (λ (m : ByteMap). m (z.frame + b)) all ∙ outside b side;
+      }
+    where
+      by_side : (b : ℕ) → offset ≤ b → b < offset + 4 * (i + 1) → (c : Bool) → nat_lt b (offset + 4 * i) ≡ c → with_number s.bytes 4 (z.frame + (offset + 4 * i)) 0 (z.frame + b) ≡ Some 0
+      by_side b low high true e =
+          let below : b < offset + 4 * i = grind (arith, nat_tests) in
+          with_number_below s.bytes 4 (z.frame + (offset + 4 * i)) 0 (z.frame + b) (omega (arith, below)) ∙ before.zeros_there b low below
+      by_side b low high false e =
+          let above : offset + 4 * i ≤ b = grind (arith, nat_tests) in
+          zero_bytes s.bytes 4 (z.frame + (offset + 4 * i)) (z.frame + b) (omega (arith, above)) (omega (arith, high))
+
+      outside : (b : ℕ) → (b < offset) ⊎ (offset + 4 * (i + 1) ≤ b) → with_number s.bytes 4 (z.frame + (offset + 4 * i)) 0 (z.frame + b) ≡ o.bytes (z.frame + b)
+      outside b (inl h) = with_number_below s.bytes 4 (z.frame + (offset + 4 * i)) 0 (z.frame + b) (omega (arith, h)) ∙ before.others b (inl h)
+      outside b (inr h) = with_number_above s.bytes 4 (z.frame + (offset + 4 * i)) 0 (z.frame + b) (omega (arith, h)) ∙ before.others b (inr (omega (arith, h)))
+
+  cleared_same : (count : ℕ) (o s t : machine.State) → t.bytes ≡ s.bytes → Cleared z offset count o s → Cleared z offset count o t
+  cleared_same count o s t same before = record {
+    zeros_there = λ b low high. ap (λ (m : ByteMap). m (z.frame + b)) same ∙ before.zeros_there b low high;
+    others = λ b side. ap (λ (m : ByteMap). m (z.frame + b)) same ∙ before.others b side;
+  }
+
+  zeros_runs : Runs z ((words + 1) * 5) none (loop_code (instr.Register Sub 5 7 6 ∷ []) (instr.Store Sw 0 6 0 ∷ instr.Immediate Addi 6 6 4 ∷ [])) (Bounded 0) (λ env s t. Over env s t)
+  zeros_runs =
+      cheaper z (omega arith)
+      (along z (λ env. sym (path_none words 0 env))
+      (weaken z
+      (λ env s fine given. ((given, omega arith), record { zeros_there = λ b low high. absurd (omega (arith, low, high)); others = λ b side. refl }))
+      (λ env s t fine given over. over)
+      (looping_for z {A = Turning} {B = TestedFor} {C = λ left i. Turning (suc left) i} {D = λ left i. Turned i}
+      nothing_more as_before Inv Over (omega arith)
+      (λ left i env o s inv. inv.0)
+      (λ left i env o s t inv tested e. let f = tested.five in omega (arith, e, f))
+      (λ i env o s t inv tested. tested.five)
+      (λ left i env o s t u inv tested still. (bounded_still i env t u tested.bounds still, inv.0.1))
+      (λ left i env o s t u v w inv tested still done back. ((bounded_still (i + 1) env v w done.bounds back, let h = inv.0.1 in omega (arith, h)), one_more i o s u v w (still.bytes ∙ tested.same) done.written back.bytes inv.1))
+      (λ i env o s t u inv tested still. (held_regs z t u (ap (λ (regs : ℕ → ℕ). regs 2) still.regs) still.bytes tested.bounds.held, all_of i o s u (still.bytes ∙ tested.same) inv))
+      test_runs body_runs words 0)))
+    where
+      all_of : (i : ℕ) (o s u : machine.State) → u.bytes ≡ s.bytes → {env : StraightState} → Inv 0 i env o s → Cleared z offset words o u
+      all_of i o s u same inv =
+          let count : i ≡ words = let h = inv.0.1 in omega (arith, h) in
+          cleared_same words o s u same (subst (λ n. Cleared z offset n o s) count inv.1)
+
+  pub clear_bytes : Runs z (6 + (words + 1) * 5) none (clear_code offset words) (Held z) (λ env s t. HeldAt z t × Cleared z offset words s t)
+  clear_bytes =
+      weaken z {P = Held z}
+      (λ env s fine held. held)
+      (λ env s t fine held done. (done.second.0, record {
+        zeros_there = done.second.1.zeros_there;
+        others = λ b side. done.second.1.others b side ∙ ap (λ (m : ByteMap). m (z.frame + b)) done.first.same;
+      }))
+      (quiet z begin_runs zeros_runs (λ env s t held begun. begun.bounds))
+
+-- no more words than elements
+words_few : (kind : Kind) (size : ℕ) → array_words kind size ≤ size
+words_few Boolean size = omega arith
+words_few Uint8 size = omega arith
+words_few Uint16 size = omega arith
+words_few Uint32 size = omega arith
+
+module _ (z : Setting) (depth x size : ℕ) (typed : IsFilled z.declared x size []) (within : depth ≤ z.depths) where
+  abbrev d : FlatVariable
+  d = array_as typed.word typed.mutable size
+
+  abbrev offset : ℕ
+  offset = variable_offset z.declared x
+
+  abbrev words : ℕ
+  words = array_words typed.word.kind size
+
+  ends_first : offset + 4 * words ≤ result_offset z.declared
+  ends_first = ends_before_result z.declared x d typed.known
+
+  -- all zeros are shown, and all else as it was
+  module _ (env : StraightState) (s t : machine.State) (ready : Ready z env s) (held : HeldAt z t) (cleared : Cleared z offset words s t) where
+    same_number_at : (n o : ℕ) → (o + n ≤ offset) ⊎ (offset + 4 * words ≤ o) → number_at t.bytes n (z.frame + o) ≡ number_at s.bytes n (z.frame + o)
+    same_number_at n o (inl h) =
+        number_at_same s.bytes t.bytes n (z.frame + o)
+        (λ a low high.
+        let e : z.frame + (a - z.frame) ≡ a = omega (arith, low) in
+        ap t.bytes (sym e) ∙ (cleared.others (a - z.frame) (inl (omega (arith, low, high, h))) ∙ ap s.bytes e))
+    same_number_at n o (inr h) =
+        number_at_same s.bytes t.bytes n (z.frame + o)
+        (λ a low high.
+        let e : z.frame + (a - z.frame) ≡ a = omega (arith, low) in
+        ap t.bytes (sym e) ∙ (cleared.others (a - z.frame) (inr (omega (arith, low, high, h))) ∙ ap s.bytes e))
+
+    fits_at : (y : ℕ) (e : FlatVariable) → slice_get z.declared y ≡ Some e → (b : Bool) → (y == x) ≡ b → IsHeld e (cond b (replicate size 0) (env.variables y))
+    fits_at y e is true q =
+        let kind : d ≡ e = same_Some d e (sym typed.known ∙ (ap (λ n. slice_get z.declared n) (sym (same_number y x q)) ∙ is)) in
+        subst (λ (f : FlatVariable). IsHeld f (replicate size 0)) kind (held_zeros d)
+    fits_at y e is false q = ready.fits y e is
+
+    zero_there : (j : ℕ) → j < size → number_at t.bytes (bytes_of d) (z.frame + place_of z.declared x d j) ≡ Some (slice_index (replicate size 0) j)
+    zero_there j less =
+        let w = place_within z.declared x d j less in
+        zero_number t.bytes (bytes_of d) (z.frame + place_of z.declared x d j)
+        (λ a low high.
+        let e : z.frame + (a - z.frame) ≡ a = omega (arith, low) in
+        ap t.bytes (sym e) ∙ cleared.zeros_there (a - z.frame) (omega (arith, low)) (omega (arith, low, high, w)))
+        ∙ ap Some (sym (zero_at size j))
+
+    there_at : (y : ℕ) (e : FlatVariable) (j : ℕ) → slice_get z.declared y ≡ Some e → j < numbers_in e.elements → (b : Bool) → (y == x) ≡ b
+        → number_at t.bytes (bytes_of e) (z.frame + place_of z.declared y e j) ≡ Some (slice_index (cond b (replicate size 0) (env.variables y)) j)
+    there_at y e j is less true q =
+        let at = same_number y x q in
+        let kind : d ≡ e = same_Some d e (sym typed.known ∙ (ap (λ n. slice_get z.declared n) (sym at) ∙ is)) in
+        ap (λ n. number_at t.bytes (bytes_of e) (z.frame + place_of z.declared n e j)) at
+        ∙ subst (λ (f : FlatVariable). number_at t.bytes (bytes_of f) (z.frame + place_of z.declared x f j) ≡ Some (slice_index (replicate size 0) j)) kind
+        (zero_there j (subst (λ (f : FlatVariable). j < numbers_in f.elements) (sym kind) less))
+    there_at y e j is less false q =
+        same_number_at (bytes_of e) (place_of z.declared y e j) (apart_from z.declared x y d e j typed.known is less q) ∙ ready.variables_there y e j is less
+
+    ready_cleared : Ready z (with_variable env x (replicate size 0)) t
+    ready_cleared =
+        let first = ends_first in
+        record {
+          held = held;
+          fits = λ y e is. fits_at y e is (y == x) refl;
+          variables_there = λ y e j is less. there_at y e j is less (y == x) refl;
+          controls_there = λ c among. same_number_at 4 (control_offset z.declared c) (inr (omega (arith, first))) ∙ ready.controls_there c among;
+        }
+
+  pub clear_runs : Runs z (32 * (1 + size)) none (statement_code z.declared z.controls z.depths depth (clear x size)) (Ready z) (Shown z depth (λ env. after env (clear x size)))
+  clear_runs =
+      let first = ends_first in
+      let room = z.room in
+      let few = words_few typed.word.kind size in
+      as_code z (ap (λ k. clear_code offset (array_words k size)) (kind_known z.declared x d typed.known))
+      (cheaper z (omega (arith, few))
+      (weaken z
+      (λ env s fine ready. ready.held)
+      (λ env s t fine ready done. record {
+        ready = ready_cleared env s t ready done.0 done.1;
+        hidden = λ o low high. done.1.others o (inr (omega (arith, first, low)));
+      })
+      (clear_bytes z offset words (omega arith) (omega (arith, first, room)))))

@@ -1,0 +1,132 @@
+-- The code of a statement that holds others, by the lists of its arms or its body.
+use Rattle.std.proofs.Common.{◌≡◌, ℕ, zero, suc, ◌+◌, ◌*◌, ◌^◌, ◌≤◌, ◌<◌, ◌++◌, List, [], ◌∷◌, length, drop, Vec, Global, Bor, refl, sym, ap, ap₂, ◌∙◌, subst, arith, append_assoc}
+use mathlib.Core.Former.{Count}
+use Rattle.branch_removal.specs.Bounds.{statement_nodes, block_nodes}
+use Rattle.branch_removal.specs.declared.straight.StraightStatement.{StraightStatement}
+use Rattle.branch_removal.specs.declared.straight.StraightStatement as code
+use Rattle.branch_removal.specs.Straight.{StraightTree, first, branch, repeats, straight_tree, straight_row, straight_block}
+use Rattle.codegen.specs.Emitted.{bounds_code, test_code, count_code, statement_code, block_code}
+use Rattle.codegen.specs.Jumps.{branch_code, loop_code}
+use Rattle.codegen.specs.Layout.{variable_offset, next_offset, temporaries_offset}
+use Rattle.codegen.specs.Placed.{HasPlace, HavePlaces}
+use Rattle.codegen.specs.TermCode.{expr_code}
+use Rattle.inline.specs.declared.flat.FlatVariable.{FlatVariable}
+use Rattle.inline.specs.declared.flat.Term.{Term}
+use Rattle.inline.specs.Flat.{term_tree}
+use Rattle.language.specs.declared.signature.Kind.{Kind}
+use Rattle.language.specs.declared.signature.Kind.TheVariants.{Boolean, Uint8, Uint16, Uint32}
+use Rattle.language.specs.Size.{array_words}
+use Rattle.rv_code.specs.declared.instructions.Instr.{Instr}
+
+pub few_words : (kind : Kind) (size : ℕ) → size ≤ 65536 → array_words kind size ≤ 65536
+few_words Boolean size h = omega (arith, h)
+few_words Uint8 size h = omega (arith, h)
+few_words Uint16 size h = omega (arith, h)
+few_words Uint32 size h = omega (arith, h)
+
+rows : (n : _) (row : code.Row_of-StraightStatement n) → straight_row row ≡ straight_block (code.items-the_row-StraightStatement n row)
+rows n code.end_of-StraightStatement = refl
+rows n (code.more_of-StraightStatement s rest) = ap (first (straight_tree s)) (rows _ rest)
+
+abbrev arms : StraightStatement → ((n : Count) × code.Row_of-StraightStatement n) × ((n : Count) × code.Row_of-StraightStatement n)
+arms (code.Branch' condition shape accepted shape' otherwise) = ((_, accepted), (_, otherwise))
+arms _ = ((_, code.end_of-StraightStatement), (_, code.end_of-StraightStatement))
+
+abbrev body_of : StraightStatement → (n : Count) × code.Row_of-StraightStatement n
+body_of (code.Repeat' x low high shape body) = (_, body)
+body_of _ = (_, code.end_of-StraightStatement)
+
+branch_tree : (condition : Bor Term) (accepted otherwise : Vec StraightStatement Global) →
+    straight_tree (code.Branch condition accepted otherwise) ≡ branch (term_tree condition.now) (straight_block accepted.items) (straight_block otherwise.items)
+branch_tree condition accepted otherwise =
+    let both = arms (code.Branch condition accepted otherwise) in
+    ap₂ (branch (term_tree condition.now))
+    (rows both.0.0 both.0.1 ∙ ap straight_block (code.items_hidden-the_row-StraightStatement-0 accepted))
+    (rows both.1.0 both.1.1 ∙ ap straight_block (code.items_hidden-the_row-StraightStatement-0 otherwise))
+
+loop_tree : (x : ℕ) (low high : Bor Term) (body : Vec StraightStatement Global) →
+    straight_tree (code.Repeat x low high body) ≡ repeats x (term_tree low.now) (term_tree high.now) (straight_block body.items)
+loop_tree x low high body =
+    let inner = body_of (code.Repeat x low high body) in
+    ap (repeats x (term_tree low.now) (term_tree high.now)) (rows inner.0 inner.1 ∙ ap straight_block (code.items_hidden-the_row-StraightStatement-0 body))
+
+module _ (declared : List FlatVariable) (controls depths depth : ℕ) where
+  module _ (statement : StraightStatement) (condition : Bor Term) (accepted otherwise : Vec StraightStatement Global) (is : statement ≡ code.Branch condition accepted otherwise)
+      (ones others : List StraightStatement) (one : ones ≡ accepted.items) (other : others ≡ otherwise.items) where
+    tree_of_branch : straight_tree statement ≡ branch (term_tree condition.now) (straight_block ones) (straight_block others)
+    tree_of_branch = ap straight_tree is ∙ (branch_tree condition accepted otherwise ∙ ap₂ (λ xs ys. branch (term_tree condition.now) (straight_block xs) (straight_block ys)) (sym one) (sym other))
+
+    pub accepted_smaller : 2 * block_nodes (straight_block ones) + 1 < 2 * statement_nodes (straight_tree statement)
+    accepted_smaller = omega (arith, ap statement_nodes tree_of_branch)
+
+    pub otherwise_smaller : 2 * block_nodes (straight_block others) + 1 < 2 * statement_nodes (straight_tree statement)
+    otherwise_smaller = omega (arith, ap statement_nodes tree_of_branch)
+
+    pub branch_placed : HasPlace declared controls depths depth (straight_tree statement) → HasPlace declared controls depths depth (branch (term_tree condition.now) (straight_block ones) (straight_block others))
+    branch_placed placed = subst (HasPlace declared controls depths depth) tree_of_branch placed
+
+    pub branch_near : (xs ys : List Instr) → HasPlace declared controls depths depth (straight_tree statement)
+        → xs ≡ block_code declared controls depths depth (straight_block ones) → ys ≡ block_code declared controls depths depth (straight_block others)
+        → 2 * (length xs + length ys) + 8 < 2 ^ 19
+    branch_near xs ys placed x y =
+        let near = (branch_placed placed).3 in
+        omega (arith, near, ap (λ (l : List Instr). length l) x, ap (λ (l : List Instr). length l) y)
+
+    pub branch_made : (old middle new xs ys : List Instr)
+        → xs ≡ block_code declared controls depths depth (straight_block ones) → ys ≡ block_code declared controls depths depth (straight_block others)
+        → middle ≡ old ++ expr_code declared (temporaries_offset declared controls depths) (term_tree condition.now) → new ≡ middle ++ branch_code xs ys
+        → new ≡ old ++ statement_code declared controls depths depth (straight_tree statement)
+    branch_made old middle new xs ys x y first' last' =
+        last' ∙ (ap₂ (λ (front back : List Instr). front ++ back) first' (ap₂ branch_code x y)
+        ∙ (append_assoc old (expr_code declared (temporaries_offset declared controls depths) (term_tree condition.now)) (branch_code (block_code declared controls depths depth (straight_block ones)) (block_code declared controls depths depth (straight_block others)))
+        ∙ ap (λ (s : StraightTree). old ++ statement_code declared controls depths depth s) (sym tree_of_branch)))
+
+  module _ (statement : StraightStatement) (x : ℕ) (low high : Bor Term) (body : Vec StraightStatement Global) (is : statement ≡ code.Repeat x low high body)
+      (inner : List StraightStatement) (items : inner ≡ body.items) where
+    tree_of_loop : straight_tree statement ≡ repeats x (term_tree low.now) (term_tree high.now) (straight_block inner)
+    tree_of_loop = ap straight_tree is ∙ (loop_tree x low high body ∙ ap (λ xs. repeats x (term_tree low.now) (term_tree high.now) (straight_block xs)) (sym items))
+
+    pub body_smaller : 2 * block_nodes (straight_block inner) + 1 < 2 * statement_nodes (straight_tree statement)
+    body_smaller = omega (arith, ap statement_nodes tree_of_loop)
+
+    pub loop_placed : HasPlace declared controls depths depth (straight_tree statement) → HasPlace declared controls depths depth (repeats x (term_tree low.now) (term_tree high.now) (straight_block inner))
+    loop_placed placed = subst (HasPlace declared controls depths depth) tree_of_loop placed
+
+    abbrev next : ℕ
+    next = next_offset declared controls depth
+
+    abbrev head_code : List Instr
+    head_code = test_code next
+
+    abbrev turn_code : List Instr
+    turn_code = count_code next (variable_offset declared x) ++ block_code declared controls depths (depth + 1) (straight_block inner)
+
+    pub loop_near : (xs ys : List Instr) → HasPlace declared controls depths depth (straight_tree statement) → xs ≡ head_code → ys ≡ turn_code → 2 * (length xs + length ys) + 8 < 2 ^ 19
+    loop_near xs ys placed x' y =
+        let near = (loop_placed placed).5 in
+        omega (arith, near, ap (λ (l : List Instr). length l) x', ap (λ (l : List Instr). length l) y)
+
+    pub loop_made : (old middle new xs ys : List Instr) → xs ≡ head_code → ys ≡ turn_code
+        → middle ≡ old ++ bounds_code declared next (temporaries_offset declared controls depths) (term_tree low.now) (term_tree high.now) → new ≡ middle ++ loop_code xs ys
+        → new ≡ old ++ statement_code declared controls depths depth (straight_tree statement)
+    loop_made old middle new xs ys x' y first' last' =
+        last' ∙ (ap₂ (λ (front back : List Instr). front ++ back) first' (ap₂ loop_code x' y)
+        ∙ (append_assoc old (bounds_code declared next (temporaries_offset declared controls depths) (term_tree low.now) (term_tree high.now)) (loop_code head_code turn_code)
+        ∙ ap (λ (s : StraightTree). old ++ statement_code declared controls depths depth s) (sym tree_of_loop)))
+
+-- Lists of statements.
+
+nodes_behind : (statements : List StraightStatement) (i : ℕ) → block_nodes (straight_block (drop i statements)) ≤ block_nodes (straight_block statements)
+nodes_behind [] zero = omega arith
+nodes_behind [] (suc i) = omega arith
+nodes_behind (s ∷ rest) zero = omega arith
+nodes_behind (s ∷ rest) (suc i) = omega (arith, nodes_behind rest i)
+
+pub smaller_here : (statements : List StraightStatement) (i : ℕ) (item : StraightStatement) → drop i statements ≡ item ∷ drop (i + 1) statements
+    → 2 * statement_nodes (straight_tree item) < 2 * block_nodes (straight_block statements) + 1
+smaller_here statements i item here = omega (arith, ap (λ xs. block_nodes (straight_block xs)) here, nodes_behind statements i)
+
+pub placed_here : (declared : List FlatVariable) (controls depths depth : ℕ) (statements : List StraightStatement) (i : ℕ) (item : StraightStatement) → drop i statements ≡ item ∷ drop (i + 1) statements
+    → HavePlaces declared controls depths depth (straight_block (drop i statements)) → HasPlace declared controls depths depth (straight_tree item)
+placed_here declared controls depths depth statements i item here placed =
+    (subst (λ xs. HavePlaces declared controls depths depth (straight_block xs)) here placed).0

@@ -1,0 +1,15 @@
+use Rattle.std.proofs.Common.{◌≡◌, ◌++◌, ◌+◌, ◌*◌, ◌≤◌, drop, map, length}
+use Rattle.codegen.specs.Emitted.{fill_code}
+use Rattle.codegen.specs.Placed.{ArePlacedTerms}
+use Rattle.inline.specs.Flat.{term_tree}
+use Rattle.codegen.proofs.arrays.fill.Given as goal
+
+-- the code so far and that of what is left are the code of all values
+abbrev pub invariant-loop-value : goal.invariant-loop-value
+invariant-loop-value l =
+    let rest = drop l.value-index l.values in
+    record {
+      code : l.code.items ++ fill_code l.layout.declared l.free l.kind l.place (map term_tree rest) ≡ l.fn.code.items ++ fill_code l.fn.layout.declared l.fn.free l.fn.kind l.fn.offset (map term_tree l.fn.values);
+      placed : ArePlacedTerms (length l.layout.declared) l.free (map term_tree rest);
+      room : l.place + 4 * length rest ≤ 131072;
+    }

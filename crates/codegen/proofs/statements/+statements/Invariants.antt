@@ -1,0 +1,25 @@
+use Rattle.std.proofs.Common.{◌≡◌, ◌++◌, ◌+◌, ◌*◌, drop}
+use Rattle.branch_removal.specs.Bounds.{statement_nodes, block_nodes}
+use Rattle.branch_removal.specs.Straight.{straight_tree, straight_block}
+use Rattle.codegen.specs.Emitted.{block_code}
+use Rattle.codegen.specs.Placed.{HavePlaces}
+use Rattle.codegen.proofs.statements.+statements.Given as goal
+
+-- the code so far and that of what is left are the code of all statements
+abbrev pub invariant-statements-loop-each : goal.invariant-statements-loop-each
+invariant-statements-loop-each l =
+    let rest = straight_block (drop l.each-index l.statements) in
+    record {
+      code : l.code.items ++ block_code l.layout.declared l.layout.controls l.layout.depths l.depth rest ≡ l.fn.code.items ++ block_code l.fn.layout.declared l.fn.layout.controls l.fn.layout.depths l.fn.depth (straight_block l.fn.statements);
+      placed : HavePlaces l.layout.declared l.layout.controls l.layout.depths l.depth rest;
+      layout : l.layout ≡ l.fn.layout;
+      depth : l.depth ≡ l.fn.depth;
+    }
+
+-- Each call is for a part of what it is called in.
+
+abbrev pub decreases-statement : goal.decreases-statement
+decreases-statement l = 2 * statement_nodes (straight_tree l.statement.now)
+
+abbrev pub decreases-statements : goal.decreases-statements
+decreases-statements l = 2 * block_nodes (straight_block l.statements.now) + 1

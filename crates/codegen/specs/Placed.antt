@@ -1,0 +1,54 @@
+-- Statements whose variables and control values are there, whose temporaries lie in the frame, and whose arms a jump reaches.
+use Rattle.std.specs.Prelude.{ℕ, ◌+◌, ◌*◌, ◌^◌, ◌<◌, ◌≤◌, List, [], ◌∷◌, ◌++◌, length}
+use Rattle.branch_removal.specs.Straight.{StraightTree, set, clear, fill, put, take, set_under, put_under, branch, repeats, StraightBlock, nothing, first}
+use Rattle.branch_removal.specs.StraightTyping.{IsAmong as IsControl}
+use Rattle.codegen.specs.Emitted.{test_code, count_code, block_code}
+use Rattle.codegen.specs.Layout.{variable_offset, next_offset, temporaries_offset}
+use Rattle.codegen.specs.TermCode.{IsAmong, height_of}
+use Rattle.inline.specs.declared.flat.FlatVariable.{FlatVariable}
+use Rattle.inline.specs.Flat.{TermTree}
+
+-- an expression over the first so many variables, with its temporaries from an offset on
+abbrev pub IsPlaced : ℕ → ℕ → TermTree → Type 0
+IsPlaced count free e = IsAmong count e × (free + 4 * height_of e ≤ 65536)
+
+abbrev pub ArePlacedTerms : ℕ → ℕ → List TermTree → Type 0
+ArePlacedTerms count free [] = Unit {0}
+ArePlacedTerms count free (e ∷ es) = IsPlaced count free e × ArePlacedTerms count free es
+
+-- so many instructions in all are no farther than a jump goes
+abbrev pub AreNear : ℕ → ℕ → Type 0
+AreNear one other = 2 * (one + other) + 8 < 2 ^ 19
+
+module _ (declared : List FlatVariable) (controls depths : ℕ) where
+  -- where temporaries lie
+  abbrev pub free_from : ℕ
+  free_from = temporaries_offset declared controls depths
+
+  abbrev mutual
+    -- a statement that so many loops are around
+    pub HasPlace : ℕ → StraightTree → Type 0
+    HasPlace depth (set x value) = (x < length declared) × IsPlaced (length declared) free_from value
+    HasPlace depth (clear x size) = (x < length declared) × (size ≤ 65536)
+    HasPlace depth (fill x values) =
+        (x < length declared) × ArePlacedTerms (length declared) free_from values × (variable_offset declared x + 4 * length values ≤ 131072)
+    HasPlace depth (put place x size index value) =
+        (x < length declared) × IsPlaced (length declared) free_from index × IsPlaced (length declared) (free_from + 4) value
+    HasPlace depth (take control within condition) =
+        (control + 1 < controls) × IsControl controls within × IsPlaced (length declared) free_from condition
+    HasPlace depth (set_under control x value) =
+        (control < controls) × (x < length declared) × IsPlaced (length declared) free_from value
+    HasPlace depth (put_under control place x size index value) =
+        (control < controls) × (x < length declared) × IsPlaced (length declared) free_from index × IsPlaced (length declared) (free_from + 4) value
+    HasPlace depth (branch condition accepted otherwise) =
+        IsPlaced (length declared) free_from condition × HavePlaces depth accepted × HavePlaces depth otherwise
+        × AreNear (length (block_code declared controls depths depth accepted)) (length (block_code declared controls depths depth otherwise))
+    HasPlace depth (repeats x low high body) =
+        (x < length declared) × (depth < depths) × IsPlaced (length declared) free_from low × IsPlaced (length declared) free_from high
+        × HavePlaces (depth + 1) body
+        × AreNear (length (test_code (next_offset declared controls depth)))
+        (length (count_code (next_offset declared controls depth) (variable_offset declared x) ++ block_code declared controls depths (depth + 1) body))
+
+    pub HavePlaces : ℕ → StraightBlock → Type 0
+    HavePlaces depth nothing = Unit {0}
+    HavePlaces depth (first statement rest) = HasPlace depth statement × HavePlaces depth rest

@@ -1,0 +1,64 @@
+// Instructions that are run by turns or not at all: what stands between jumps.
+
+ghost use Rattle.std.specs.Prelude.{◌≡◌, ◌++◌, ◌+◌, ◌*◌, ◌^◌, ◌<◌, length, OnOk};
+ghost use Rattle.codegen.specs.Jumps.{skip, over, back, branch_code, loop_code};
+
+use rv_code::{BranchOffset, BranchTest, Instr, JumpOffset, Reg};
+use std::alloc::AllocError;
+
+/// The values that a jump's offset may have, in halves.
+const JUMP_HALVES: u32 = 1 << 20;
+
+/// Over the next instruction, where the value is not 0.
+fn skip() -> Instr
+    ensures { result ≡ skip }
+{
+    Instr::Branch(BranchTest::Bne, Reg::X5, Reg::X0, BranchOffset::from_halves(4))
+}
+
+/// Over so many instructions.
+fn over(count: usize) -> Instr
+    requires { 2 * count + 2 < 2 ^ 20 }
+    ensures { result ≡ over count }
+{
+    Instr::Jump(Reg::X0, JumpOffset::from_halves(2 * count as u32 + 2))
+}
+
+/// Back to the first of so many instructions before it.
+fn back(count: usize) -> Instr
+    requires some { 0 < count }
+    requires near { 2 * count < 2 ^ 20 }
+    ensures { result ≡ back count }
+{
+    Instr::Jump(Reg::X0, JumpOffset::from_halves(JUMP_HALVES - 2 * count as u32))
+}
+
+/// The first instructions where the value is not 0, and else the second.
+pub fn branch(
+    code: &mut Vec<Instr>,
+    accepted: &[Instr],
+    otherwise: &[Instr],
+) -> Result<(), AllocError>
+    requires { 2 * (length accepted.now + length otherwise.now) + 8 < 2 ^ 19 }
+    ensures { OnOk result (code.new.items ≡ code.old.items ++ branch_code accepted.now otherwise.now) }
+{
+    code.push(skip())?;
+    code.push(over(accepted.len() + 1))?;
+    code.extend_from_slice(accepted)?;
+    code.push(over(otherwise.len()))?;
+    code.extend_from_slice(otherwise)?;
+    Ok(())
+}
+
+/// A test, and as long as its value is not 0 the body, and the test again.
+pub fn repeat(code: &mut Vec<Instr>, test: &[Instr], body: &[Instr]) -> Result<(), AllocError>
+    requires { 2 * (length test.now + length body.now) + 8 < 2 ^ 19 }
+    ensures { OnOk result (code.new.items ≡ code.old.items ++ loop_code test.now body.now) }
+{
+    code.extend_from_slice(test)?;
+    code.push(skip())?;
+    code.push(over(body.len() + 1))?;
+    code.extend_from_slice(body)?;
+    code.push(back(test.len() + 2 + body.len()))?;
+    Ok(())
+}
