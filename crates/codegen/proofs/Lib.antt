@@ -18,3 +18,5 @@ pub mod ExpressionRuns
 pub mod Offsets
 pub mod Slots
 pub mod StatementCode
+pub mod CodeLengths
+pub mod PlacedLemmas
