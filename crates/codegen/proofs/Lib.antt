@@ -17,7 +17,6 @@ pub mod Elements
 pub mod ExpressionRuns
 pub mod Offsets
 pub mod Slots
-pub mod StatementCode
 pub mod Showing
 pub mod Marks
 pub mod Numbers
@@ -37,3 +36,4 @@ pub mod RoomLemmas
 pub mod ImageLemmas
 pub mod WholeRuns
 pub mod GeneratedLemmas
+pub mod StatementCode
