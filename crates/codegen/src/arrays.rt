@@ -3,7 +3,7 @@
 ghost use Rattle.std.specs.Prelude.{◌≡◌, ◌≤◌, ◌+◌, ◌*◌, ◌++◌, ◌∷◌, [], map, length, OnOk};
 ghost use Rattle.codegen.specs.Emitted.{store_by, element_store_code, clear_code, fill_code, index_code, put_code, put_under_code};
 ghost use Rattle.codegen.specs.Jumps.{loop_code};
-ghost use Rattle.codegen.specs.Registers.{zero_register, value_register, left_register, condition_register};
+ghost use Rattle.codegen.specs.Registers.{zero_register, value_register, condition_register, left_register};
 ghost use Rattle.rv_code.specs.declared.instructions.Instr.TheVariants.{Immediate, Register, Store};
 ghost use Rattle.rv_code.specs.declared.operations.ImmediateOperation.TheVariants.{Addi};
 ghost use Rattle.rv_code.specs.declared.operations.RegisterOperation.TheVariants.{Sub};

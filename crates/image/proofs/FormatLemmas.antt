@@ -1,14 +1,13 @@
 -- What is read by the format of an image is what the reader finds, part by part.
 use Rattle.std.proofs.Common.{◌≡◌, ℕ, zero, suc, ◌-◌, Bool, true, false, cond, ltb, eqb, leb, List, [], ◌∷◌, length, drop, Option, Some, None, Result, Ok, Err, refl, ap, ◌∙◌, arith}
 use Rattle.std.proofs.lemmas.Bool.{le-ltb}
-use Rattle.std.proofs.lemmas.Bool.Decides.{nat_tests}
 use Rattle.byteorder.specs.Endian.{little_number}
 use Rattle.language.specs.declared.signature.Kind.{Kind}
 use Rattle.language.specs.declared.signature.Kind.TheVariants.{Uint32}
 use Rattle.language.specs.declared.signature.Label.{Label}
 use Rattle.language.specs.declared.signature.Label.TheVariants.{Secret}
 use Rattle.language.specs.declared.signature.Form.{Form}
-use Rattle.language.specs.declared.signature.Form.TheVariants.{SingleWord}
+use Rattle.language.specs.declared.signature.Form.TheVariants.{MutableArray}
 use Rattle.image.specs.declared.slot.Slot.{Slot}
 use Rattle.image.specs.declared.slot.ResultSlot.{ResultSlot}
 use Rattle.image.specs.declared.fault.ImageRule.{ImageRule}
@@ -16,10 +15,10 @@ use Rattle.image.specs.declared.fault.ImageRule.TheVariants.{Magic, Version, Pro
 use Rattle.image.specs.declared.fault.ImageFault.{ImageFault}
 use Rattle.image.specs.declared.fault.ImageFault.TheVariants.{Field}
 use Rattle.image.specs.declared.fields.Fault.{Fault}
-use Rattle.image.specs.Fields.{Fields, slot_end, slots_end, MOST_PARAMETERS}
+use Rattle.image.specs.Fields.{Fields, slot_end, slots_end, is_length, MOST_PARAMETERS}
 use Rattle.image.specs.Format.{Format, ends, field, read_by, fault_at}
-use Rattle.image.specs.Reading.{coded_kind, coded_label, is_offset, is_frame_size, is_step_limit, is_word_count, layout_end, slot_format, slots_format, flagged_format, result_format, words_format, image_format, reading}
-use Rattle.image.specs.Parts.{◌>>=◌, byte_at, number_at, field_at, found_at, coded_at, kind_of, label_of, form_of, preamble_at, slot_at, slots_at, result_slot_at, returned_at, words_at, LayoutFields, layout_at, CodeFields, code_at, fields_of, fields_at, all_of}
+use Rattle.image.specs.Reading.{coded_kind, coded_label, coded_form, is_offset, is_frame_size, is_step_limit, is_word_count, layout_end, slot_format, slots_format, flagged_format, result_format, words_format, image_format, reading}
+use Rattle.image.specs.private.Parts.{◌>>=◌, byte_at, number_at, field_at, found_at, coded_at, kind_of, label_of, form_of, preamble_at, slot_at, slots_at, result_slot_at, returned_at, words_at, LayoutFields, layout_at, CodeFields, code_at, fields_of, fields_at, all_of}
 
 abbrev Answer : Type 0
 Answer = Result Fields ImageFault
@@ -102,12 +101,11 @@ module _ (total : ℕ) where
   labels_agree (suc zero) = refl
   labels_agree (suc (suc n)) = ap (λ (c : Bool). cond c (Some Secret) None) (le-ltb (suc (suc n)) 2 (omega arith))
 
-  not_zero : (n : ℕ) → eqb (suc n) 0 ≡ false
-  not_zero n = grind (arith, nat_tests)
-
-  forms_agree : (b : ℕ) → cond (eqb b 0) (Some SingleWord) None ≡ form_of b
+  forms_agree : (b : ℕ) → cond (ltb b 3) (Some (coded_form b)) None ≡ form_of b
   forms_agree zero = refl
-  forms_agree (suc n) = ap (λ (c : Bool). cond c (Some SingleWord) None) (not_zero n)
+  forms_agree (suc zero) = refl
+  forms_agree (suc (suc zero)) = refl
+  forms_agree (suc (suc (suc n))) = ap (λ (c : Bool). cond c (Some MutableArray) None) (le-ltb (suc (suc (suc n))) 3 (omega arith))
 
   -- ---- slots
 
@@ -119,10 +117,10 @@ module _ (total : ℕ) where
     at_offset kind label form count = field FieldOutOfRange 4 (is_offset low) (λ offset. next (slot_of kind label form count offset))
 
     abbrev at_count : Kind → Label → Form → Format
-    at_count kind label form = field FieldOutOfRange 2 (λ n. eqb n 1) (at_offset kind label form)
+    at_count kind label form = field FieldOutOfRange 2 (is_length form) (at_offset kind label form)
 
     abbrev at_form : Kind → Label → Format
-    at_form kind label = field FieldOutOfRange 1 (λ n. eqb n 0) (λ form. at_count kind label SingleWord)
+    at_form kind label = field FieldOutOfRange 1 (λ n. ltb n 3) (λ form. at_count kind label (coded_form form))
 
     abbrev at_label : Kind → Format
     at_label kind = field FieldOutOfRange 1 (λ n. ltb n 2) (λ label. at_form kind (coded_label label))
@@ -132,8 +130,8 @@ module _ (total : ℕ) where
     slot_joins left =
         coded_joins kind_of (λ n. ltb n 4) coded_kind kinds_agree at_label left
         ∙ steps _ _ _ _ (λ (kind : Kind × List ℕ). coded_joins label_of (λ n. ltb n 2) coded_label labels_agree (at_form kind.0) kind.1
-        ∙ steps _ _ _ _ (λ (label : Label × List ℕ). coded_joins form_of (λ n. eqb n 0) (λ n. SingleWord) forms_agree (at_count kind.0 label.0) label.1
-        ∙ steps _ _ _ _ (λ (form : Form × List ℕ). field_joins FieldOutOfRange 2 (λ n. eqb n 1) (at_offset kind.0 label.0 form.0) form.1
+        ∙ steps _ _ _ _ (λ (label : Label × List ℕ). coded_joins form_of (λ n. ltb n 3) coded_form forms_agree (at_count kind.0 label.0) label.1
+        ∙ steps _ _ _ _ (λ (form : Form × List ℕ). field_joins FieldOutOfRange 2 (is_length form.0) (at_offset kind.0 label.0 form.0) form.1
         ∙ steps _ _ _ _ (λ (count : ℕ × List ℕ). field_joins FieldOutOfRange 4 (is_offset low) (λ offset. next (slot_of kind.0 label.0 form.0 count.0 offset)) count.1
         ∙ steps (field_at 4 (is_offset low) FieldOutOfRange count.1) (λ (x : ℕ × List ℕ). Ok (slot_of kind.0 label.0 form.0 count.0 x.0, x.1)) _ (λ (x : Slot × List ℕ). read_by total (next x.0) x.1) (λ (offset : ℕ × List ℕ). refl)))))
 

@@ -11,9 +11,9 @@ use Rattle.image.specs.declared.fault.ImageRule.TheVariants.{Magic, Version, Pro
 use Rattle.image.specs.declared.fault.ImageFault.{ImageFault}
 use Rattle.image.specs.declared.fields.Fault.{Fault}
 use Rattle.image.specs.Fields.{Fields, slot_end, slots_end, result_end, AreSlots, IsResultSlot, IsImage, MOST_PARAMETERS, MOST_FRAME_BYTES, MOST_STEPS, MOST_WORDS}
-use Rattle.image.specs.Spelling.{preamble, spelled_slot, spelled_result, spelling}
-use Rattle.image.specs.Reading.{is_frame_size, is_step_limit, is_word_count, layout_end, reading, IsUnlessMemory}
-use Rattle.image.specs.Parts.{◌>>=◌, number_at, field_at, preamble_at, slots_at, returned_at, words_at, LayoutFields, layout_at, CodeFields, code_at, fields_of, fields_at, all_of}
+use Rattle.image.specs.private.Spelling.{preamble, spelled_slot, spelled_result, spelling}
+use Rattle.image.specs.Reading.{is_frame_size, is_step_limit, is_word_count, layout_end, reading, Spells, IsUnlessMemory}
+use Rattle.image.specs.private.Parts.{◌>>=◌, number_at, field_at, preamble_at, slots_at, returned_at, words_at, LayoutFields, layout_at, CodeFields, code_at, fields_of, fields_at, all_of}
 use Rattle.image.proofs.FormatLemmas.{placed, reading_found, reading_placed}
 use Rattle.image.proofs.Steps.{bind_ok, guard_passed, ok_is}
 use Rattle.image.proofs.Numbers.{IsBytes, Takes, Takes-then, wide2, wide4, wide8, number_takes, number_again, field_takes, field_again}
@@ -267,9 +267,13 @@ placed_ok : (total : ℕ) (r : Result Fields Fault) (f : Fields) → placed tota
 placed_ok total (Ok g) f e = let h : g ≡ f = cc in ap (λ (x : Fields). Ok x) h
 placed_ok total (Err fault) f e = absurd cc
 
-pub is_found : (bytes : List ℕ) (r : Result Fields ImageFault) → IsBytes bytes → IsUnlessMemory r (reading bytes) → IfOk r (λ image. IsImage image × (bytes ≡ spelling image))
-is_found bytes (Ok f) fits given = all_takes bytes f fits (placed_ok (length bytes) (all_of bytes) f (sym (reading_placed bytes) ∙ given))
-is_found bytes (Err e) fits given = tt
+-- what bytes spell is allowed, and they are its spelling
+pub is_spelled : (bytes : List ℕ) (f : Fields) → IsBytes bytes → Spells bytes f → IsImage f × (bytes ≡ spelling f)
+is_spelled bytes f fits is = all_takes bytes f fits (placed_ok (length bytes) (all_of bytes) f (sym (reading_placed bytes) ∙ is))
+
+pub is_allowed : (bytes : List ℕ) (r : Result Fields ImageFault) → IsBytes bytes → IsUnlessMemory r (reading bytes) → IfOk r (λ image. IsImage image)
+is_allowed bytes (Ok f) fits given = (is_spelled bytes f fits given).0
+is_allowed bytes (Err e) fits given = tt
 
 -- fields and what stands after them, once more
 same_fields : (f g : Fields) (x y : List ℕ) (r : Result (Fields × List ℕ) Fault) → r ≡ Ok (f, x) → r ≡ Ok (g, y) → (f ≡ g) × (x ≡ y)
@@ -281,6 +285,3 @@ pub begins_none : (f g : Fields) (rest : List ℕ) → IsImage f → IsImage g �
 begins_none f g rest p q e =
     let other : fields_at (spelling f ++ rest) ≡ Ok (g, []) = ap fields_at (e ∙ sym (append-nil (spelling g))) ∙ fields_again g [] q in
     same_fields f g rest [] (fields_at (spelling f ++ rest)) (fields_again f rest p) other
-
-pub one_of_spelling : (f g : Fields) → IsImage f → IsImage g → spelling f ≡ spelling g → f ≡ g
-one_of_spelling f g p q e = (begins_none f g [] p q (append-nil (spelling f) ∙ e)).0

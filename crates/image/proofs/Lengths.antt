@@ -8,7 +8,7 @@ use Rattle.image.specs.declared.limits.TheConstants.{LONGEST_IMAGE}
 use Rattle.image.specs.declared.slot.Slot.{Slot}
 use Rattle.image.specs.declared.slot.ResultSlot.{ResultSlot}
 use Rattle.image.specs.Fields.{Fields, IsImage}
-use Rattle.image.specs.Spelling.{preamble, spelled_slot, spelled_result, spelled_layout, spelled_code, spelling}
+use Rattle.image.specs.private.Spelling.{preamble, spelled_slot, spelled_result, spelled_layout, spelled_code, spelling}
 
 slot_long : (slot : Slot) → length (spelled_slot slot) ≡ 9
 slot_long slot = refl

@@ -6,7 +6,7 @@ use Rattle.image.specs.declared.fields.ReadError.{ReadError}
 use Rattle.image.specs.declared.fields.ReadError.TheVariants as errors
 use Rattle.image.specs.declared.slot.Slot.{Slot}
 use Rattle.image.specs.Fields.{slot_end}
-use Rattle.image.specs.Parts.{◌>>=◌, Fails, number_at, slot_at, slots_at, words_at}
+use Rattle.image.specs.private.Parts.{◌>>=◌, Fails, number_at, slot_at, slots_at, words_at}
 
 -- what was read before, and what is still read
 abbrev pub with_front : {A : Type 0} → List A → Result (List A × List ℕ) Fault → Result (List A × List ℕ) Fault

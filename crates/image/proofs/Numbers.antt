@@ -7,7 +7,7 @@ use Rattle.byteorder.specs.Endian.{little_bytes, little_number}
 use Rattle.byteorder.specs.Numbers.{little_from-lt, little_from-take, little_number-reads_back, length-bytes_low_first}
 use Rattle.image.specs.declared.fault.ImageRule.{ImageRule}
 use Rattle.image.specs.declared.fault.ImageRule.TheVariants.{Truncated}
-use Rattle.image.specs.Parts.{byte_at, number_at, field_at, coded_at}
+use Rattle.image.specs.private.Parts.{byte_at, number_at, field_at, coded_at}
 use Rattle.image.proofs.Steps.{bind_ok, guard_ok, guard_passed, found_ok}
 
 abbrev pub IsBytes : List ℕ → Type 0

@@ -1,6 +1,6 @@
 -- Slots that are read are those that were written, and what was written is read again.
-use Rattle.std.proofs.Common.{◌≡◌, ℕ, zero, suc, ◌%◌, ◌^◌, ◌<◌, ◌≤◌, true, eqb, leb, List, [], ◌∷◌, ◌++◌, length, Option, Some, None, Ok, refl, sym, ap, subst, ◌∙◌, append_assoc, arith}
-use Rattle.std.specs.Prelude.{IfSome}
+use Rattle.std.proofs.Common.{◌≡◌, ℕ, zero, suc, ◌%◌, ◌^◌, ◌<◌, ◌≤◌, true, eqb, leb, List, [], ◌∷◌, ◌++◌, length, Option, Some, None, Ok, refl, ap, subst, ◌∙◌, append_assoc, arith}
+use Rattle.std.specs.Prelude.{IfSome, ◌&&◌}
 use Rattle.std.specs.List.{flat_map}
 use Rattle.std.proofs.lemmas.Bool.{eqb-true, eq-eqb, leb-true, le-leb, and_parts, and_from}
 use Rattle.std.proofs.lemmas.List.Concat.{flat_map-cons}
@@ -10,14 +10,15 @@ use Rattle.language.specs.declared.signature.Kind.TheVariants.{Boolean, Uint8, U
 use Rattle.language.specs.declared.signature.Label.{Label}
 use Rattle.language.specs.declared.signature.Label.TheVariants.{Public, Secret}
 use Rattle.language.specs.declared.signature.Form.{Form}
-use Rattle.language.specs.declared.signature.Form.TheVariants.{SingleWord}
+use Rattle.language.specs.declared.signature.Form.TheVariants.{SingleWord, FixedArray, MutableArray}
+use Rattle.language.specs.declared.limits.TheConstants.{MOST_ELEMENTS}
 use Rattle.image.specs.declared.slot.Slot.{Slot}
 use Rattle.image.specs.declared.slot.ResultSlot.{ResultSlot}
 use Rattle.image.specs.declared.fault.ImageRule.TheVariants.{FieldOutOfRange}
-use Rattle.image.specs.Fields.{slot_end, IsSlot, AreSlots, IsResultSlot}
-use Rattle.image.specs.Spelling.{kind_code, label_code, form_code, spelled_slot, spelled_result}
+use Rattle.image.specs.Fields.{slot_end, is_length, IsSlot, AreSlots, IsResultSlot}
+use Rattle.image.specs.private.Spelling.{kind_code, label_code, form_code, spelled_slot, spelled_result}
 use Rattle.image.specs.Reading.{is_offset}
-use Rattle.image.specs.Parts.{◌>>=◌, byte_at, field_at, coded_at, kind_of, label_of, form_of, slot_at, slots_at, result_slot_at, returned_at}
+use Rattle.image.specs.private.Parts.{◌>>=◌, byte_at, field_at, coded_at, kind_of, label_of, form_of, slot_at, slots_at, result_slot_at, returned_at}
 use Rattle.image.proofs.Steps.{bind_ok, ok_is}
 use Rattle.image.proofs.Numbers.{IsBytes, IsBytes-rest, Takes, Takes-then, wide2, wide4, field_takes, field_again, coded_takes, coded_again}
 
@@ -47,21 +48,24 @@ label_again Secret = refl
 
 form_back : (b : ℕ) (f : Form) → form_of b ≡ Some f → b ≡ form_code f
 form_back zero f e = let h : SingleWord ≡ f = cc in ap form_code h
-form_back (suc n) f e = absurd cc
+form_back (suc zero) f e = let h : FixedArray ≡ f = cc in ap form_code h
+form_back (suc (suc zero)) f e = let h : MutableArray ≡ f = cc in ap form_code h
+form_back (suc (suc (suc n))) f e = absurd cc
 
-form_is : (b : ℕ) (f : Form) → form_of b ≡ Some f → f ≡ SingleWord
-form_is zero f e = let h : SingleWord ≡ f = cc in sym h
-form_is (suc n) f e = absurd cc
+form_again : (f : Form) → form_of (form_code f) ≡ Some f
+form_again SingleWord = refl
+form_again FixedArray = refl
+form_again MutableArray = refl
 
-form_again : (f : Form) → f ≡ SingleWord → form_of (form_code f) ≡ Some f
-form_again f e = rw e refl
+-- ---- lengths
 
--- the form that was read, by its code
-coded_form : (bytes : List ℕ) (x : Form × List ℕ) → coded_at form_of bytes ≡ Ok x → x.0 ≡ SingleWord
-unfolding coded_at byte_at
-coded_form [] x e = absurd cc
-coded_form (zero ∷ bytes) x e = let h : (SingleWord, bytes) ≡ x = cc in sym (ap (λ (y : Form × List ℕ). y.0) h)
-coded_form (suc n ∷ bytes) x e = absurd cc
+array_length_fits : (n : ℕ) → (leb 1 n && leb n MOST_ELEMENTS) ≡ true → n < 256 ^ 2
+array_length_fits n e = let few : n ≤ MOST_ELEMENTS = leb-true n MOST_ELEMENTS (and_parts (leb 1 n) (leb n MOST_ELEMENTS) e).1 in omega (arith, few)
+
+length_fits : (form : Form) (n : ℕ) → is_length form n ≡ true → n < 256 ^ 2
+length_fits SingleWord n e = let one : n ≡ 1 = eqb-true n 1 e in omega (arith, one)
+length_fits FixedArray n e = array_length_fits n e
+length_fits MutableArray n e = array_length_fits n e
 
 -- ---- offsets
 
@@ -82,31 +86,31 @@ is_offset_at low n aligned above = and_from (eqb (n % 4) 0) (leb low n) (eq-eqb 
 pub slot_takes : (low : ℕ) (bytes : List ℕ) (x : Slot × List ℕ) → IsBytes bytes → slot_at low bytes ≡ Ok x → Takes bytes (spelled_slot x.0) x.1 × IsSlot low x.0
 unfolding slot_at
 slot_takes low bytes x fits e =
-    let a = bind_ok (coded_at kind_of bytes) (λ kind. coded_at label_of kind.1 >>= λ label. coded_at form_of label.1 >>= λ form. field_at 2 (λ n. eqb n 1) FieldOutOfRange form.1 >>= λ count. field_at 4 (is_offset low) FieldOutOfRange count.1 >>= λ offset. Ok (record { param = record { kind = kind.0; label = label.0; form = form.0; length = count.0 }; offset = offset.0 }, offset.1)) x e in
-    let b = bind_ok (coded_at label_of a.0.1) (λ label. coded_at form_of label.1 >>= λ form. field_at 2 (λ n. eqb n 1) FieldOutOfRange form.1 >>= λ count. field_at 4 (is_offset low) FieldOutOfRange count.1 >>= λ offset. Ok (record { param = record { kind = a.0.0; label = label.0; form = form.0; length = count.0 }; offset = offset.0 }, offset.1)) x a.2 in
-    let c = bind_ok (coded_at form_of b.0.1) (λ form. field_at 2 (λ n. eqb n 1) FieldOutOfRange form.1 >>= λ count. field_at 4 (is_offset low) FieldOutOfRange count.1 >>= λ offset. Ok (record { param = record { kind = a.0.0; label = b.0.0; form = form.0; length = count.0 }; offset = offset.0 }, offset.1)) x b.2 in
-    let d = bind_ok (field_at 2 (λ n. eqb n 1) FieldOutOfRange c.0.1) (λ count. field_at 4 (is_offset low) FieldOutOfRange count.1 >>= λ offset. Ok (record { param = record { kind = a.0.0; label = b.0.0; form = c.0.0; length = count.0 }; offset = offset.0 }, offset.1)) x c.2 in
+    let a = bind_ok (coded_at kind_of bytes) (λ kind. coded_at label_of kind.1 >>= λ label. coded_at form_of label.1 >>= λ form. field_at 2 (is_length form.0) FieldOutOfRange form.1 >>= λ count. field_at 4 (is_offset low) FieldOutOfRange count.1 >>= λ offset. Ok (record { param = record { kind = kind.0; label = label.0; form = form.0; length = count.0 }; offset = offset.0 }, offset.1)) x e in
+    let b = bind_ok (coded_at label_of a.0.1) (λ label. coded_at form_of label.1 >>= λ form. field_at 2 (is_length form.0) FieldOutOfRange form.1 >>= λ count. field_at 4 (is_offset low) FieldOutOfRange count.1 >>= λ offset. Ok (record { param = record { kind = a.0.0; label = label.0; form = form.0; length = count.0 }; offset = offset.0 }, offset.1)) x a.2 in
+    let c = bind_ok (coded_at form_of b.0.1) (λ form. field_at 2 (is_length form.0) FieldOutOfRange form.1 >>= λ count. field_at 4 (is_offset low) FieldOutOfRange count.1 >>= λ offset. Ok (record { param = record { kind = a.0.0; label = b.0.0; form = form.0; length = count.0 }; offset = offset.0 }, offset.1)) x b.2 in
+    let d = bind_ok (field_at 2 (is_length c.0.0) FieldOutOfRange c.0.1) (λ count. field_at 4 (is_offset low) FieldOutOfRange count.1 >>= λ offset. Ok (record { param = record { kind = a.0.0; label = b.0.0; form = c.0.0; length = count.0 }; offset = offset.0 }, offset.1)) x c.2 in
     let f = bind_ok (field_at 4 (is_offset low) FieldOutOfRange d.0.1) (λ offset. Ok (record { param = record { kind = a.0.0; label = b.0.0; form = c.0.0; length = d.0.0 }; offset = offset.0 }, offset.1)) x d.2 in
     let t0 = coded_takes kind_of kind_code kind_back bytes a.0 fits a.1 in
     let t1 = coded_takes label_of label_code label_back a.0.1 b.0 t0.rest_fits b.1 in
     let t2 = coded_takes form_of form_code form_back b.0.1 c.0 t1.rest_fits c.1 in
-    let t3 = field_takes 2 wide2 (λ n. eqb n 1) FieldOutOfRange c.0.1 d.0 t2.rest_fits d.1 in
+    let t3 = field_takes 2 wide2 (is_length c.0.0) FieldOutOfRange c.0.1 d.0 t2.rest_fits d.1 in
     let t4 = field_takes 4 wide4 (is_offset low) FieldOutOfRange d.0.1 f.0 t3.0.rest_fits f.1 in
     let e34 = Takes-then c.0.1 (little_bytes 2 d.0.0) d.0.1 (little_bytes 4 f.0.0) f.0.1 t3.0 t4.0 in
     let e24 = Takes-then b.0.1 (form_code c.0.0 ∷ []) c.0.1 (little_bytes 2 d.0.0 ++ little_bytes 4 f.0.0) f.0.1 t2 e34 in
     let e14 = Takes-then a.0.1 (label_code b.0.0 ∷ []) b.0.1 (form_code c.0.0 ∷ (little_bytes 2 d.0.0 ++ little_bytes 4 f.0.0)) f.0.1 t1 e24 in
     let e04 = Takes-then bytes (kind_code a.0.0 ∷ []) a.0.1 (label_code b.0.0 ∷ form_code c.0.0 ∷ (little_bytes 2 d.0.0 ++ little_bytes 4 f.0.0)) f.0.1 t0 e14 in
     let o = offset_is low f.0.0 t4.2 in
-    let fact : IsSlot low (record { param = record { kind = a.0.0; label = b.0.0; form = c.0.0; length = d.0.0 }; offset = f.0.0 }) = record { form = coded_form b.0.1 c.0 c.1; length = eqb-true d.0.0 1 t3.2; aligned = o.aligned; above = o.above; fits = t4.1 } in
+    let fact : IsSlot low (record { param = record { kind = a.0.0; label = b.0.0; form = c.0.0; length = d.0.0 }; offset = f.0.0 }) = record { length = t3.2; aligned = o.aligned; above = o.above; fits = t4.1 } in
     let made : Slot × List ℕ = (record { param = record { kind = a.0.0; label = b.0.0; form = c.0.0; length = d.0.0 }; offset = f.0.0 }, f.0.1) in
     subst (λ (y : Slot × List ℕ). Takes bytes (spelled_slot y.0) y.1 × IsSlot low y.0) (ok_is made x f.2) (e04, fact)
 
 pub slot_again : (low : ℕ) (slot : Slot) (rest : List ℕ) → IsSlot low slot → slot_at low (spelled_slot slot ++ rest) ≡ Ok (slot, rest)
 unfolding slot_at
 slot_again low slot rest h =
-    let lengths : slot.param.length < 256 ^ 2 = omega (arith, h.length) in
+    let lengths = length_fits slot.param.form slot.param.length h.length in
     let regrouped : spelled_slot slot ++ rest ≡ kind_code slot.param.kind ∷ label_code slot.param.label ∷ form_code slot.param.form ∷ (little_bytes 2 slot.param.length ++ (little_bytes 4 slot.offset ++ rest)) = refl in
-    ap (slot_at low) regrouped ∙ rw (coded_again kind_of kind_code slot.param.kind (label_code slot.param.label ∷ form_code slot.param.form ∷ (little_bytes 2 slot.param.length ++ (little_bytes 4 slot.offset ++ rest))) (kind_again slot.param.kind), coded_again label_of label_code slot.param.label (form_code slot.param.form ∷ (little_bytes 2 slot.param.length ++ (little_bytes 4 slot.offset ++ rest))) (label_again slot.param.label), coded_again form_of form_code slot.param.form (little_bytes 2 slot.param.length ++ (little_bytes 4 slot.offset ++ rest)) (form_again slot.param.form h.form), field_again 2 (λ n. eqb n 1) FieldOutOfRange slot.param.length (little_bytes 4 slot.offset ++ rest) lengths (eq-eqb slot.param.length 1 h.length), field_again 4 (is_offset low) FieldOutOfRange slot.offset rest h.fits (is_offset_at low slot.offset h.aligned h.above)) refl
+    ap (slot_at low) regrouped ∙ rw (coded_again kind_of kind_code slot.param.kind (label_code slot.param.label ∷ form_code slot.param.form ∷ (little_bytes 2 slot.param.length ++ (little_bytes 4 slot.offset ++ rest))) (kind_again slot.param.kind), coded_again label_of label_code slot.param.label (form_code slot.param.form ∷ (little_bytes 2 slot.param.length ++ (little_bytes 4 slot.offset ++ rest))) (label_again slot.param.label), coded_again form_of form_code slot.param.form (little_bytes 2 slot.param.length ++ (little_bytes 4 slot.offset ++ rest)) (form_again slot.param.form), field_again 2 (is_length slot.param.form) FieldOutOfRange slot.param.length (little_bytes 4 slot.offset ++ rest) lengths h.length, field_again 4 (is_offset low) FieldOutOfRange slot.offset rest h.fits (is_offset_at low slot.offset h.aligned h.above)) refl
 
 -- ---- slots, one after the other
 

@@ -1,7 +1,7 @@
 -- Steps of reading that did not fail.
 use Rattle.std.proofs.Common.{◌≡◌, ℕ, Bool, true, false, cond, List, Option, Some, None, Result, Ok, Err, refl}
 use Rattle.image.specs.declared.fields.Fault.{Fault}
-use Rattle.image.specs.Parts.{◌>>=◌, found_at}
+use Rattle.image.specs.private.Parts.{◌>>=◌, found_at}
 
 -- the value of a step that did not fail
 pub bind_ok : {A B : Type 0} (r : Result A Fault) (f : A → Result B Fault) (y : B) → (r >>= f) ≡ Ok y → (x : A) × (r ≡ Ok x) × (f x ≡ Ok y)

@@ -1,9 +1,10 @@
 -- The fields of an image, and which values they may have.
-use Rattle.std.specs.Prelude.{◌≡◌, ℕ, ◌+◌, ◌*◌, ◌%◌, ◌^◌, ◌<◌, ◌≤◌, List, [], ◌∷◌, length, Option, IfSome}
+use Rattle.std.specs.Prelude.{◌≡◌, ℕ, ◌+◌, ◌*◌, ◌%◌, ◌^◌, ◌<◌, ◌≤◌, ◌==◌, nat_le, Bool, true, ◌&&◌, List, [], ◌∷◌, length, Option, IfSome}
 use Rattle.std.specs.List.{AllByRecursion}
 use Rattle.language.specs.declared.signature.Kind.{Kind}
 use Rattle.language.specs.declared.signature.Form.{Form}
-use Rattle.language.specs.declared.signature.Form.TheVariants.{SingleWord}
+use Rattle.language.specs.declared.signature.Form.TheVariants.{SingleWord, FixedArray, MutableArray}
+use Rattle.language.specs.declared.limits.TheConstants.{MOST_ELEMENTS}
 use Rattle.language.specs.Size.{held_words}
 pub use Rattle.image.specs.declared.limits.TheConstants.{MOST_PARAMETERS, MOST_FRAME_BYTES, MOST_STEPS, MOST_WORDS}
 use Rattle.image.specs.declared.slot.Slot.{Slot}
@@ -33,10 +34,15 @@ abbrev pub slots_end : ℕ → List Slot → ℕ
 slots_end low [] = low
 slots_end low (slot ∷ slots) = slots_end (slot_end slot) slots
 
--- a slot that begins not below `low`. Arrays have no images yet.
+-- whether a parameter may hold so many words: a single word is one
+abbrev pub is_length : Form → ℕ → Bool
+is_length SingleWord n = n == 1
+is_length FixedArray n = nat_le 1 n && nat_le n MOST_ELEMENTS
+is_length MutableArray n = nat_le 1 n && nat_le n MOST_ELEMENTS
+
+-- a slot that begins not below `low`
 pub record IsSlot (low : ℕ) (slot : Slot) : Type 0 where
-  pub form : slot.param.form ≡ SingleWord
-  pub length : slot.param.length ≡ 1
+  pub length : is_length slot.param.form slot.param.length ≡ true
   pub aligned : slot.offset % 4 ≡ 0
   pub above : low ≤ slot.offset
   pub fits : slot.offset < 2 ^ 32

@@ -1,19 +1,21 @@
--- The format of an image: its fields from the first to the last, which values each may have, and what is read by it.
-use Rattle.std.specs.Prelude.{◌≡◌, ℕ, zero, suc, ◌%◌, Bool, true, ◌&&◌, List, [], ◌∷◌, length, Option, Some, None, Result, Ok, Err, nat_lt, nat_le, ◌==◌}
+-- The format of an image: its fields from the first to the last, which values each may have, and what bytes spell by it.
+use Rattle.std.specs.Prelude.{◌≡◌, ℕ, zero, suc, ◌%◌, ◌<◌, Bool, true, ◌&&◌, List, [], ◌∷◌, length, Option, Some, None, Result, Ok, Err, nat_lt, nat_le, ◌==◌}
+use Rattle.std.specs.List.{AllByRecursion}
 use Rattle.language.specs.declared.signature.Kind.{Kind}
 use Rattle.language.specs.declared.signature.Kind.TheVariants.{Boolean, Uint8, Uint16, Uint32}
 use Rattle.language.specs.declared.signature.Label.{Label}
 use Rattle.language.specs.declared.signature.Label.TheVariants.{Public, Secret}
-use Rattle.language.specs.declared.signature.Form.TheVariants.{SingleWord}
+use Rattle.language.specs.declared.signature.Form.{Form}
+use Rattle.language.specs.declared.signature.Form.TheVariants.{SingleWord, FixedArray, MutableArray}
 use Rattle.image.specs.declared.slot.Slot.{Slot}
 use Rattle.image.specs.declared.slot.ResultSlot.{ResultSlot}
 use Rattle.image.specs.declared.fault.ImageRule.TheVariants.{Magic, Version, Profile, FieldOutOfRange}
 use Rattle.image.specs.declared.fault.ImageFault.{ImageFault}
 use Rattle.image.specs.declared.fault.ImageFault.TheVariants.{Field, Memory}
-use Rattle.image.specs.Fields.{Fields, slot_end, slots_end, result_end, MOST_PARAMETERS, MOST_FRAME_BYTES, MOST_STEPS, MOST_WORDS}
+use Rattle.image.specs.Fields.{Fields, slot_end, slots_end, result_end, is_length, MOST_PARAMETERS, MOST_FRAME_BYTES, MOST_STEPS, MOST_WORDS}
 use Rattle.image.specs.Format.{Format, ends, field, read_by}
 
--- kinds and labels by their codes, those from 0 to 3 and to 1
+-- kinds, labels and forms by their codes, those from 0 to 3, to 1 and to 2
 abbrev pub coded_kind : ℕ → Kind
 coded_kind zero = Boolean
 coded_kind (suc zero) = Uint8
@@ -23,6 +25,11 @@ coded_kind (suc (suc (suc n))) = Uint32
 abbrev pub coded_label : ℕ → Label
 coded_label zero = Public
 coded_label (suc n) = Secret
+
+abbrev pub coded_form : ℕ → Form
+coded_form zero = SingleWord
+coded_form (suc zero) = FixedArray
+coded_form (suc (suc n)) = MutableArray
 
 -- a slot begins at a multiple of 4, and not below the end of the slot before it
 abbrev pub is_offset : ℕ → ℕ → Bool
@@ -37,15 +44,15 @@ is_step_limit n = nat_le 1 n && nat_le n MOST_STEPS
 abbrev pub is_word_count : ℕ → Bool
 is_word_count n = nat_le 1 n && nat_le n MOST_WORDS
 
--- a parameter's slot, the one before it ending at `low`. Arrays have no images yet: the form is 0 and the length 1.
+-- a parameter's slot, the one before it ending at `low`
 unfoldable pub slot_format : ℕ → (Slot → Format) → Format
 slot_format low next =
     field FieldOutOfRange 1 (λ n. nat_lt n 4) (λ kind.
     field FieldOutOfRange 1 (λ n. nat_lt n 2) (λ label.
-    field FieldOutOfRange 1 (λ n. n == 0) (λ form.
-    field FieldOutOfRange 2 (λ n. n == 1) (λ count.
+    field FieldOutOfRange 1 (λ n. nat_lt n 3) (λ form.
+    field FieldOutOfRange 2 (is_length (coded_form form)) (λ count.
     field FieldOutOfRange 4 (is_offset low) (λ offset.
-    next (record { param = record { kind = coded_kind kind; label = coded_label label; form = SingleWord; length = count }; offset = offset }))))))
+    next (record { param = record { kind = coded_kind kind; label = coded_label label; form = coded_form form; length = count }; offset = offset }))))))
 
 -- so many slots
 unfoldable pub slots_format : ℕ → ℕ → (List Slot → Format) → Format
@@ -92,6 +99,14 @@ image_format =
 -- the fields that the bytes spell, or the first fault and the offset of its field
 abbrev pub reading : List ℕ → Result Fields ImageFault
 reading bytes = read_by (length bytes) image_format bytes
+
+-- numbers that are bytes
+abbrev pub AreBytes : List ℕ → Type 0
+AreBytes = AllByRecursion (λ byte. byte < 256)
+
+-- the bytes, all of them, spell the fields
+abbrev pub Spells : List ℕ → Fields → Type 0
+Spells bytes fields = reading bytes ≡ Ok fields
 
 -- what was read is what should be, unless memory ran out
 abbrev pub IsUnlessMemory : {A : Type 0} → Result A ImageFault → Result A ImageFault → Type 0

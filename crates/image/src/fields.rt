@@ -2,13 +2,14 @@
 
 ghost use Rattle.std.specs.Prelude.{◌≡◌, ◌+◌, ◌%◌, ◌==◌, nat_le, length, Ok};
 ghost use Rattle.image.specs.declared.fields.ReadError.TheVariants.{Memory};
+ghost use Rattle.image.specs.Fields.{is_length};
 ghost use Rattle.image.specs.Reading.{is_offset, is_frame_size, is_step_limit, is_word_count};
-ghost use Rattle.image.specs.Parts.{Gives, Fails, byte_at, number_at, field_at, coded_at, kind_of, label_of, form_of, preamble_at, slot_at, result_slot_at, returned_at};
+ghost use Rattle.image.specs.private.Parts.{Gives, Fails, byte_at, number_at, field_at, coded_at, kind_of, label_of, form_of, preamble_at, slot_at, result_slot_at, returned_at};
 
 use crate::limits::{MOST_FRAME_BYTES, MOST_PARAMETERS, MOST_STEPS, MOST_WORDS};
 use crate::{ImageRule, ResultSlot, Slot};
 use byteorder::{ByteOrder, LittleEndian};
-use language::{Form, Kind, Label, Param};
+use language::{Form, Kind, Label, MOST_ELEMENTS, Param};
 use std::alloc::{AllocError, AllocFailed};
 
 /// The bytes `FACI`, as a number.
@@ -58,7 +59,7 @@ pub fn fault_of(rule: ImageRule, field: &[u8]) -> ReadError
     })
 }
 
-#[tactic(auto, unfolding(crate::specs::Parts::byte_at))]
+#[tactic(auto, unfolding(crate::specs::private::Parts::byte_at))]
 fn read_byte(bytes: &[u8]) -> Result<(u8, &[u8]), ReadError>
     ensures { Gives (λ x. (x.0, x.1.now)) result (byte_at bytes.now) }
 {
@@ -68,7 +69,7 @@ fn read_byte(bytes: &[u8]) -> Result<(u8, &[u8]), ReadError>
     }
 }
 
-#[tactic(auto, unfolding(crate::specs::Parts::number_at))]
+#[tactic(auto, unfolding(crate::specs::private::Parts::number_at))]
 fn read_u16(bytes: &[u8]) -> Result<(u16, &[u8]), ReadError>
     ensures { Gives (λ x. (x.0, x.1.now)) result (number_at 2 bytes.now) }
 {
@@ -78,7 +79,7 @@ fn read_u16(bytes: &[u8]) -> Result<(u16, &[u8]), ReadError>
     Ok((LittleEndian::read_u16(bytes), &bytes[2..]))
 }
 
-#[tactic(auto, unfolding(crate::specs::Parts::number_at))]
+#[tactic(auto, unfolding(crate::specs::private::Parts::number_at))]
 pub fn read_u32(bytes: &[u8]) -> Result<(u32, &[u8]), ReadError>
     ensures { Gives (λ x. (x.0, x.1.now)) result (number_at 4 bytes.now) }
 {
@@ -88,7 +89,7 @@ pub fn read_u32(bytes: &[u8]) -> Result<(u32, &[u8]), ReadError>
     Ok((LittleEndian::read_u32(bytes), &bytes[4..]))
 }
 
-#[tactic(auto, unfolding(crate::specs::Parts::number_at))]
+#[tactic(auto, unfolding(crate::specs::private::Parts::number_at))]
 fn read_u64(bytes: &[u8]) -> Result<(u64, &[u8]), ReadError>
     ensures { Gives (λ x. (x.0, x.1.now)) result (number_at 8 bytes.now) }
 {
@@ -98,7 +99,7 @@ fn read_u64(bytes: &[u8]) -> Result<(u64, &[u8]), ReadError>
     Ok((LittleEndian::read_u64(bytes), &bytes[8..]))
 }
 
-#[tactic(auto, unfolding(crate::specs::Parts::field_at))]
+#[tactic(auto, unfolding(crate::specs::private::Parts::field_at))]
 fn read_magic(bytes: &[u8]) -> Result<(u32, &[u8]), ReadError>
     ensures { Gives (λ x. (x.0, x.1.now)) result (field_at 4 (λ n. n == 0x4943_4146) ImageRule.Magic bytes.now) }
 {
@@ -109,7 +110,7 @@ fn read_magic(bytes: &[u8]) -> Result<(u32, &[u8]), ReadError>
     Ok((magic, rest))
 }
 
-#[tactic(auto, unfolding(crate::specs::Parts::field_at))]
+#[tactic(auto, unfolding(crate::specs::private::Parts::field_at))]
 fn read_version(bytes: &[u8]) -> Result<(u16, &[u8]), ReadError>
     ensures { Gives (λ x. (x.0, x.1.now)) result (field_at 2 (λ n. n == 1) ImageRule.Version bytes.now) }
 {
@@ -120,7 +121,7 @@ fn read_version(bytes: &[u8]) -> Result<(u16, &[u8]), ReadError>
     Ok((version, rest))
 }
 
-#[tactic(auto, unfolding(crate::specs::Parts::field_at))]
+#[tactic(auto, unfolding(crate::specs::private::Parts::field_at))]
 fn read_profile(bytes: &[u8]) -> Result<(u16, &[u8]), ReadError>
     ensures { Gives (λ x. (x.0, x.1.now)) result (field_at 2 (λ n. n == 1) ImageRule.Profile bytes.now) }
 {
@@ -132,7 +133,7 @@ fn read_profile(bytes: &[u8]) -> Result<(u16, &[u8]), ReadError>
 }
 
 /// What stands after magic, version and profile.
-#[tactic(auto, unfolding(crate::specs::Parts::preamble_at))]
+#[tactic(auto, unfolding(crate::specs::private::Parts::preamble_at))]
 pub fn read_preamble(bytes: &[u8]) -> Result<&[u8], ReadError>
     ensures { Gives (λ x. x.now) result (preamble_at bytes.now) }
 {
@@ -142,7 +143,7 @@ pub fn read_preamble(bytes: &[u8]) -> Result<&[u8], ReadError>
     Ok(rest)
 }
 
-#[tactic(auto, unfolding(crate::specs::Parts::field_at))]
+#[tactic(auto, unfolding(crate::specs::private::Parts::field_at))]
 pub fn read_parameter_count(bytes: &[u8]) -> Result<(u16, &[u8]), ReadError>
     ensures { Gives (λ x. (x.0, x.1.now)) result (field_at 2 (λ n. nat_le n MOST_PARAMETERS) ImageRule.FieldOutOfRange bytes.now) }
 {
@@ -165,7 +166,7 @@ fn kind_from(code: u8) -> Option<Kind>
     }
 }
 
-#[tactic(auto, unfolding(crate::specs::Parts::coded_at))]
+#[tactic(auto, unfolding(crate::specs::private::Parts::coded_at))]
 fn read_kind(bytes: &[u8]) -> Result<(Kind, &[u8]), ReadError>
     ensures { Gives (λ x. (x.0, x.1.now)) result (coded_at kind_of bytes.now) }
 {
@@ -186,7 +187,7 @@ fn label_from(code: u8) -> Option<Label>
     }
 }
 
-#[tactic(auto, unfolding(crate::specs::Parts::coded_at))]
+#[tactic(auto, unfolding(crate::specs::private::Parts::coded_at))]
 fn read_label(bytes: &[u8]) -> Result<(Label, &[u8]), ReadError>
     ensures { Gives (λ x. (x.0, x.1.now)) result (coded_at label_of bytes.now) }
 {
@@ -197,17 +198,18 @@ fn read_label(bytes: &[u8]) -> Result<(Label, &[u8]), ReadError>
     }
 }
 
-/// Arrays have no images yet.
 fn form_from(code: u8) -> Option<Form>
     ensures { result ≡ form_of code }
 {
     match code {
         0 => Some(Form::SingleWord),
+        1 => Some(Form::FixedArray),
+        2 => Some(Form::MutableArray),
         _ => None,
     }
 }
 
-#[tactic(auto, unfolding(crate::specs::Parts::coded_at))]
+#[tactic(auto, unfolding(crate::specs::private::Parts::coded_at))]
 fn read_form(bytes: &[u8]) -> Result<(Form, &[u8]), ReadError>
     ensures { Gives (λ x. (x.0, x.1.now)) result (coded_at form_of bytes.now) }
 {
@@ -218,19 +220,29 @@ fn read_form(bytes: &[u8]) -> Result<(Form, &[u8]), ReadError>
     }
 }
 
-#[tactic(auto, unfolding(crate::specs::Parts::field_at))]
-fn read_length(bytes: &[u8]) -> Result<(u16, &[u8]), ReadError>
-    ensures { Gives (λ x. (x.0, x.1.now)) result (field_at 2 (λ n. n == 1) ImageRule.FieldOutOfRange bytes.now) }
+/// Whether a parameter may hold so many words.
+fn is_length(form: Form, length: u16) -> bool
+    ensures { result ≡ is_length form length }
+{
+    match form {
+        Form::SingleWord => length == 1,
+        Form::FixedArray | Form::MutableArray => 1 <= length && length <= MOST_ELEMENTS,
+    }
+}
+
+#[tactic(auto, unfolding(crate::specs::private::Parts::field_at))]
+fn read_length(form: Form, bytes: &[u8]) -> Result<(u16, &[u8]), ReadError>
+    ensures { Gives (λ x. (x.0, x.1.now)) result (field_at 2 (is_length form) ImageRule.FieldOutOfRange bytes.now) }
 {
     let (length, rest) = read_u16(bytes)?;
-    if length != 1 {
+    if !is_length(form, length) {
         return Err(fault_of(ImageRule::FieldOutOfRange, bytes));
     }
     Ok((length, rest))
 }
 
 /// The offset of a slot, the one before it ending at `low`.
-#[tactic(auto, unfolding(crate::specs::Parts::field_at))]
+#[tactic(auto, unfolding(crate::specs::private::Parts::field_at))]
 fn read_offset(low: u64, bytes: &[u8]) -> Result<(u32, &[u8]), ReadError>
     ensures { Gives (λ x. (x.0, x.1.now)) result (field_at 4 (is_offset low) ImageRule.FieldOutOfRange bytes.now) }
 {
@@ -242,14 +254,14 @@ fn read_offset(low: u64, bytes: &[u8]) -> Result<(u32, &[u8]), ReadError>
 }
 
 /// A parameter's slot, the slot before it ending at `low`.
-#[tactic(auto, unfolding(crate::specs::Parts::slot_at))]
+#[tactic(auto, unfolding(crate::specs::private::Parts::slot_at))]
 pub fn read_slot(low: u64, bytes: &[u8]) -> Result<(Slot, &[u8]), ReadError>
     ensures { Gives (λ x. (x.0, x.1.now)) result (slot_at low bytes.now) }
 {
     let (kind, rest) = read_kind(bytes)?;
     let (label, rest) = read_label(rest)?;
     let (form, rest) = read_form(rest)?;
-    let (length, rest) = read_length(rest)?;
+    let (length, rest) = read_length(form, rest)?;
     let (offset, rest) = read_offset(low, rest)?;
     let param = Param {
         kind,
@@ -260,7 +272,7 @@ pub fn read_slot(low: u64, bytes: &[u8]) -> Result<(Slot, &[u8]), ReadError>
     Ok((Slot { param, offset }, rest))
 }
 
-#[tactic(auto, unfolding(crate::specs::Parts::result_slot_at))]
+#[tactic(auto, unfolding(crate::specs::private::Parts::result_slot_at))]
 fn read_result_slot(low: u64, bytes: &[u8]) -> Result<(ResultSlot, &[u8]), ReadError>
     ensures { Gives (λ x. (x.0, x.1.now)) result (result_slot_at low bytes.now) }
 {
@@ -278,7 +290,7 @@ fn read_result_slot(low: u64, bytes: &[u8]) -> Result<(ResultSlot, &[u8]), ReadE
 }
 
 /// The result's slot, where there is a result. The last parameter's slot ends at `low`.
-#[tactic(auto, unfolding(crate::specs::Parts::returned_at))]
+#[tactic(auto, unfolding(crate::specs::private::Parts::returned_at))]
 pub fn read_returned(low: u64, bytes: &[u8]) -> Result<(Option<ResultSlot>, &[u8]), ReadError>
     ensures { Gives (λ x. (x.0, x.1.now)) result (returned_at low bytes.now) }
 {
@@ -294,7 +306,7 @@ pub fn read_returned(low: u64, bytes: &[u8]) -> Result<(Option<ResultSlot>, &[u8
 }
 
 /// How many bytes the frame has, where the last slot ends at `low`.
-#[tactic(auto, unfolding(crate::specs::Parts::field_at))]
+#[tactic(auto, unfolding(crate::specs::private::Parts::field_at))]
 pub fn read_frame_bytes(low: u64, bytes: &[u8]) -> Result<(u32, &[u8]), ReadError>
     ensures { Gives (λ x. (x.0, x.1.now)) result (field_at 4 (is_frame_size low) ImageRule.FieldOutOfRange bytes.now) }
 {
@@ -305,7 +317,7 @@ pub fn read_frame_bytes(low: u64, bytes: &[u8]) -> Result<(u32, &[u8]), ReadErro
     Ok((frame, rest))
 }
 
-#[tactic(auto, unfolding(crate::specs::Parts::field_at))]
+#[tactic(auto, unfolding(crate::specs::private::Parts::field_at))]
 pub fn read_max_steps(bytes: &[u8]) -> Result<(u64, &[u8]), ReadError>
     ensures { Gives (λ x. (x.0, x.1.now)) result (field_at 8 is_step_limit ImageRule.FieldOutOfRange bytes.now) }
 {
@@ -316,7 +328,7 @@ pub fn read_max_steps(bytes: &[u8]) -> Result<(u64, &[u8]), ReadError>
     Ok((steps, rest))
 }
 
-#[tactic(auto, unfolding(crate::specs::Parts::field_at))]
+#[tactic(auto, unfolding(crate::specs::private::Parts::field_at))]
 pub fn read_word_count(bytes: &[u8]) -> Result<(u32, &[u8]), ReadError>
     ensures { Gives (λ x. (x.0, x.1.now)) result (field_at 4 is_word_count ImageRule.FieldOutOfRange bytes.now) }
 {

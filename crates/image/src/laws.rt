@@ -1,21 +1,20 @@
 //! Bytes and fields determine each other.
 
-ghost use Rattle.std.specs.Prelude.{◌≡◌, ℕ, ◌++◌, List, [], Ok};
+ghost use Rattle.std.specs.Prelude.{◌≡◌, ◌↔◌, ℕ, ◌++◌, List, []};
 ghost use Rattle.image.specs.Fields.{Fields, IsImage};
-ghost use Rattle.image.specs.Spelling.{spelling};
-ghost use Rattle.image.specs.Reading.{reading};
+ghost use Rattle.image.specs.Reading.{AreBytes, Spells};
 
-/// Two images with one spelling are one.
+/// The fields that some bytes spell are those that an image may have.
+pub fn allowed_fields_are_spelled()
+    ensures { (fields : Fields) → IsImage fields ↔ ((bytes : List ℕ) × AreBytes bytes × Spells bytes fields) }
+{}
+
+/// Fields have one spelling.
 pub fn one_spelling()
-    ensures { (f g : Fields) → IsImage f → IsImage g → spelling f ≡ spelling g → f ≡ g }
+    ensures { (one other : List ℕ) (fields : Fields) → AreBytes one → AreBytes other → Spells one fields → Spells other fields → one ≡ other }
 {}
 
 /// No spelling begins another.
 pub fn no_spelling_begins_another()
-    ensures { (f g : Fields) (rest : List ℕ) → IsImage f → IsImage g → spelling f ++ rest ≡ spelling g → (f ≡ g) × (rest ≡ []) }
-{}
-
-/// What was written is read again.
-pub fn spelling_is_read()
-    ensures { (f : Fields) → IsImage f → reading (spelling f) ≡ Ok f }
+    ensures { (bytes rest : List ℕ) (fields others : Fields) → AreBytes (bytes ++ rest) → Spells bytes fields → Spells (bytes ++ rest) others → rest ≡ [] }
 {}

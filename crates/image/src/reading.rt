@@ -1,8 +1,7 @@
-ghost use Rattle.std.specs.Prelude.{◌≡◌, length, IfOk, Ok};
-ghost use Rattle.image.specs.Fields.{Fields, IsImage, slots_end};
-ghost use Rattle.image.specs.Spelling.{spelling};
+ghost use Rattle.std.specs.Prelude.{◌≡◌, length, IfOk};
+ghost use Rattle.image.specs.Fields.{IsImage, slots_end};
 ghost use Rattle.image.specs.Reading.{IsUnlessMemory, reading};
-ghost use Rattle.image.specs.Parts.{Gives, slots_at, words_at, layout_at, code_at, layout_fields, code_fields, fields_of, all_of};
+ghost use Rattle.image.specs.private.Parts.{Gives, slots_at, words_at, layout_at, code_at, layout_fields, code_fields, fields_of, all_of};
 
 use crate::fields::{
     ReadError, fault_of, read_frame_bytes, read_max_steps, read_parameter_count, read_preamble,
@@ -62,7 +61,7 @@ struct Layout {
     frame_bytes: u32,
 }
 
-#[tactic(auto, unfolding(crate::specs::Parts::layout_at))]
+#[tactic(auto, unfolding(crate::specs::private::Parts::layout_at))]
 fn read_layout(alloc: Global, bytes: &[u8]) -> Result<(Layout, &[u8]), ReadError>
     ensures { Gives (λ x. (layout_fields x.0, x.1.now)) result (layout_at bytes.now) }
 {
@@ -90,7 +89,7 @@ struct Code {
     words: Vec<u32>,
 }
 
-#[tactic(auto, unfolding(crate::specs::Parts::code_at))]
+#[tactic(auto, unfolding(crate::specs::private::Parts::code_at))]
 fn read_code(alloc: Global, bytes: &[u8]) -> Result<(Code, &[u8]), ReadError>
     ensures { Gives (λ x. (code_fields x.0, x.1.now)) result (code_at bytes.now) }
 {
@@ -100,7 +99,7 @@ fn read_code(alloc: Global, bytes: &[u8]) -> Result<(Code, &[u8]), ReadError>
     Ok((Code { max_steps, words }, rest))
 }
 
-#[tactic(auto, unfolding(crate::specs::Parts::fields_at, crate::specs::Parts::all_of))]
+#[tactic(auto, unfolding(crate::specs::private::Parts::fields_at, crate::specs::private::Parts::all_of))]
 fn read_all(alloc: Global, bytes: &[u8]) -> Result<(Layout, Code), ReadError>
     ensures { Gives (λ x. fields_of (layout_fields x.0) (code_fields x.1)) result (all_of bytes.now) }
 {
@@ -136,12 +135,8 @@ fn image_of(alloc: Global, bytes: &[u8]) -> Result<Image, ImageFault>
 /// The image that the bytes spell, all of the bytes. Else it names the first field that is not
 /// wholly there or has a value that it may not have, or the first byte after the last code word.
 pub fn read(alloc: Global, bytes: &[u8]) -> Result<Image, ImageFault>
-    // What is read is allowed, and spelled so.
-    ensures found { IfOk result (λ image. IsImage image × (bytes.now ≡ spelling image)) }
-    // What is spelled so is read, unless memory runs out.
-    ensures only { (fields : Fields) → IsImage fields → bytes.now ≡ spelling fields → IsUnlessMemory result (Ok fields) }
-    // Which fault it is, and where.
     ensures exact { IsUnlessMemory result (reading bytes.now) }
+    ensures allowed { IfOk result (λ image. IsImage image) }
 {
     image_of(alloc, bytes)
 }

@@ -1,7 +1,8 @@
 ghost use Rattle.std.specs.Prelude.{◌≡◌, ◌≤◌, ◌++◌, [], ◌∷◌, length, None, OnOk, IfOk, IfErr};
 ghost use Rattle.std.specs.List.{flat_map};
 ghost use Rattle.byteorder.specs.Endian.{little_bytes};
-ghost use Rattle.image.specs.Spelling.{spelling, preamble, kind_code, label_code, form_code, spelled_slot, spelled_result, spelled_layout, spelled_code};
+ghost use Rattle.image.specs.Reading.{Spells};
+ghost use Rattle.image.specs.private.Spelling.{preamble, kind_code, label_code, form_code, spelled_slot, spelled_result, spelled_layout, spelled_code};
 
 use crate::limits::{FIXED_BYTES, LONGEST_IMAGE, PARAMETER_BYTES, WORD_BYTES};
 use crate::{Image, ResultSlot, Slot};
@@ -137,7 +138,7 @@ fn put_code(out: &mut Vec<u8>, image: &Image) -> Result<(), AllocError>
 }
 
 fn spelled(alloc: Global, image: &Image) -> Result<Vec<u8>, AllocError>
-    ensures spelled { IfOk result (λ bytes. bytes.items ≡ spelling image.now) }
+    ensures spelled { IfOk result (λ bytes. Spells bytes.items image.now) }
     ensures short { IfOk result (λ bytes. length bytes.items ≤ LONGEST_IMAGE) }
 {
     let room = FIXED_BYTES
@@ -152,7 +153,7 @@ fn spelled(alloc: Global, image: &Image) -> Result<Vec<u8>, AllocError>
 
 /// The one spelling of an image.
 pub fn write(alloc: Global, image: &Image) -> Result<Vec<u8>, Refusal>
-    ensures spelled { IfOk result (λ bytes. bytes.items ≡ spelling image.now) }
+    ensures spelled { IfOk result (λ bytes. Spells bytes.items image.now) }
     ensures short { IfOk result (λ bytes. length bytes.items ≤ LONGEST_IMAGE) }
     ensures memory { IfErr result (λ refusal. (refusal.rule ≡ Rule.OutOfMemory) × (refusal.place ≡ None)) }
 {

@@ -1,5 +1,5 @@
 use Rattle.std.proofs.lemmas.Result.{err_from_is_err_and}
-use Rattle.image.specs.Parts.{slots_at}
+use Rattle.image.specs.private.Parts.{slots_at}
 use Rattle.image.proofs.Loop.{slots_go_on, slots_end_early, slots_done}
 use Rattle.image.proofs.reading.read_slots.Goals as goal
 

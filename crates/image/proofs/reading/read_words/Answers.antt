@@ -1,5 +1,5 @@
 use Rattle.std.proofs.lemmas.Result.{err_from_is_err_and}
-use Rattle.image.specs.Parts.{words_at}
+use Rattle.image.specs.private.Parts.{words_at}
 use Rattle.image.proofs.Loop.{words_go_on, words_end_early, words_done}
 use Rattle.image.proofs.reading.read_words.Goals as goal
 

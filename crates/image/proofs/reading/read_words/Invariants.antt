@@ -1,5 +1,5 @@
 use Rattle.std.proofs.Common.{◌≡◌, ◌-◌}
-use Rattle.image.specs.Parts.{words_at}
+use Rattle.image.specs.private.Parts.{words_at}
 use Rattle.image.proofs.Loop.{with_front}
 use Rattle.image.proofs.reading.read_words.Given as goal
 

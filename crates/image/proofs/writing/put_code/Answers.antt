@@ -2,7 +2,7 @@ use Rattle.std.proofs.Common.{◌≡◌, ℕ, List, ◌++◌, length, ap, ◌∙
 use Rattle.std.specs.List.{flat_map}
 use Rattle.std.proofs.lemmas.Result.{IfOk-equal}
 use Rattle.byteorder.specs.Endian.{little_bytes}
-use Rattle.image.specs.Spelling.{spelled_code}
+use Rattle.image.specs.private.Spelling.{spelled_code}
 use Rattle.image.proofs.writing.put_code.Goals as goal
 
 -- three pieces put at the end, one after the other

@@ -1,6 +1,6 @@
 use Rattle.std.proofs.Common.{◌≡◌, ◌++◌, take}
 use Rattle.std.specs.List.{flat_map}
-use Rattle.image.specs.Spelling.{spelled_slot}
+use Rattle.image.specs.private.Spelling.{spelled_slot}
 use Rattle.image.proofs.writing.put_slots.Given as goal
 
 abbrev pub invariant-loop-slot : goal.invariant-loop-slot

@@ -1,8 +1,15 @@
-use Rattle.std.proofs.Common.{◌≡◌, ◌≤◌, length, rules, subst, sym}
+use Rattle.std.proofs.Common.{◌≡◌, ◌≤◌, ◌∙◌, length, rules, ap, subst, sym}
 use Rattle.image.specs.declared.limits.TheConstants.{LONGEST_IMAGE}
-use Rattle.image.specs.Spelling.{spelling}
+use Rattle.image.specs.Reading.{reading}
+use Rattle.image.specs.private.Spelling.{spelling}
+use Rattle.image.proofs.Images.{reading_again}
 use Rattle.image.proofs.Lengths.{short}
 use Rattle.image.proofs.writing.spelled.Goals as goal
+
+pub returns-clause-spelled : goal.returns-clause-spelled
+returns-clause-spelled c =
+    let is : c.put_code.new.out.items ≡ spelling c.args.image.now = search rules in
+    ap reading is ∙ reading_again c.args.image.now c.slots.ensures.allowed
 
 pub returns-clause-short : goal.returns-clause-short
 returns-clause-short c =

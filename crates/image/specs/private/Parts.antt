@@ -1,4 +1,4 @@
--- The parts of an image, as the reader takes one after another. The contracts of private functions cite them, and no public one does.
+-- The parts of an image, as the reader takes one after another.
 use Rattle.std.specs.Prelude.{◌≡◌, ℕ, zero, suc, Bool, List, [], ◌∷◌, length, drop, Option, Some, None, Result, Ok, Err, nat_lt, nat_le, ◌==◌, if◌then◌else◌}
 use Rattle.byteorder.specs.Endian.{little_number}
 use Rattle.language.specs.declared.signature.Kind.{Kind}
@@ -6,7 +6,7 @@ use Rattle.language.specs.declared.signature.Kind.TheVariants.{Boolean, Uint8, U
 use Rattle.language.specs.declared.signature.Label.{Label}
 use Rattle.language.specs.declared.signature.Label.TheVariants.{Public, Secret}
 use Rattle.language.specs.declared.signature.Form.{Form}
-use Rattle.language.specs.declared.signature.Form.TheVariants.{SingleWord}
+use Rattle.language.specs.declared.signature.Form.TheVariants.{SingleWord, FixedArray, MutableArray}
 use Rattle.image.specs.declared.slot.Slot.{Slot}
 use Rattle.image.specs.declared.slot.ResultSlot.{ResultSlot}
 use Rattle.image.specs.declared.fault.ImageRule.{ImageRule}
@@ -16,7 +16,7 @@ use Rattle.image.specs.declared.fields.ReadError.{ReadError}
 use Rattle.image.specs.declared.fields.ReadError.TheVariants as errors
 use Rattle.image.specs.declared.reading.Layout.{Layout}
 use Rattle.image.specs.declared.reading.Code.{Code}
-use Rattle.image.specs.Fields.{Fields, slot_end, slots_end, MOST_PARAMETERS}
+use Rattle.image.specs.Fields.{Fields, slot_end, slots_end, is_length, MOST_PARAMETERS}
 use Rattle.image.specs.Reading.{is_offset, is_frame_size, is_step_limit, is_word_count, layout_end}
 
 infixl 10 ◌>>=◌
@@ -67,10 +67,11 @@ label_of zero = Some Public
 label_of (suc zero) = Some Secret
 label_of (suc (suc n)) = None
 
--- arrays have no images yet
 abbrev pub form_of : ℕ → Option Form
 form_of zero = Some SingleWord
-form_of (suc n) = None
+form_of (suc zero) = Some FixedArray
+form_of (suc (suc zero)) = Some MutableArray
+form_of (suc (suc (suc n))) = None
 
 -- magic, version and profile, and what stands after them. The magic is a number too, that of the bytes `FACI`.
 unfoldable pub preamble_at : List ℕ → Result (List ℕ) Fault
@@ -86,7 +87,7 @@ slot_at low bytes = do
   kind ← coded_at kind_of bytes
   label ← coded_at label_of kind.1
   form ← coded_at form_of label.1
-  count ← field_at 2 (λ n. n == 1) FieldOutOfRange form.1
+  count ← field_at 2 (is_length form.0) FieldOutOfRange form.1
   offset ← field_at 4 (is_offset low) FieldOutOfRange count.1
   Ok (record { param = record { kind = kind.0; label = label.0; form = form.0; length = count.0 }; offset = offset.0 }, offset.1)
 

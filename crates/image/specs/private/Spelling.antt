@@ -1,4 +1,4 @@
--- The one spelling of an image: its fields in order, each number with its lowest byte first.
+-- The bytes of an image, as the writer puts them: its fields in order, each number with its lowest byte first.
 use Rattle.std.specs.Prelude.{ℕ, List, [], ◌∷◌, ◌++◌, length, Option, Some, None, codes}
 use Rattle.std.specs.List.{flat_map}
 use Rattle.byteorder.specs.Endian.{little_bytes}
