@@ -37,3 +37,4 @@ pub mod ImageLemmas
 pub mod WholeRuns
 pub mod GeneratedLemmas
 pub mod StatementCode
+pub mod PlacedLemmas

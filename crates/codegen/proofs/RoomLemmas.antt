@@ -1,6 +1,6 @@
 -- Straight code within the limits has room in a frame and in an image.
 use Rattle.std.proofs.Common.{◌≡◌, ℕ, zero, suc, ◌+◌, ◌-◌, ◌*◌, ◌≤◌, List, [], ◌∷◌, ◌++◌, length, map, take, Option, None, Some, max, ap, subst, arith, length-append}
-use Rattle.std.proofs.Math.Nat.{max-le}
+use Rattle.std.proofs.Math.Nat.{max-le, le-max_left}
 use Rattle.std.proofs.lemmas.Option.{same_Some}
 use Rattle.branch_removal.specs.Bounds.{IsBounded}
 use Rattle.branch_removal.specs.Straight.{StraightProgram}
@@ -8,9 +8,11 @@ use Rattle.branch_removal.specs.StraightTyping.{IsTypedStraight}
 use Rattle.codegen.specs.Emitted.{block_code, height_in_all, depth_in_all}
 use Rattle.codegen.specs.Generated.{result_code, program_base, program_code, result_height, program_height}
 use Rattle.codegen.specs.Layout.{result_offset}
+use Rattle.codegen.specs.Placed.{HavePlaces}
 use Rattle.codegen.specs.Room.{HasRoom}
 use Rattle.codegen.proofs.CodeLengths.{block_length, block_room}
 use Rattle.codegen.specs.TermCode.{IsAmong}
+use Rattle.codegen.proofs.PlacedLemmas.{blocks_placed}
 use Rattle.codegen.proofs.TermLengths.{height, store_length, expr_length}
 use Rattle.codegen.proofs.TermTypes.{typed_among}
 use Rattle.inline.specs.declared.flat.FlatVariable.{FlatVariable}
@@ -91,3 +93,13 @@ result_among declared None None typed e is = absurd (no_result is)
 result_among declared (Some word) (Some value) typed e is = subst (IsAmong (length declared)) (same_Some value e is) (typed_among declared typed.has_type)
 result_among declared None (Some value) typed e is = absurd typed
 result_among declared (Some word) None typed e is = absurd typed
+
+-- the statements have their places
+pub body_placed : (p : StraightProgram) → HasRoom p → HavePlaces p.declared p.controls (depth_in_all p.body) 0 p.body
+body_placed p room =
+    let d = room.declared in
+    let n = room.nodes in
+    let c = room.counted in
+    let f = room.frame in
+    let h = le-max_left (height_in_all p.body) (result_height p.value) in
+    blocks_placed p.declared p.controls (depth_in_all p.body) d 0 p.body room.typed.body (omega (arith, d, n, f, h)) (omega arith) (omega (arith, c, n))

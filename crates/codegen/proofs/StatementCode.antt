@@ -1,10 +1,11 @@
 -- The code of a statement that holds others, by the lists of its arms or its body.
-use Rattle.std.proofs.Common.{◌≡◌, ℕ, zero, suc, ◌+◌, ◌*◌, ◌^◌, ◌≤◌, ◌<◌, ◌++◌, List, [], ◌∷◌, length, drop, Vec, Global, Bor, refl, sym, ap, ap₂, ◌∙◌, subst, arith, append_assoc}
+use Rattle.std.proofs.Common.{◌≡◌, ℕ, zero, suc, ◌+◌, ◌*◌, ◌^◌, ◌≤◌, ◌<◌, ◌++◌, List, [], ◌∷◌, length, max, drop, Vec, Global, Bor, refl, sym, ap, ap₂, ◌∙◌, subst, arith, append_assoc}
+use Rattle.std.proofs.Math.Nat.{le-max_left, le-max_right}
 use mathlib.Core.Former.{Count}
 use Rattle.branch_removal.specs.Bounds.{statement_nodes, block_nodes}
 use Rattle.branch_removal.specs.declared.straight.StraightStatement.{StraightStatement}
 use Rattle.branch_removal.specs.declared.straight.StraightStatement as code
-use Rattle.branch_removal.specs.Straight.{StraightTree, first, branch, repeats, straight_tree, straight_row, straight_block}
+use Rattle.branch_removal.specs.Straight.{StraightTree, StraightBlock, first, branch, repeats, straight_tree, straight_row, straight_block}
 use Rattle.codegen.specs.Emitted.{bounds_code, test_code, count_code, statement_code, block_code}
 use Rattle.codegen.specs.Jumps.{branch_code, loop_code}
 use Rattle.codegen.specs.Layout.{variable_offset, next_offset, temporaries_offset}
@@ -53,7 +54,7 @@ loop_tree x low high body =
 module _ (declared : List FlatVariable) (controls depths depth : ℕ) where
   module _ (statement : StraightStatement) (condition : Bor Term) (accepted otherwise : Vec StraightStatement Global) (is : statement ≡ code.Branch condition accepted otherwise)
       (ones others : List StraightStatement) (one : ones ≡ accepted.items) (other : others ≡ otherwise.items) where
-    tree_of_branch : straight_tree statement ≡ branch (term_tree condition.now) (straight_block ones) (straight_block others)
+    pub tree_of_branch : straight_tree statement ≡ branch (term_tree condition.now) (straight_block ones) (straight_block others)
     tree_of_branch = ap straight_tree is ∙ (branch_tree condition accepted otherwise ∙ ap₂ (λ xs ys. branch (term_tree condition.now) (straight_block xs) (straight_block ys)) (sym one) (sym other))
 
     pub accepted_smaller : 2 * block_nodes (straight_block ones) + 1 < 2 * statement_nodes (straight_tree statement)
@@ -83,7 +84,7 @@ module _ (declared : List FlatVariable) (controls depths depth : ℕ) where
 
   module _ (statement : StraightStatement) (x : ℕ) (low high : Bor Term) (body : Vec StraightStatement Global) (is : statement ≡ code.Repeat x low high body)
       (inner : List StraightStatement) (items : inner ≡ body.items) where
-    tree_of_loop : straight_tree statement ≡ repeats x (term_tree low.now) (term_tree high.now) (straight_block inner)
+    pub tree_of_loop : straight_tree statement ≡ repeats x (term_tree low.now) (term_tree high.now) (straight_block inner)
     tree_of_loop = ap straight_tree is ∙ (loop_tree x low high body ∙ ap (λ xs. repeats x (term_tree low.now) (term_tree high.now) (straight_block xs)) (sym items))
 
     pub body_smaller : 2 * block_nodes (straight_block inner) + 1 < 2 * statement_nodes (straight_tree statement)
@@ -130,3 +131,12 @@ pub placed_here : (declared : List FlatVariable) (controls depths depth : ℕ) (
     → HavePlaces declared controls depths depth (straight_block (drop i statements)) → HasPlace declared controls depths depth (straight_tree item)
 placed_here declared controls depths depth statements i item here placed =
     (subst (λ xs. HavePlaces declared controls depths depth (straight_block xs)) here placed).0
+
+pub greatest_here : (measure : StraightTree → ℕ) (measure_all : StraightBlock → ℕ) → ((s : StraightTree) (rest : StraightBlock) → measure_all (first s rest) ≡ max (measure s) (measure_all rest))
+    → (statements : List StraightStatement) (i : ℕ) (item : StraightStatement) → drop i statements ≡ item ∷ drop (i + 1) statements
+    → (so_far whole : ℕ) → max so_far (measure_all (straight_block (drop i statements))) ≡ whole → whole ≤ 6000 → measure (straight_tree item) ≤ 6000
+greatest_here measure measure_all step statements i item here so_far whole all small =
+    let both = ap (λ xs. measure_all (straight_block xs)) here ∙ step (straight_tree item) (straight_block (drop (i + 1) statements)) in
+    let l = le-max_left (measure (straight_tree item)) (measure_all (straight_block (drop (i + 1) statements))) in
+    let r = le-max_right so_far (measure_all (straight_block (drop i statements))) in
+    omega (arith, both, l, r, all, small)

@@ -3,7 +3,7 @@
 ghost use Rattle.std.specs.Prelude.{◌≡◌, ◌≤◌, ◌+◌, ◌*◌, ◌++◌, ◌∷◌, [], map, length, OnOk};
 ghost use Rattle.codegen.specs.Emitted.{store_by, element_store_code, clear_code, fill_code, index_code, put_code, put_under_code};
 ghost use Rattle.codegen.specs.Jumps.{loop_code};
-ghost use Rattle.codegen.specs.Registers.{zero_register, value_register, condition_register, address_register};
+ghost use Rattle.codegen.specs.Registers.{zero_register, value_register, condition_register, left_register};
 ghost use Rattle.rv_code.specs.declared.instructions.Instr.TheVariants.{Immediate, Register, Store};
 ghost use Rattle.rv_code.specs.declared.operations.ImmediateOperation.TheVariants.{Addi};
 ghost use Rattle.rv_code.specs.declared.operations.RegisterOperation.TheVariants.{Sub};
@@ -52,15 +52,15 @@ fn store_element(code: &mut Vec<Instr>, kind: Kind, offset: u32) -> Result<(), A
 
 /// What one turn of a loop tests that makes an array's words 0, and what it does.
 fn clear_word(alloc: Global, code: &mut Vec<Instr>) -> Result<(), AllocError>
-    ensures { OnOk result (code.new.items ≡ code.old.items ++ loop_code (Register Sub value_register condition_register address_register ∷ []) (Store Sw zero_register address_register 0 ∷ Immediate Addi address_register address_register 4 ∷ [])) }
+    ensures { OnOk result (code.new.items ≡ code.old.items ++ loop_code (Register Sub value_register condition_register left_register ∷ []) (Store Sw zero_register left_register 0 ∷ Immediate Addi left_register left_register 4 ∷ [])) }
 {
     let none = Immediate12::from_bits(0);
     let word = Immediate12::from_bits(4);
     let mut test = Vec::new(alloc);
-    test.push(Instr::Register(RegisterOperation::Sub, Reg::X5, Reg::X7, Reg::X28))?;
+    test.push(Instr::Register(RegisterOperation::Sub, Reg::X5, Reg::X7, Reg::X6))?;
     let mut body = Vec::new(alloc);
-    body.push(Instr::Store(StoreOperation::Sw, Reg::X0, Reg::X28, none))?;
-    body.push(Instr::Immediate(ImmediateOperation::Addi, Reg::X28, Reg::X28, word))?;
+    body.push(Instr::Store(StoreOperation::Sw, Reg::X0, Reg::X6, none))?;
+    body.push(Instr::Immediate(ImmediateOperation::Addi, Reg::X6, Reg::X6, word))?;
     repeat(code, test.as_slice(), body.as_slice())
 }
 
@@ -74,10 +74,10 @@ pub fn clear(
     requires { words ≤ 65536 }
     ensures { OnOk result (code.new.items ≡ code.old.items ++ clear_code offset words) }
 {
-    emit::constant(code, Reg::X28, offset)?;
-    code.push(Instr::Register(RegisterOperation::Add, Reg::X28, Reg::X28, Reg::X2))?;
+    emit::constant(code, Reg::X6, offset)?;
+    code.push(Instr::Register(RegisterOperation::Add, Reg::X6, Reg::X6, Reg::X2))?;
     emit::constant(code, Reg::X7, 4 * words)?;
-    code.push(Instr::Register(RegisterOperation::Add, Reg::X7, Reg::X7, Reg::X28))?;
+    code.push(Instr::Register(RegisterOperation::Add, Reg::X7, Reg::X7, Reg::X6))?;
     clear_word(alloc, code)
 }
 

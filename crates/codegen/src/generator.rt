@@ -10,8 +10,9 @@ ghost use Rattle.rv_code.specs.Words.{word_of};
 
 use crate::emit;
 use crate::expressions::{expression, height};
+use crate::heights::{greatest_depth, greatest_height};
 use crate::layout::{Layout, WORD_BYTES, offsets, slots};
-use crate::statements::{greatest_depth, greatest_height, statements};
+use crate::statements::statements;
 use branch_removal::Straight;
 use image::{Image, ResultSlot};
 use rv_code::{Instr, Reg, encode};

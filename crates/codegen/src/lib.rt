@@ -6,6 +6,7 @@
 mod arrays;
 mod emit;
 mod expressions;
+mod heights;
 mod jumping;
 mod layout;
 mod operators;

@@ -1,18 +1,23 @@
-use Rattle.std.proofs.Common.{◌≡◌, length, Some, sym, ap, subst, ◌∙◌, arith}
+use Rattle.std.proofs.Common.{◌≡◌, length, Some, sym, ap, subst, ◌∙◌}
 use Rattle.std.specs.Option.{option_map}
-use Rattle.branch_removal.specs.Bounds.{block_nodes}
+use Rattle.branch_removal.specs.Straight.{StraightBlock, straight_block}
+use Rattle.codegen.specs.Emitted.{depth_in_all}
 use Rattle.codegen.specs.Layout.{Frame}
+use Rattle.codegen.specs.Placed.{HavePlaces}
 use Rattle.codegen.specs.TermCode.{IsAmong}
-use Rattle.codegen.proofs.RoomLemmas.{result_among}
+use Rattle.codegen.proofs.RoomLemmas.{result_among, body_placed}
 use Rattle.inline.specs.Flat.{term_tree}
 use Rattle.codegen.proofs.generator.code.Goals as goal
 
-pub statements-requires-clause-nodes : goal.statements-requires-clause-nodes
-statements-requires-clause-nodes c =
-    let same = ap block_nodes c.body.ensures in
-    let few = c.requires.room.counted in
-    let most = c.requires.room.nodes in
-    omega (arith, same, few, most)
+pub statements-requires : goal.statements-requires
+statements-requires c =
+    let p = c.args.straight.now in
+    let body = straight_block c.body.result.now in
+    record {
+      placed =
+          subst (λ (frame : Frame). HavePlaces frame.declared frame.controls frame.depths 0 body) (sym c.requires.frame)
+          (subst (λ (b : StraightBlock). HavePlaces p.declared p.controls (depth_in_all p.body) 0 b) (sym c.body.ensures) (body_placed p c.requires.room));
+    }
 
 pub expression-requires-clause-among : goal.expression-requires-clause-among
 expression-requires-clause-among c =

@@ -1,0 +1,87 @@
+// How many slots and how many loops in one another statements take.
+
+ghost use Rattle.std.specs.Prelude.{◌≡◌, ◌≤◌, map};
+ghost use Rattle.branch_removal.specs.Straight.{straight_tree, straight_block};
+ghost use Rattle.codegen.specs.Emitted.{height_of_all, height_in, height_in_all, depth_in, depth_in_all};
+ghost use Rattle.inline.specs.Flat.{term_tree};
+
+use crate::expressions::height;
+use branch_removal::StraightStatement;
+use inline::Term;
+
+/// How many slots the temporaries of values take that share them.
+fn height_of_all(values: &[Term]) -> u32
+    requires { height_of_all (map term_tree values.now) ≤ 6000 }
+    ensures { result ≡ height_of_all (map term_tree values.now) }
+{
+    let mut greatest = 0;
+    for value in values {
+        greatest = height(value).max(greatest);
+    }
+    greatest
+}
+
+/// How many slots the temporaries of a statement take.
+#[cycle(heights)]
+fn height_in(statement: &StraightStatement<'_>) -> u32
+    requires { height_in (straight_tree statement.now) ≤ 6000 }
+    ensures { result ≡ height_in (straight_tree statement.now) }
+{
+    match statement {
+        StraightStatement::Set(_, value) | StraightStatement::SetUnder(_, _, value) => height(value),
+        StraightStatement::Clear(_, _) => 0,
+        StraightStatement::Fill(_, values) => height_of_all(values),
+        StraightStatement::Put(_, _, _, index, value)
+        | StraightStatement::PutUnder(_, _, _, _, index, value) => {
+            height(index).max(1 + height(value))
+        }
+        StraightStatement::Take(_, _, condition) => height(condition),
+        StraightStatement::Branch(condition, accepted, otherwise) => {
+            height(condition).max(greatest_height(accepted).max(greatest_height(otherwise)))
+        }
+        StraightStatement::Repeat(_, low, high, body) => {
+            height(low).max(height(high)).max(greatest_height(body))
+        }
+    }
+}
+
+/// How many slots the temporaries of statements take, which share them.
+#[cycle(heights)]
+pub fn greatest_height(statements: &[StraightStatement<'_>]) -> u32
+    requires { height_in_all (straight_block statements.now) ≤ 6000 }
+    ensures { result ≡ height_in_all (straight_block statements.now) }
+{
+    let mut greatest = 0;
+    for statement in statements {
+        greatest = height_in(statement).max(greatest);
+    }
+    greatest
+}
+
+/// How many loops stand in one another at most in a statement.
+#[cycle(depths)]
+fn depth_in(statement: &StraightStatement<'_>) -> u32
+    requires { depth_in (straight_tree statement.now) ≤ 6000 }
+    ensures { result ≡ depth_in (straight_tree statement.now) }
+{
+    match statement {
+        StraightStatement::Branch(_, accepted, otherwise) => {
+            greatest_depth(accepted).max(greatest_depth(otherwise))
+        }
+        StraightStatement::Repeat(_, _, _, body) => 1 + greatest_depth(body),
+        _ => 0,
+    }
+}
+
+/// How many loops stand in one another at most in statements.
+#[cycle(depths)]
+pub fn greatest_depth(statements: &[StraightStatement<'_>]) -> u32
+    requires { depth_in_all (straight_block statements.now) ≤ 6000 }
+    ensures { result ≡ depth_in_all (straight_block statements.now) }
+{
+    let mut deepest = 0;
+    for statement in statements {
+        deepest = depth_in(statement).max(deepest);
+    }
+    deepest
+}
