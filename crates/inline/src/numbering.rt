@@ -74,7 +74,7 @@ impl<'a> Numbering<'a> {
         self.declared
     }
 
-    /// Gives a name the next number. More variables than there are numbers are more than memory holds.
+    /// Gives a name the next number. Where no number is left, memory would not hold the variables either.
     fn declare(&mut self, name: &'a str, declaration: FlatVariable) -> Result<u32, AllocError>
         ensures number { IfOk result (λ number. number ≡ length self.old.declared.items) }
         ensures names { OnOk result (self.new.names ≡ numbered.naming self.old.names name.now (length self.old.declared.items) declaration) }
