@@ -32,9 +32,9 @@ pub mod StatementRuns
 pub mod Results
 pub mod ResultRuns
 pub mod Placing
+pub mod StatementCode
+pub mod PlacedLemmas
 pub mod RoomLemmas
 pub mod ImageLemmas
 pub mod WholeRuns
 pub mod GeneratedLemmas
-pub mod StatementCode
-pub mod PlacedLemmas

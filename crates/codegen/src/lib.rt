@@ -6,8 +6,11 @@
 mod arrays;
 mod emit;
 mod expressions;
+mod generator;
 mod heights;
 mod jumping;
 mod layout;
 mod operators;
 mod statements;
+
+pub use generator::generate;

@@ -12,3 +12,4 @@ pub mod LooseTerms
 pub mod LooseNarrowing
 pub mod LooseStatements
 pub mod Counting
+mod Examples

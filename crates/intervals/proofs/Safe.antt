@@ -85,19 +85,19 @@ module _ (p : FlatProgram) (typed : IsTypedProgram p) (args : List Arg) (within 
   abbrev m : Values
   m = given p.declared args
 
-  abbrev types : Types
-  types = parameter_types p.parameters
+  abbrev begun : Types
+  begun = parameter_types p.parameters
 
-  fits : Fits types m
+  fits : Fits begun m
   fits = parameters_fit p args typed within
 
-  kept_parameter : (x : ℕ) (i : Interval) → known (first_bounds p) x ≡ Some i → IsKept types m x i
+  kept_parameter : (x : ℕ) (i : Interval) → known (first_bounds p) x ≡ Some i → IsKept begun m x i
   kept_parameter x i h =
       let found = known_parameter p.parameters (length p.declared - length p.parameters) x i h in
       let q = found.0 in
       let parts = bound_parts q.form q.label q.kind q.length i found.2 in
       let word : WordType = record { kind = q.kind; label = q.label } in
-      let there : types x ≡ Some (declaration_of q) = slice_get-map declaration_of p.parameters x ∙ ap (option_map declaration_of) found.1 in
+      let there : begun x ≡ Some (declaration_of q) = slice_get-map declaration_of p.parameters x ∙ ap (option_map declaration_of) found.1 in
       record {
         word = word;
         typed = there ∙ ap₂ (λ (b : Bool) (o : Option ℕ). Some (record { word = word; mutable = b; elements = o })) parts.0 parts.1;
@@ -105,7 +105,7 @@ module _ (p : FlatProgram) (typed : IsTypedProgram p) (args : List Arg) (within 
         within = subst (λ j. IsIn j (slice_index (m x) 0)) parts.3 (kind_in q.kind (slice_index (m x) 0) (element_fits q.kind (m x) 0 (fits x (declaration_of q) there).within));
       }
 
-  pub begins : Holds p.declared types (first_bounds p) m
+  pub begins : Holds p.declared begun (first_bounds p) m
   begins = record {
     fits = fits;
     kept = kept_parameter;

@@ -1,0 +1,247 @@
+-- Intervals, narrowing, turns and work by small examples: each is computed.
+use Rattle.std.proofs.Common.{◌≡◌, ℕ, List, [], ◌∷◌, length, false, true, None, Some, refl}
+use Rattle.inline.specs.declared.flat.FlatVariable.{FlatVariable}
+use Rattle.inline.specs.Flat.{TermTree, number, truth, variable, binary, rotate, convert, select, element, nothing, first, declare, loop, FlatProgram, word_as, array_as}
+use Rattle.intervals.specs.declared.interval.Interval.{Interval}
+use Rattle.intervals.specs.Intervals.{Bounds, between, interval, operated_interval, prefix_interval, converted_interval}
+use Rattle.intervals.specs.Narrowing.{where_false, where_true}
+use Rattle.intervals.specs.Ranges.{counter_interval, most_turns, range_violations, turns_of}
+use Rattle.intervals.specs.Work.{work_of, work_violations}
+use Rattle.language.specs.declared.signature.Kind.TheVariants.{Uint8, Uint16, Uint32}
+use Rattle.language.specs.declared.signature.Label.TheVariants.{Public, Secret}
+use Rattle.language.specs.declared.tree.BinaryOperator.TheVariants.{Both, Equal, Less, LessOrEqual, Greater, BitOr, BitXor, BitAnd, ShiftLeft, ShiftRight, Add, Subtract, Multiply, Divide, Remainder}
+use Rattle.language.specs.declared.tree.PrefixOperator.TheVariants.{Complement, Negate}
+use Rattle.language.specs.WellTyped.{labelled}
+use Rattle.word.specs.Places.{origin}
+use Rattle.word.specs.declared.width.Width.TheVariants.{W8, W32}
+
+-- Operators.
+
+sum : operated_interval Add W8 (between 3 5) (between 2 4) ≡ between 5 9
+sum = refl
+
+sum_to_the_top : operated_interval Add W8 (between 0 200) (between 0 55) ≡ between 0 255
+sum_to_the_top = refl
+
+sum_that_wraps : operated_interval Add W8 (between 10 200) (between 10 56) ≡ between 0 255
+sum_that_wraps = refl
+
+difference : operated_interval Subtract W32 (between 4 9) (between 1 4) ≡ between 0 8
+difference = refl
+
+difference_that_wraps : operated_interval Subtract W8 (between 3 9) (between 1 4) ≡ between 0 255
+difference_that_wraps = refl
+
+product : operated_interval Multiply W8 (between 2 3) (between 4 85) ≡ between 8 255
+product = refl
+
+product_that_wraps : operated_interval Multiply W8 (between 2 4) (between 4 64) ≡ between 0 255
+product_that_wraps = refl
+
+quotient : operated_interval Divide W8 (between 10 20) (between 3 4) ≡ between 2 6
+quotient = refl
+
+quotient_by_zero : operated_interval Divide W8 (between 10 20) (between 0 4) ≡ between 0 255
+quotient_by_zero = refl
+
+remainder : operated_interval Remainder W32 (between 0 100) (between 1 8) ≡ between 0 7
+remainder = refl
+
+remainder_of_less : operated_interval Remainder W32 (between 0 3) (between 1 8) ≡ between 0 3
+remainder_of_less = refl
+
+mask : operated_interval BitAnd W32 (between 5 4294967295) (between 31 31) ≡ between 0 31
+mask = refl
+
+shift : operated_interval ShiftRight W32 (between 16 40) (between 34 34) ≡ between 4 10
+shift = refl
+
+shift_by_some : operated_interval ShiftRight W32 (between 16 40) (between 1 2) ≡ between 0 40
+shift_by_some = refl
+
+left_shift : operated_interval ShiftLeft W8 (between 1 1) (between 1 1) ≡ between 0 255
+left_shift = refl
+
+bits_set : operated_interval BitOr W8 (between 1 1) (between 2 2) ≡ between 0 255
+bits_set = refl
+
+bits_changed : operated_interval BitXor W8 (between 1 1) (between 2 2) ≡ between 0 255
+bits_changed = refl
+
+complement : prefix_interval Complement W8 ≡ between 0 255
+complement = refl
+
+negation : prefix_interval Negate W32 ≡ between 0 4294967295
+negation = refl
+
+narrower : converted_interval Uint8 (between 3 255) ≡ between 3 255
+narrower = refl
+
+cut : converted_interval Uint8 (between 3 256) ≡ between 0 255
+cut = refl
+
+-- Expressions: the numbers 0 and 1 are known variables, 2 may change, 3 is an array.
+
+abbrev variables : List FlatVariable
+variables =
+    word_as (labelled Uint8 Public) false ∷ word_as (labelled Uint32 Public) false ∷ word_as (labelled Uint16 Public) true
+    ∷ array_as (labelled Uint8 Secret) true 4 ∷ []
+
+abbrev facts : Interval → Bounds
+facts i = Some i ∷ Some (between 2 9) ∷ None ∷ None ∷ []
+
+abbrev i : TermTree
+i = variable 0
+
+abbrev byte : ℕ → TermTree
+byte v = number v Uint8
+
+number_alone : interval variables (facts (between 0 255)) (byte 7) ≡ between 7 7
+number_alone = refl
+
+known_variable : interval variables (facts (between 3 4)) i ≡ between 3 4
+known_variable = refl
+
+changing_variable : interval variables (facts (between 3 4)) (variable 2) ≡ between 0 65535
+changing_variable = refl
+
+array_element : interval variables (facts (between 3 4)) (element origin 3 4 i) ≡ between 0 255
+array_element = refl
+
+rotation : interval variables (facts (between 3 4)) (rotate W8 i 1) ≡ between 0 255
+rotation = refl
+
+choice : interval variables (facts (between 3 4)) (select (truth true) (byte 9) i) ≡ between 3 9
+choice = refl
+
+truth_as_number : interval variables (facts (between 3 4)) (convert Uint8 (truth true)) ≡ between 0 1
+truth_as_number = refl
+
+-- Narrowing.
+
+abbrev below : TermTree → TermTree → TermTree
+below a b = binary origin Less W8 a b
+
+abbrev at_most : TermTree → TermTree → TermTree
+at_most a b = binary origin LessOrEqual W8 a b
+
+abbrev equal : TermTree → TermTree → TermTree
+equal a b = binary origin Equal W8 a b
+
+abbrev both : TermTree → TermTree → TermTree
+both a b = binary origin Both W8 a b
+
+abbrev free : Bounds
+free = facts (between 0 255)
+
+less : where_true variables free Public (below i (byte 10)) ≡ facts (between 0 9)
+less = refl
+
+less_or_equal : where_true variables free Public (at_most i (byte 10)) ≡ facts (between 0 10)
+less_or_equal = refl
+
+same : where_true variables free Public (equal i (variable 1)) ≡ facts (between 2 9)
+same = refl
+
+nothing_below_zero : where_true variables free Public (below i (byte 0)) ≡ free
+nothing_below_zero = refl
+
+-- each part is met with what those before it left
+parts : where_true variables free Public (both (at_most i (byte 5)) (below i (byte 10))) ≡ facts (between 0 5)
+parts = refl
+
+three_parts : where_true variables free Public (both (both (below i (byte 10)) (truth true)) (equal i (byte 3))) ≡ facts (between 3 3)
+three_parts = refl
+
+empty_meet : where_true variables free Public (both (below i (byte 10)) (equal i (byte 20))) ≡ facts (between 0 9)
+empty_meet = refl
+
+not_less : where_false variables free Public (below i (byte 10)) ≡ facts (between 10 255)
+not_less = refl
+
+above : where_false variables free Public (at_most i (byte 10)) ≡ facts (between 11 255)
+above = refl
+
+nothing_above_the_top : where_false variables free Public (at_most i (byte 255)) ≡ free
+nothing_above_the_top = refl
+
+parts_where_false : where_false variables free Public (both (below i (byte 10)) (below i (byte 20))) ≡ free
+parts_where_false = refl
+
+unequal : where_false variables free Public (equal i (byte 10)) ≡ free
+unequal = refl
+
+other_comparison : where_true variables free Public (binary origin Greater W8 (byte 10) i) ≡ free
+other_comparison = refl
+
+changing_is_not_narrowed : where_true variables free Public (below (variable 2) (byte 10)) ≡ free
+changing_is_not_narrowed = refl
+
+secret_condition : where_true variables free Secret (below i (byte 10)) ≡ free
+secret_condition = refl
+
+secret_where_false : where_false variables free Secret (below i (byte 10)) ≡ free
+secret_where_false = refl
+
+-- Loops.
+
+counter : counter_interval (between 1 3) (between 4 8) ≡ between 1 7
+counter = refl
+
+counter_without_turn : counter_interval (between 5 9) (between 3 5) ≡ between 5 5
+counter_without_turn = refl
+
+turns : most_turns (between 1 3) (between 4 8) ≡ 7
+turns = refl
+
+no_turns : most_turns (between 5 9) (between 3 5) ≡ 0
+no_turns = refl
+
+-- an empty loop from 0 up to a number
+abbrev long : ℕ → FlatProgram
+long n = record {
+  place = origin;
+  parameters = [];
+  returned = None;
+  nodes = 3;
+  declared = word_as (labelled Uint32 Public) false ∷ [];
+  body = first (loop 0 (number 0 Uint32) (number n Uint32) nothing) nothing;
+  value = None;
+}
+
+counted : turns_of (long 4294967293) ≡ 4294967293 ∷ []
+counted = refl
+
+work_at_the_limit : work_of (long 4294967293) ≡ 4294967296
+work_at_the_limit = refl
+
+within : length (work_violations (long 4294967293)) ≡ 0
+within = refl
+
+too_much : length (work_violations (long 4294967294)) ≡ 1
+too_much = refl
+
+-- a loop whose body reads an element at its counter
+abbrev reads : ℕ → ℕ → FlatProgram
+reads low high = record {
+  place = origin;
+  parameters = [];
+  returned = None;
+  nodes = 0;
+  declared = array_as (labelled Uint8 Public) false 4 ∷ word_as (labelled Uint32 Public) false ∷ word_as (labelled Uint8 Public) false ∷ [];
+  body = first (loop 1 (number low Uint32) (number high Uint32) (first (declare 2 (labelled Uint8 Public) false (element origin 0 4 (variable 1))) nothing)) nothing;
+  value = None;
+}
+
+inside : length (range_violations (reads 0 4)) ≡ 0
+inside = refl
+
+outside : length (range_violations (reads 0 5)) ≡ 1
+outside = refl
+
+-- a loop that makes no turn is checked with its first number
+no_turn_inside : length (range_violations (reads 3 0)) ≡ 0
+no_turn_inside = refl
+
+no_turn_outside : length (range_violations (reads 4 0)) ≡ 1
+no_turn_outside = refl
