@@ -3,8 +3,8 @@ use Rattle.std.proofs.Common.{ℕ, ◌+◌, ◌*◌, ◌<◌, ◌≤◌, arith}
 use Rattle.codegen.specs.Bases.{AreBases}
 use Rattle.hepurita.specs.Bases.{code_base, frame_base, most_images, code_distance, frame_distance}
 use Rattle.hepurita.specs.Compiled.{IsCompiled}
-use Rattle.hepurita.specs.Built.{JudgesProgram, accepts, fine}
-use Rattle.hepurita.proofs.JudgementLemmas.{few_nodes}
+use Rattle.hepurita.specs.Built.{JudgesProgram, accepts}
+use Rattle.hepurita.proofs.JudgementLemmas.{few_nodes, small_of}
 use Rattle.image.specs.Fields.{Fields}
 use Rattle.language.specs.Size.{nodes_of}
 use Rattle.language.specs.Tree.{ProcedureTree, ProgramTree}
@@ -18,4 +18,4 @@ standard_bases program p image k is small below =
 
 -- so they serve the image of an accepted program's export
 pub bases_of : (program : ProgramTree) (export : ProcedureTree) (image : Fields) → JudgesProgram program (accepts program export) → IsCompiled program export image → (k : ℕ) → k < most_images → AreBases image (code_base + code_distance * k) (frame_base + frame_distance * k)
-bases_of program export image (fine small in_range in_time) compiled k below = standard_bases program export image k compiled (few_nodes program export small) below
+bases_of program export image judged compiled k below = standard_bases program export image k compiled (few_nodes program export (small_of program program export judged)) below

@@ -35,19 +35,26 @@ pub same_export : (program : ProgramTree) (p q : ProcedureTree) → IsWellFormed
 same_export program p q is is' = exports_agree (exported [] program.procedures) is.before is'.before p q is.is_export is'.is_export
 
 -- what holds of the one export holds of the other
-pub of_same : {P : ProcedureTree → Type 0} (program : ProgramTree) (p q : ProcedureTree) → IsWellFormed program p → IsWellFormed program q → P p → P q
-of_same {P} program p q is is' h = subst P (same_export program p q is is') h
+pub of_same : (P : ProcedureTree → Type 0) (program : ProgramTree) (p q : ProcedureTree) → IsWellFormed program p → IsWellFormed program q → P p → P q
+of_same P program p q is is' h = subst P (same_export program p q is is') h
 
 -- a program is not both
 pub apart : (program of : ProgramTree) (export : ProcedureTree) (rule : Rule) (place : Place) → JudgesProgram program (accepts of export) → JudgesProgram program (refuses rule place) → ⊥
 apart program of export rule place (fine small in_range in_time) (not_compiled_yet first) = nowhere _ _ small.well_formed.compiled first.there
 apart program of export rule place (fine small in_range in_time) (ill_typed compiled first) = none _ _ small.well_formed.typed first.there
 apart program of export rule place (fine small in_range in_time) (too_large {export = other} is first) =
-    none _ _ (of_same {P = λ (e : ProcedureTree). length (size_violations e) ≡ 0} program export other small.well_formed is small.sized) first.there
+    none _ _ (of_same (λ (e : ProcedureTree). length (size_violations e) ≡ 0) program export other small.well_formed is small.sized) first.there
 apart program of export rule place (fine small in_range in_time) (out_of_range {export = other} small' first) =
-    none _ _ (of_same {P = λ (e : ProcedureTree). length (range_violations (flattened e)) ≡ 0} program export other small.well_formed small'.well_formed in_range) first.there
+    none _ _ (of_same (λ (e : ProcedureTree). length (range_violations (flattened e)) ≡ 0) program export other small.well_formed small'.well_formed in_range) first.there
 apart program of export rule place (fine small in_range in_time) (too_much_work {export = other} small' in_range' first) =
-    none _ _ (of_same {P = λ (e : ProcedureTree). length (work_violations (flattened e)) ≡ 0} program export other small.well_formed small'.well_formed in_time) first.there
+    none _ _ (of_same (λ (e : ProcedureTree). length (work_violations (flattened e)) ≡ 0) program export other small.well_formed small'.well_formed in_time) first.there
+
+-- what an accepted program's export is
+pub small_of : (program of : ProgramTree) (export : ProcedureTree) → JudgesProgram program (accepts of export) → IsSmall program export
+small_of program of export (fine small in_range in_time) = small
+
+pub in_range_of : (program of : ProgramTree) (export : ProcedureTree) → JudgesProgram program (accepts of export) → length (range_violations (flattened export)) ≡ 0
+in_range_of program of export (fine small in_range in_time) = in_range
 
 pub not_both : OneAnswer → (text : List ℕ) (program : ProgramTree) (export : ProcedureTree) (rule : Rule) (place : Place) → Judges text (accepts program export) → Judges text (refuses rule place) → ⊥
 not_both one text of export rule place (readable {program} reads judges) (unreadable reads') =

@@ -103,27 +103,27 @@ of_program program rule rule' place place' (ill_typed compiled first) (too_much_
 of_program program rule rule' place place' (too_large {export = export} is first) (not_compiled_yet first') = absurd (nowhere _ _ is.compiled first'.there)
 of_program program rule rule' place place' (too_large {export = export} is first) (ill_typed compiled' first') = absurd (none _ _ is.typed first'.there)
 of_program program rule rule' place place' (too_large {export = export} {first = v} is first) (too_large {export = other} {first = v'} is' first') =
-    one_first _ v v' first (of_same {P = λ (e : ProcedureTree). IsFirst (size_violations e) v'} program other export is' is first')
+    one_first _ v v' first (of_same (λ (e : ProcedureTree). IsFirst (size_violations e) v') program other export is' is first')
 of_program program rule rule' place place' (too_large {export = export} is first) (out_of_range {export = other} small' first') =
-    absurd (none _ _ (of_same {P = λ (e : ProcedureTree). length (size_violations e) ≡ 0} program other export small'.well_formed is small'.sized) first.there)
+    absurd (none _ _ (of_same (λ (e : ProcedureTree). length (size_violations e) ≡ 0) program other export small'.well_formed is small'.sized) first.there)
 of_program program rule rule' place place' (too_large {export = export} is first) (too_much_work {export = other} small' in_range' first') =
-    absurd (none _ _ (of_same {P = λ (e : ProcedureTree). length (size_violations e) ≡ 0} program other export small'.well_formed is small'.sized) first.there)
+    absurd (none _ _ (of_same (λ (e : ProcedureTree). length (size_violations e) ≡ 0) program other export small'.well_formed is small'.sized) first.there)
 of_program program rule rule' place place' (out_of_range {export = export} small first) (not_compiled_yet first') = absurd (nowhere _ _ small.well_formed.compiled first'.there)
 of_program program rule rule' place place' (out_of_range {export = export} small first) (ill_typed compiled' first') = absurd (none _ _ small.well_formed.typed first'.there)
 of_program program rule rule' place place' (out_of_range {export = export} small first) (too_large {export = other} is' first') =
-    absurd (none _ _ (of_same {P = λ (e : ProcedureTree). length (size_violations e) ≡ 0} program export other small.well_formed is' small.sized) first'.there)
+    absurd (none _ _ (of_same (λ (e : ProcedureTree). length (size_violations e) ≡ 0) program export other small.well_formed is' small.sized) first'.there)
 of_program program rule rule' place place' (out_of_range {export = export} {first = v} small first) (out_of_range {export = other} {first = v'} small' first') =
-    one_first _ v v' first (of_same {P = λ (e : ProcedureTree). IsFirst (range_violations (flattened e)) v'} program other export small'.well_formed small.well_formed first')
+    one_first _ v v' first (of_same (λ (e : ProcedureTree). IsFirst (range_violations (flattened e)) v') program other export small'.well_formed small.well_formed first')
 of_program program rule rule' place place' (out_of_range {export = export} small first) (too_much_work {export = other} small' in_range' first') =
-    absurd (none _ _ (of_same {P = λ (e : ProcedureTree). length (range_violations (flattened e)) ≡ 0} program other export small'.well_formed small.well_formed in_range') first.there)
+    absurd (none _ _ (of_same (λ (e : ProcedureTree). length (range_violations (flattened e)) ≡ 0) program other export small'.well_formed small.well_formed in_range') first.there)
 of_program program rule rule' place place' (too_much_work {export = export} small in_range first) (not_compiled_yet first') = absurd (nowhere _ _ small.well_formed.compiled first'.there)
 of_program program rule rule' place place' (too_much_work {export = export} small in_range first) (ill_typed compiled' first') = absurd (none _ _ small.well_formed.typed first'.there)
 of_program program rule rule' place place' (too_much_work {export = export} small in_range first) (too_large {export = other} is' first') =
-    absurd (none _ _ (of_same {P = λ (e : ProcedureTree). length (size_violations e) ≡ 0} program export other small.well_formed is' small.sized) first'.there)
+    absurd (none _ _ (of_same (λ (e : ProcedureTree). length (size_violations e) ≡ 0) program export other small.well_formed is' small.sized) first'.there)
 of_program program rule rule' place place' (too_much_work {export = export} small in_range first) (out_of_range {export = other} small' first') =
-    absurd (none _ _ (of_same {P = λ (e : ProcedureTree). length (range_violations (flattened e)) ≡ 0} program export other small.well_formed small'.well_formed in_range) first'.there)
+    absurd (none _ _ (of_same (λ (e : ProcedureTree). length (range_violations (flattened e)) ≡ 0) program export other small.well_formed small'.well_formed in_range) first'.there)
 of_program program rule rule' place place' (too_much_work {export = export} {first = v} small in_range first) (too_much_work {export = other} {first = v'} small' in_range' first') =
-    one_first _ v v' first (of_same {P = λ (e : ProcedureTree). IsFirst (work_violations (flattened e)) v'} program other export small'.well_formed small.well_formed first')
+    one_first _ v v' first (of_same (λ (e : ProcedureTree). IsFirst (work_violations (flattened e)) v') program other export small'.well_formed small.well_formed first')
 
 abbrev pub AreOne : Rule → Place → Rule → Place → Type 0
 AreOne rule place rule' place' = (rule ≡ rule') × (place ≡ place')

@@ -34,6 +34,7 @@ use Rattle.language.specs.Tree.{ProcedureTree, ProgramTree}
 use Rattle.hepurita.specs.Built.{IsWellFormed, IsSmall, Judges, JudgesProgram, accepts, readable, fine}
 use Rattle.hepurita.proofs.Compiler.{compiled}
 use Rattle.hepurita.proofs.Exports.{export_is_there}
+use Rattle.hepurita.proofs.JudgementLemmas.{small_of, in_range_of}
 use Rattle.hepurita.proofs.WithoutCalls.{calls_nothing}
 
 -- ---- an accepted program's export
@@ -81,9 +82,9 @@ pub grammatical_export : (text : List ℕ) (program : ProgramTree) → Reads tex
 grammatical_export text program reads before p is = grammatical text program p reads (export_is_there [] program.procedures before p is)
 
 pub texts_compiled : (text : List ℕ) (program : ProgramTree) (export : ProcedureTree) (straight : StraightProgram) (image : Fields) → Reads text (accepted program) → JudgesProgram program (accepts program export) → IsRemoved (ranged (flattened export)) straight → IsGenerated straight image → IsCompiled program export image
-texts_compiled text program export straight image reads (fine small in_range in_time) removed generated =
-    export_compiled program export straight image (grammatical_export text program reads) small in_range removed generated
+texts_compiled text program export straight image reads judged removed generated =
+    export_compiled program export straight image (grammatical_export text program reads) (small_of program program export judged) (in_range_of program program export judged) removed generated
 
 pub judged_compiled : (text : List ℕ) (program : ProgramTree) (export : ProcedureTree) (straight : StraightProgram) (image : Fields) → Judges text (accepts program export) → IsRemoved (ranged (flattened export)) straight → IsGenerated straight image → IsCompiled program export image
 judged_compiled text program export straight image (readable reads (fine small in_range in_time)) removed generated =
-    texts_compiled text program export straight image reads (fine small in_range in_time) removed generated
+    export_compiled program export straight image (grammatical_export text program reads) small in_range removed generated
