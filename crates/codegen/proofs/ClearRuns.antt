@@ -299,10 +299,13 @@ module _ (z : Setting) (offset words : ℕ) (aligned : offset % 4 ≡ 0) (inside
   clear_bytes =
       weaken z {P = Held z}
       (λ env s fine held. held)
-      (λ env s t fine held done. (done.second.0, record {
-        zeros_there = done.second.1.zeros_there;
-        others = λ b side. done.second.1.others b side ∙ ap (λ (m : ByteMap). m (z.frame + b)) done.first.same;
-      }))
+      (λ env s t fine held done. (
+        done.second.0,
+        record {
+          zeros_there = done.second.1.zeros_there;
+          others = λ b side. done.second.1.others b side ∙ ap (λ (m : ByteMap). m (z.frame + b)) done.first.same;
+        },
+      ))
       (quiet z begin_runs zeros_runs (λ env s t held begun. begun.bounds))
 
 -- no more words than elements

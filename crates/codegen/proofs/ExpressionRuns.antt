@@ -377,7 +377,7 @@ module _ (z : Setting) where
         let three = done.second.second in
         let still = still_ready free above env s u ready one.held one.kept in
         let found : number_at v.bytes bytes (z.frame + element_at (i env)) ≡ Some (slice_index (env.variables x) (i env)) =
-            ap (λ k. number_at v.bytes k (z.frame + element_at (i env))) (load_bytes word.kind) ∙ (ap (λ (b : ByteMap). number_at b (element_bytes word.kind) (z.frame + element_at (i env))) two.same ∙ still.variables_there x d (i env) known below) in
+        ap (λ k. number_at v.bytes k (z.frame + element_at (i env))) (load_bytes word.kind) ∙ (ap (λ (b : ByteMap). number_at b (element_bytes word.kind) (z.frame + element_at (i env))) two.same ∙ still.variables_there x d (i env) known below) in
         record {
           held = held_regs z v t (three.others 2 (λ e. omega arith)) three.same two.held;
           there = three.there ∙ (load_plain word.kind three.value ∙ same_Some three.value (slice_index (env.variables x) (i env)) (sym three.found ∙ found));

@@ -79,9 +79,10 @@ pub slots_are : (low : ℕ) (ps : List Param) → AreLengths ps → low % 4 ≡ 
     → AreSlots low (slots_from low ps)
 slots_are low [] lengths aligned room = tt
 slots_are low (p ∷ ps) lengths aligned room =
-    let words = words_of (declaration_of p) in
-    (record { length = length_allowed p.form p.length lengths.0; aligned = aligned; above = omega arith; fits = omega (arith, room) },
-    subst (λ n. AreSlots n (slots_from (low + 4 * words) ps)) (sym (ends_at low p)) (slots_are (low + 4 * words) ps lengths.1 (multiple low words aligned) (omega (arith, room))))
+    let words = words_of (declaration_of p) in (
+      record { length = length_allowed p.form p.length lengths.0; aligned = aligned; above = omega arith; fits = omega (arith, room) },
+      subst (λ n. AreSlots n (slots_from (low + 4 * words) ps)) (sym (ends_at low p)) (slots_are (low + 4 * words) ps lengths.1 (multiple low words aligned) (omega (arith, room))),
+    )
 
 pub slots_end-slots_from : (low : ℕ) (ps : List Param) → slots_end low (slots_from low ps) ≡ low + 4 * words_in ps
 slots_end-slots_from low [] = omega arith

@@ -146,21 +146,22 @@ module _ (z : Setting) (depth : ℕ) (within : depth < z.depths) where
       let ready1 = ready_set z x i counter_type false known below env u m1 at.ready wrote1 in
       let ready2 = ready_with z (counted x i env) m1 m2 ready1 two.held two.same in
       let six : m2.regs 6 ≡ i + 1 = ap (λ (regs : ℕ → ℕ). regs 6) two.registers ∙ (ap (λ a. sum_of a 1) (one.others 6 (λ e. omega arith) ∙ given.1) ∙ omega (arith, below')) in
-      let wrote2 = wrote_as z 4 next (m2.regs 6) (i + 1) m2 v six (put_wrote z 4 6 next env m2 v three) in
-      (record {
-        ready = ready_behind z 4 next (i + 1) (omega arith) (counted x i env) m2 v ready2 wrote2;
-        next_there = put_there z 6 next (i + 1) env m2 v three six below';
-        bound = at.bound;
-        left_is = omega (arith, more);
-        bound_small = at.bound_small;
-        bound_there =
-            other_number z 4 next (i + 1) 4 (next + 4) m2 v wrote2 (inr (omega arith))
-            ∙ (ap (λ (b : ByteMap). number_at b 4 (z.frame + (next + 4))) two.same
-            ∙ (other_number z 4 o i 4 (next + 4) u m1 wrote1 (inr (omega (arith, before))) ∙ at.bound_there));
-      },
-      hidden_then z depth u m2 v
-      (hidden_then z depth u m1 m2 (hidden_wrote z depth 4 o i u m1 (omega (arith, before)) wrote1) (hidden_by z depth m1 m2 two.same))
-      (hidden_beyond z depth 4 next (i + 1) m2 v (omega arith) wrote2)))
+      let wrote2 = wrote_as z 4 next (m2.regs 6) (i + 1) m2 v six (put_wrote z 4 6 next env m2 v three) in (
+        record {
+          ready = ready_behind z 4 next (i + 1) (omega arith) (counted x i env) m2 v ready2 wrote2;
+          next_there = put_there z 6 next (i + 1) env m2 v three six below';
+          bound = at.bound;
+          left_is = omega (arith, more);
+          bound_small = at.bound_small;
+          bound_there =
+              other_number z 4 next (i + 1) 4 (next + 4) m2 v wrote2 (inr (omega arith))
+              ∙ (ap (λ (b : ByteMap). number_at b 4 (z.frame + (next + 4))) two.same
+              ∙ (other_number z 4 o i 4 (next + 4) u m1 wrote1 (inr (omega (arith, before))) ∙ at.bound_there));
+        },
+        hidden_then z depth u m2 v
+            (hidden_then z depth u m1 m2 (hidden_wrote z depth 4 o i u m1 (omega (arith, before)) wrote1) (hidden_by z depth m1 m2 two.same))
+            (hidden_beyond z depth 4 next (i + 1) m2 v (omega arith) wrote2),
+      ))
       (quiet z
       (quiet z
       (weaken z {P' = Turns left i}
@@ -188,16 +189,17 @@ module _ (z : Setting) (depth : ℕ) (within : depth < z.depths) where
       let m = done.middle in
       let one = done.first in
       let two = done.second in
-      let ready1 = ready_below z next (omega arith) env s m ready one.held one.kept in
-      (record {
-        ready = ready_below z (next + 4) (omega arith) env m t ready1 two.held two.kept;
-        next_there = kept_number z (next + 4) m t two.kept 4 next (omega arith) ∙ one.there;
-        bound = value_in env.variables high;
-        left_is = refl;
-        bound_small = value_word z.declared high counter_type env.variables ready.fits has_high;
-        bound_there = two.there;
-      },
-      hidden_then z depth s m t (hidden_below z depth next s m (omega arith) one.kept) (hidden_below z depth (next + 4) m t (omega arith) two.kept)))
+      let ready1 = ready_below z next (omega arith) env s m ready one.held one.kept in (
+        record {
+          ready = ready_below z (next + 4) (omega arith) env m t ready1 two.held two.kept;
+          next_there = kept_number z (next + 4) m t two.kept 4 next (omega arith) ∙ one.there;
+          bound = value_in env.variables high;
+          left_is = refl;
+          bound_small = value_word z.declared high counter_type env.variables ready.fits has_high;
+          bound_there = two.there;
+        },
+        hidden_then z depth s m t (hidden_below z depth next s m (omega arith) one.kept) (hidden_below z depth (next + 4) m t (omega arith) two.kept),
+      ))
       (as_code z (append_assoc (expr_code z.declared (base_of z) low ++ store_code 5 next) (expr_code z.declared (base_of z) high) (store_code 5 (next + 4)))
       (seq z
       (pushed z low next (16 * term_nodes low) (λ env s ready. value_word z.declared low counter_type env.variables ready.fits has_low) (omega arith) (omega (arith, inside))
@@ -232,16 +234,17 @@ module _ (z : Setting) (depth : ℕ) (within : depth < z.depths) where
         (λ env u v fine given done.
         let m = done.middle in
         let first = done.first in
-        let shown = done.second in
-        (record {
-          ready = shown.ready;
-          next_there = hidden_number z (depth + 1) m v shown.hidden next (omega arith) (omega arith) ∙ first.0.next_there;
-          bound = first.0.bound;
-          left_is = first.0.left_is;
-          bound_small = first.0.bound_small;
-          bound_there = hidden_number z (depth + 1) m v shown.hidden (next + 4) (omega arith) (omega arith) ∙ first.0.bound_there;
-        },
-        hidden_then z depth u m v first.1 (hidden_less z depth (depth + 1) m v (omega arith) shown.hidden)))
+        let shown = done.second in (
+          record {
+            ready = shown.ready;
+            next_there = hidden_number z (depth + 1) m v shown.hidden next (omega arith) (omega arith) ∙ first.0.next_there;
+            bound = first.0.bound;
+            left_is = first.0.left_is;
+            bound_small = first.0.bound_small;
+            bound_there = hidden_number z (depth + 1) m v shown.hidden (next + 4) (omega arith) (omega arith) ∙ first.0.bound_there;
+          },
+          hidden_then z depth u m v first.1 (hidden_less z depth (depth + 1) m v (omega arith) shown.hidden),
+        ))
         (quietly z (count_runs x left i known) (beside z (counted x i) inner)
         (λ env s t given first. first.0.ready))
 

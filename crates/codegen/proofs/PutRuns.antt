@@ -137,8 +137,8 @@ module _ (z : Setting) (x size : ℕ) (word : WordType) (mutable : Bool) (known 
       let two = done.second in
       let five : m.regs 5 ≡ value env = one.others 5 (λ e. omega arith) (λ e. omega arith) ∙ aimed.five in
       let written : t.bytes ≡ with_number s.bytes (element_bytes word.kind) (z.frame + at i) (value env) =
-          written_as n (z.frame + at i) (register m.regs 5) m t (store_bytes word.kind) two.written
-          ∙ (ap (λ (b : ByteMap). with_number b (element_bytes word.kind) (z.frame + at i) (register m.regs 5)) one.same ∙ ap (λ v. with_number s.bytes (element_bytes word.kind) (z.frame + at i) v) five) in
+      written_as n (z.frame + at i) (register m.regs 5) m t (store_bytes word.kind) two.written
+      ∙ (ap (λ (b : ByteMap). with_number b (element_bytes word.kind) (z.frame + at i) (register m.regs 5)) one.same ∙ ap (λ v. with_number s.bytes (element_bytes word.kind) (z.frame + at i) v) five) in
       record {
         held = held_store z s t (element_bytes word.kind) (at i) (value env) (element_inside i below) (ap (λ (regs : ℕ → ℕ). regs 2) two.same ∙ one.others 2 (λ e. omega arith) (λ e. omega arith)) written aimed.ready.held;
         written = written;
@@ -236,10 +236,11 @@ module _ (z : Setting) (x size : ℕ) (word : WordType) (mutable : Bool) (known 
         weaken z {P = Aimed z i value_of}
         (λ env s fine aimed. aimed)
         (λ env s t fine aimed wrote.
-        let fits : value_of env < 2 ^ bits_of word.kind = subst (λ k. value_of env < 2 ^ bits_of k) same (value_fits (types_of z.declared) env.variables aimed.ready.fits has') in
-        (hidden_wrote z depth (element_bytes word.kind) (at i) (value_of env) s t (omega (arith, b)) wrote,
-        λ is. subst (λ j. Ready z (with_element env x j (value_of env)) t) (sym is)
-        (ready_put z x i (value_of env) (value_of env) d known below fits env s t aimed.ready wrote (cut_element word.kind size (value_of env) fits))))
+        let fits : value_of env < 2 ^ bits_of word.kind = subst (λ k. value_of env < 2 ^ bits_of k) same (value_fits (types_of z.declared) env.variables aimed.ready.fits has') in (
+          hidden_wrote z depth (element_bytes word.kind) (at i) (value_of env) s t (omega (arith, b)) wrote,
+          λ is. subst (λ j. Ready z (with_element env x j (value_of env)) t) (sym is)
+              (ready_put z x i (value_of env) (value_of env) d known below fits env s t aimed.ready wrote (cut_element word.kind size (value_of env) fits)),
+        ))
         (put_piece i value_of below)
 
     -- The value is put where the control value is true.
@@ -273,7 +274,7 @@ module _ (z : Setting) (x size : ℕ) (word : WordType) (mutable : Bool) (known 
           let x28 : t.regs 28 ≡ sum_of (m1.regs 6) 0 = three.others 28 (λ e. omega arith) ∙ copy in
           let same : m2.bytes ≡ s.bytes = two.same ∙ one.same in
           let found : number_at m2.bytes n (z.frame + at i) ≡ Some (slice_index (env.variables x) i) =
-              ap (λ k. number_at m2.bytes k (z.frame + at i)) (load_bytes word.kind) ∙ (ap (λ (b : ByteMap). number_at b (element_bytes word.kind) (z.frame + at i)) same ∙ aimed.ready.variables_there x d i known below) in
+          ap (λ k. number_at m2.bytes k (z.frame + at i)) (load_bytes word.kind) ∙ (ap (λ (b : ByteMap). number_at b (element_bytes word.kind) (z.frame + at i)) same ∙ aimed.ready.variables_there x d i known below) in
           record {
             held = held_regs z s t (three.others 2 (λ e. omega arith) ∙ (two.others 2 (λ e. omega arith) ∙ one.others 2 (λ e. omega arith) (λ e. omega arith))) (three.same ∙ same) aimed.ready.held;
             address = copied (m1.regs 6) (t.regs 28) (sign_extended 12 (lower_part offset)) x28 ∙ one.address;
@@ -328,14 +329,15 @@ module _ (z : Setting) (x size : ℕ) (word : WordType) (mutable : Bool) (known 
           let w = chosen env i in
           let w_fits = chosen_below mask v old (2 ^ bits_of word.kind) fits old_fits in
           let written : t.bytes ≡ with_number m3.bytes (element_bytes word.kind) (z.frame + at i) w =
-              written_as n (z.frame + at i) (register m3.regs 5) m3 t (store_bytes word.kind) four.written ∙ ap (λ u. with_number m3.bytes (element_bytes word.kind) (z.frame + at i) u) made in
+          written_as n (z.frame + at i) (register m3.regs 5) m3 t (store_bytes word.kind) four.written ∙ ap (λ u. with_number m3.bytes (element_bytes word.kind) (z.frame + at i) u) made in
           let wrote : Wrote z (element_bytes word.kind) (at i) w m3 t = record {
             held = held_store z m3 t (element_bytes word.kind) (at i) w (element_inside i below) (ap (λ (regs : ℕ → ℕ). regs 2) four.same) written three.held;
             written = written;
           } in
-          let put = ready_put z x i w w d known below w_fits env m3 t ready3 wrote (cut_element word.kind size w w_fits) in
-          (hidden_then z depth s m3 t (hidden_by z depth s m3 same) (hidden_wrote z depth (element_bytes word.kind) (at i) w m3 t (omega (arith, b)) wrote),
-          λ is. under_same mask env t (number_of env) (subst (λ j. Ready z (with_element env x j (if mask then v else slice_index (env.variables x) j)) t) (sym is) put)))
+          let put = ready_put z x i w w d known below w_fits env m3 t ready3 wrote (cut_element word.kind size w w_fits) in (
+            hidden_then z depth s m3 t (hidden_by z depth s m3 same) (hidden_wrote z depth (element_bytes word.kind) (at i) w m3 t (omega (arith, b)) wrote),
+            λ is. under_same mask env t (number_of env) (subst (λ j. Ready z (with_element env x j (if mask then v else slice_index (env.variables x) j)) t) (sym is) put),
+          ))
           (quiet z
           (quiet z
           (quiet z (both_piece i below)

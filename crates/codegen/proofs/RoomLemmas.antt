@@ -55,7 +55,7 @@ module _ (p : StraightProgram) (typed : IsTypedStraight p) (is : IsBounded p) wh
       let counted = is.counted in
       let before = p.controls + 2 * depth_in_all p.body in
       let words : max (height_in_all p.body) (result_height p.value) ≤ p.nodes - before =
-          max-le (omega (arith, body, taken, counted)) (omega (arith, body, value, taken, counted)) in
+      max-le (omega (arith, body, taken, counted)) (omega (arith, body, value, taken, counted)) in
       omega (arith, words, body, taken, counted)
 
   code : length (program_code p) ≤ 32 * p.nodes + 64

@@ -126,7 +126,7 @@ module _ (z : Setting) where
     same_there j more true q =
         let e = same_number j i q in
         let here : number_at t.bytes (bytes_of d) (z.frame + place_of z.declared x d i) ≡ Some v =
-            ap (λ (b : ByteMap). number_at b (bytes_of d) (z.frame + place_of z.declared x d i)) wrote.written ∙ (number_at-with_number s.bytes (bytes_of d) (z.frame + place_of z.declared x d i) w ∙ ap Some cut) in
+        ap (λ (b : ByteMap). number_at b (bytes_of d) (z.frame + place_of z.declared x d i)) wrote.written ∙ (number_at-with_number s.bytes (bytes_of d) (z.frame + place_of z.declared x d i) w ∙ ap Some cut) in
         ap (λ k. number_at t.bytes (bytes_of d) (z.frame + place_of z.declared x d k)) e ∙ (here ∙ ap Some (sym (ap (λ k. slice_index (slice_set old i v) k) e ∙ get_or-set_same old i v 0 inside)))
     same_there j more false q =
         other_number (bytes_of d) (place_of z.declared x d i) w (bytes_of d) (place_of z.declared x d j) s t wrote (elements_apart z.declared x d i j q)

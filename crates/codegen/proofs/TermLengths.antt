@@ -40,7 +40,6 @@ height (select condition accepted otherwise) =
     let inner : max (height_of accepted) (1 + height_of otherwise) ≤ term_nodes accepted + term_nodes otherwise = max-le (omega (arith, h, i, j)) (omega (arith, h, i, j)) in
     let outer : max (height_of condition) (1 + max (height_of accepted) (1 + height_of otherwise)) ≤ term_nodes condition + term_nodes accepted + term_nodes otherwise = max-le (omega (arith, h, i, j)) (omega (arith, inner, h)) in
     omega (arith, outer)
-
 height (element place x size index) = omega (arith, height index)
 
 -- Instructions.

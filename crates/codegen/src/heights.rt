@@ -28,7 +28,9 @@ fn height_in(statement: &StraightStatement<'_>) -> u32
     ensures { result ≡ height_in (straight_tree statement.now) }
 {
     match statement {
-        StraightStatement::Set(_, value) | StraightStatement::SetUnder(_, _, value) => height(value),
+        StraightStatement::Set(_, value) | StraightStatement::SetUnder(_, _, value) => height(
+            value,
+        ),
         StraightStatement::Clear(_, _) => 0,
         StraightStatement::Fill(_, values) => height_of_all(values),
         StraightStatement::Put(_, _, _, index, value)

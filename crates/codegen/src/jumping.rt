@@ -13,7 +13,12 @@ const JUMP_HALVES: u32 = 1 << 20;
 fn skip() -> Instr
     ensures { result ≡ skip }
 {
-    Instr::Branch(BranchTest::Bne, Reg::X5, Reg::X0, BranchOffset::from_halves(4))
+    Instr::Branch(
+        BranchTest::Bne,
+        Reg::X5,
+        Reg::X0,
+        BranchOffset::from_halves(4),
+    )
 }
 
 /// Over so many instructions.
@@ -30,7 +35,10 @@ fn back(count: usize) -> Instr
     requires near { 2 * count < 2 ^ 20 }
     ensures { result ≡ back count }
 {
-    Instr::Jump(Reg::X0, JumpOffset::from_halves(JUMP_HALVES - 2 * count as u32))
+    Instr::Jump(
+        Reg::X0,
+        JumpOffset::from_halves(JUMP_HALVES - 2 * count as u32),
+    )
 }
 
 /// The first instructions where the value is not 0, and else the second.

@@ -17,8 +17,8 @@ ghost use Rattle.hepurita.specs.Built.{Judgement, Judges, JudgesProgram, IsRefus
 use crate::judging::flat_of;
 use branch_removal::remove;
 use codegen::generate;
-use intervals::check_ranges;
 use image::{Image, write};
+use intervals::check_ranges;
 use language::{Program, Refusal};
 use std::alloc::Global;
 use syntax::{one_answer_for_a_text, parse};

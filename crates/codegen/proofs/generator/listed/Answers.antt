@@ -14,9 +14,9 @@ new-requires c =
     let made : List FlatVariable → ℕ → ℕ → Frame = λ declared controls depths. record { declared = declared; controls = controls; depths = depths } in
     let depths = c.greatest_depth-depths.ensures ∙ ap depth_in_all c.body.ensures in
     let laid : c.new-layout.result ≡ frame_of p =
-        c.new-layout.ensures
-        ∙ (ap (λ declared. made declared c.controls.result c.greatest_depth-depths.result) c.declared-declared.ensures
-        ∙ ap₂ (made p.declared) c.controls.ensures depths) in
+    c.new-layout.ensures
+    ∙ (ap (λ declared. made declared c.controls.result c.greatest_depth-depths.result) c.declared-declared.ensures
+    ∙ ap₂ (made p.declared) c.controls.ensures depths) in
     let start = c.temporaries.ensures ∙ ap (λ (f : Frame). temporaries_offset f.declared f.controls f.depths) laid in
     let slots = c.in_ok-slots.ensures ∙ ap (λ ps. slots_from 0 ps) c.parameters.ensures in
     let frame : c.temporaries.result + 4 * c.temporaries-2.result ≡ program_base p + 4 * program_height p = ap₂ (λ m n. m + 4 * n) start c.temporaries-2.ensures in

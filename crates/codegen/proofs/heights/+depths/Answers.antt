@@ -10,15 +10,15 @@ use Rattle.codegen.proofs.heights.+depths.Goals as goal
 
 pub depth_in-greatest_depth-requires : goal.depth_in-greatest_depth-requires
 depth_in-greatest_depth-requires t c =
-    let smaller = accepted_smaller [] 0 0 0 c.args.statement.now c.in-Branch.field-0 c.in-Branch.accepted c.in-Branch.otherwise c.in-Branch.is c.deref.result.now c.in-Branch.otherwise.items c.deref.ensures.value refl  in
-    let tree = ap depth_in (tree_of_branch [] 0 0 0 c.args.statement.now c.in-Branch.field-0 c.in-Branch.accepted c.in-Branch.otherwise c.in-Branch.is c.deref.result.now c.in-Branch.otherwise.items c.deref.ensures.value refl ) in
+    let smaller = accepted_smaller [] 0 0 0 c.args.statement.now c.in-Branch.field-0 c.in-Branch.accepted c.in-Branch.otherwise c.in-Branch.is c.deref.result.now c.in-Branch.otherwise.items c.deref.ensures.value refl in
+    let tree = ap depth_in (tree_of_branch [] 0 0 0 c.args.statement.now c.in-Branch.field-0 c.in-Branch.accepted c.in-Branch.otherwise c.in-Branch.is c.deref.result.now c.in-Branch.otherwise.items c.deref.ensures.value refl) in
     let l = le-max_left (depth_in_all (straight_block c.deref.result.now)) (depth_in_all (straight_block c.in-Branch.otherwise.items)) in
     (search (rules, smaller), omega (arith, tree, l, c.requires))
 
 pub depth_in-greatest_depth-requires-in-Branch : goal.depth_in-greatest_depth-requires-in-Branch
 depth_in-greatest_depth-requires-in-Branch t c =
-    let smaller = otherwise_smaller [] 0 0 0 c.args.statement.now c.in-Branch.field-0 c.in-Branch.accepted c.in-Branch.otherwise c.in-Branch.is c.in-Branch.accepted.items c.deref-in-Branch.result.now refl c.deref-in-Branch.ensures.value  in
-    let tree = ap depth_in (tree_of_branch [] 0 0 0 c.args.statement.now c.in-Branch.field-0 c.in-Branch.accepted c.in-Branch.otherwise c.in-Branch.is c.in-Branch.accepted.items c.deref-in-Branch.result.now refl c.deref-in-Branch.ensures.value ) in
+    let smaller = otherwise_smaller [] 0 0 0 c.args.statement.now c.in-Branch.field-0 c.in-Branch.accepted c.in-Branch.otherwise c.in-Branch.is c.in-Branch.accepted.items c.deref-in-Branch.result.now refl c.deref-in-Branch.ensures.value in
+    let tree = ap depth_in (tree_of_branch [] 0 0 0 c.args.statement.now c.in-Branch.field-0 c.in-Branch.accepted c.in-Branch.otherwise c.in-Branch.is c.in-Branch.accepted.items c.deref-in-Branch.result.now refl c.deref-in-Branch.ensures.value) in
     let r = le-max_right (depth_in_all (straight_block c.in-Branch.accepted.items)) (depth_in_all (straight_block c.deref-in-Branch.result.now)) in
     (search (rules, smaller), omega (arith, tree, r, c.requires))
 
@@ -35,7 +35,7 @@ depth_in-overflow_add-result t c =
 
 pub depth_in-returns-in-Branch : goal.depth_in-returns-in-Branch
 depth_in-returns-in-Branch t c =
-    c.max.ensures ∙ (ap₂ max c.greatest_depth.ensures c.greatest_depth-in-Branch.ensures ∙ sym (ap depth_in (tree_of_branch [] 0 0 0 c.args.statement.now c.in-Branch.field-0 c.in-Branch.accepted c.in-Branch.otherwise c.in-Branch.is c.deref.result.now c.deref-in-Branch.result.now c.deref.ensures.value c.deref-in-Branch.ensures.value )))
+    c.max.ensures ∙ (ap₂ max c.greatest_depth.ensures c.greatest_depth-in-Branch.ensures ∙ sym (ap depth_in (tree_of_branch [] 0 0 0 c.args.statement.now c.in-Branch.field-0 c.in-Branch.accepted c.in-Branch.otherwise c.in-Branch.is c.deref.result.now c.deref-in-Branch.result.now c.deref.ensures.value c.deref-in-Branch.ensures.value)))
 
 pub depth_in-returns-in-Repeat : goal.depth_in-returns-in-Repeat
 depth_in-returns-in-Repeat t c =
@@ -46,6 +46,6 @@ greatest_depth-depth_in-requires t c =
     let s = c.statement-item.result in
     let l = c.loop-statement in
     let here : drop l.statement-index c.args.statements.now ≡ s ∷ drop (l.statement-index + 1) c.args.statements.now =
-        drop_more c.args.statements.now l.statement-index s c.loop-statement-test.true ∙ ap (λ x. x ∷ drop (l.statement-index + 1) c.args.statements.now) (sym c.statement-item.is) in
+    drop_more c.args.statements.now l.statement-index s c.loop-statement-test.true ∙ ap (λ x. x ∷ drop (l.statement-index + 1) c.args.statements.now) (sym c.statement-item.is) in
     let smaller = smaller_here c.args.statements.now l.statement-index s here in
     (search (rules, smaller), greatest_here depth_in depth_in_all (λ s rest. refl) c.args.statements.now l.statement-index s here l.deepest _ l.invariant c.requires)

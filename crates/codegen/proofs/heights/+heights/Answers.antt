@@ -10,16 +10,16 @@ use Rattle.codegen.proofs.heights.+heights.Goals as goal
 
 pub height_in-greatest_height-requires : goal.height_in-greatest_height-requires
 height_in-greatest_height-requires t c =
-    let smaller = accepted_smaller [] 0 0 0 c.args.statement.now c.in-Branch.condition c.in-Branch.accepted c.in-Branch.otherwise c.in-Branch.is c.deref.result.now c.in-Branch.otherwise.items c.deref.ensures.value refl  in
-    let tree = ap height_in (tree_of_branch [] 0 0 0 c.args.statement.now c.in-Branch.condition c.in-Branch.accepted c.in-Branch.otherwise c.in-Branch.is c.deref.result.now c.in-Branch.otherwise.items c.deref.ensures.value refl ) in
+    let smaller = accepted_smaller [] 0 0 0 c.args.statement.now c.in-Branch.condition c.in-Branch.accepted c.in-Branch.otherwise c.in-Branch.is c.deref.result.now c.in-Branch.otherwise.items c.deref.ensures.value refl in
+    let tree = ap height_in (tree_of_branch [] 0 0 0 c.args.statement.now c.in-Branch.condition c.in-Branch.accepted c.in-Branch.otherwise c.in-Branch.is c.deref.result.now c.in-Branch.otherwise.items c.deref.ensures.value refl) in
     let a = height_in_all (straight_block c.deref.result.now) in
     let b = height_in_all (straight_block c.in-Branch.otherwise.items) in
     (search (rules, smaller), omega (arith, tree, le-max_left a b, le-max_right (height_of (term_tree c.in-Branch.condition.now)) (max a b), c.requires))
 
 pub height_in-greatest_height-requires-in-Branch : goal.height_in-greatest_height-requires-in-Branch
 height_in-greatest_height-requires-in-Branch t c =
-    let smaller = otherwise_smaller [] 0 0 0 c.args.statement.now c.in-Branch.condition c.in-Branch.accepted c.in-Branch.otherwise c.in-Branch.is c.in-Branch.accepted.items c.deref-in-Branch.result.now refl c.deref-in-Branch.ensures.value  in
-    let tree = ap height_in (tree_of_branch [] 0 0 0 c.args.statement.now c.in-Branch.condition c.in-Branch.accepted c.in-Branch.otherwise c.in-Branch.is c.in-Branch.accepted.items c.deref-in-Branch.result.now refl c.deref-in-Branch.ensures.value ) in
+    let smaller = otherwise_smaller [] 0 0 0 c.args.statement.now c.in-Branch.condition c.in-Branch.accepted c.in-Branch.otherwise c.in-Branch.is c.in-Branch.accepted.items c.deref-in-Branch.result.now refl c.deref-in-Branch.ensures.value in
+    let tree = ap height_in (tree_of_branch [] 0 0 0 c.args.statement.now c.in-Branch.condition c.in-Branch.accepted c.in-Branch.otherwise c.in-Branch.is c.in-Branch.accepted.items c.deref-in-Branch.result.now refl c.deref-in-Branch.ensures.value) in
     let a = height_in_all (straight_block c.in-Branch.accepted.items) in
     let b = height_in_all (straight_block c.deref-in-Branch.result.now) in
     (search (rules, smaller), omega (arith, tree, le-max_right a b, le-max_right (height_of (term_tree c.in-Branch.condition.now)) (max a b), c.requires))
@@ -33,7 +33,7 @@ height_in-greatest_height-requires-in-Repeat t c =
 
 pub height_in-returns-in-Branch : goal.height_in-returns-in-Branch
 height_in-returns-in-Branch t c =
-    let tree = ap height_in (tree_of_branch [] 0 0 0 c.args.statement.now c.in-Branch.condition c.in-Branch.accepted c.in-Branch.otherwise c.in-Branch.is c.deref.result.now c.deref-in-Branch.result.now c.deref.ensures.value c.deref-in-Branch.ensures.value ) in
+    let tree = ap height_in (tree_of_branch [] 0 0 0 c.args.statement.now c.in-Branch.condition c.in-Branch.accepted c.in-Branch.otherwise c.in-Branch.is c.deref.result.now c.deref-in-Branch.result.now c.deref.ensures.value c.deref-in-Branch.ensures.value) in
     rw (c.max-in-Branch.ensures, c.max.ensures, c.height-in-Branch.ensures, c.greatest_height.ensures, c.greatest_height-in-Branch.ensures, tree) refl
 
 pub height_in-returns-in-Repeat : goal.height_in-returns-in-Repeat
@@ -46,6 +46,6 @@ greatest_height-height_in-requires t c =
     let s = c.statement-item.result in
     let l = c.loop-statement in
     let here : drop l.statement-index c.args.statements.now ≡ s ∷ drop (l.statement-index + 1) c.args.statements.now =
-        drop_more c.args.statements.now l.statement-index s c.loop-statement-test.true ∙ ap (λ x. x ∷ drop (l.statement-index + 1) c.args.statements.now) (sym c.statement-item.is) in
+    drop_more c.args.statements.now l.statement-index s c.loop-statement-test.true ∙ ap (λ x. x ∷ drop (l.statement-index + 1) c.args.statements.now) (sym c.statement-item.is) in
     let smaller = smaller_here c.args.statements.now l.statement-index s here in
     (search (rules, smaller), greatest_here height_in height_in_all (λ s rest. refl) c.args.statements.now l.statement-index s here l.greatest _ l.invariant c.requires)

@@ -74,6 +74,6 @@ statements-statement-requires t c =
     let l = c.loop-each in
     let f = c.args.layout.now in
     let here : drop l.each-index c.args.statements.now ≡ s ∷ drop (l.each-index + 1) c.args.statements.now =
-        drop_more c.args.statements.now l.each-index s c.loop-each-test.true ∙ ap (λ x. x ∷ drop (l.each-index + 1) c.args.statements.now) (sym c.each-item.is) in
+    drop_more c.args.statements.now l.each-index s c.loop-each-test.true ∙ ap (λ x. x ∷ drop (l.each-index + 1) c.args.statements.now) (sym c.each-item.is) in
     let smaller = smaller_here c.args.statements.now l.each-index s here in
     (search (rules, smaller), placed_here f.declared f.controls f.depths c.args.depth c.args.statements.now l.each-index s here l.invariant.placed)
