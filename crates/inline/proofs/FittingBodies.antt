@@ -6,7 +6,7 @@ use Rattle.std.proofs.lemmas.Option.{none-some, same_Some}
 use Rattle.arguments.specs.Within.{AreWithin, IsWithin, greatest_of, words_of}
 use Rattle.inline.specs.declared.flat.FlatVariable.{FlatVariable}
 use Rattle.inline.specs.Fitting.{IsWithinKind, IsHeld, Fits}
-use Rattle.inline.specs.Flat.{TermTree, FlatTree, declare, array, assign, put, branch, loop, FlatBlock, nothing, first, FlatProgram, word_as, array_as, declaration_of}
+use Rattle.inline.specs.Flat.{TermTree, FlatTree, declare, array, assign, put, hold, skip, branch, loop, FlatBlock, nothing, first, FlatProgram, word_as, array_as, declaration_of}
 use Rattle.inline.specs.FlatMeaning.{Values, with_value, value_in, elements, turns, after, after_all, given, end_of}
 use Rattle.inline.specs.FlatTyping.{Types, with_type, AllSuit, HasCount, IsTyped, AreTyped, IsTypedProgram, IsResult, counter_type, types_after, types_after_all, parameter_types, end_types}
 use Rattle.language.specs.declared.signature.Kind.{Kind}
@@ -79,6 +79,9 @@ module _ (all : List FlatVariable) where
           count = length-set (m y) (value_in m index) v ∙ old.count;
           within = All-set (IsWithinKind typed.word.kind) (m y) (value_in m index) v (suited_fits types m fits typed.word value typed.suits) old.within;
         }) fits
+    fits_after (hold y place size index) types control typed m fits =
+        fits_declared types m y (value_in m index ∷ []) (word_as counter_type false) (one_held counter_type false (value_in m index) (value_fits types m fits typed.1)) fits
+    fits_after skip types control typed m fits = fits
     fits_after (branch label condition accepted otherwise) types control typed m fits =
         let under = joined label control in
         let one = fits_after_all accepted types under typed.1 m fits in

@@ -4,7 +4,7 @@ use Rattle.std.specs.Coded.{Coded, code_by, coded×, coded_ℕ, coded_bool, code
 use base.Stored.{Gv, gnil, gnum, gcons}
 use Rattle.inline.specs.contracts.flat.FlatVariable as flat_variable
 use Rattle.inline.specs.declared.flat.FlatVariable.{FlatVariable}
-use Rattle.inline.specs.Flat.{TermTree, number, truth, variable, prefix, binary, rotate, convert, select, element, FlatTree, declare, array, assign, put, branch, loop, FlatBlock, nothing, first, FlatProgram}
+use Rattle.inline.specs.Flat.{TermTree, number, truth, variable, prefix, binary, rotate, convert, select, element, FlatTree, declare, array, assign, put, hold, skip, branch, loop, FlatBlock, nothing, first, FlatProgram}
 use Rattle.language.specs.contracts.signature.Param as param
 use Rattle.language.specs.contracts.signature.Kind as kind
 use Rattle.language.specs.contracts.signature.Label as label
@@ -95,6 +95,8 @@ abbrev mutual
   tree_code (put q x n e v) = gcons (gnum 3) (gcons (place.the_row.coded.code q) (gcons (coded_ℕ.code x) (gcons (coded_ℕ.code n) (gcons (term_code e) (term_code v)))))
   tree_code (branch l c a b) = gcons (gnum 4) (gcons (label.the_row.coded.code l) (gcons (term_code c) (gcons (block_code a) (block_code b))))
   tree_code (loop x c d b) = gcons (gnum 5) (gcons (coded_ℕ.code x) (gcons (term_code c) (gcons (term_code d) (block_code b))))
+  tree_code (hold x q n e) = gcons (gnum 6) (gcons (coded_ℕ.code x) (gcons (place.the_row.coded.code q) (gcons (coded_ℕ.code n) (term_code e))))
+  tree_code skip = gcons (gnum 7) gnil
 
   pub block_code : FlatBlock → Gv
   block_code nothing = gnil
@@ -122,6 +124,12 @@ mutual
       (coded_ℕ.inj n n' (ap (λ g. head (tail (tail (tail g)))) p) i)
       (term_inj e e' (ap (λ g. head (tail (tail (tail (tail g))))) p) i)
       (term_inj v v' (ap (λ g. tail (tail (tail (tail (tail g))))) p) i)
+  tree_inj (hold x q n e) (hold x' q' n' e') p =
+      λ i. hold (coded_ℕ.inj x x' (ap (λ g. head (tail g)) p) i)
+      (place.the_row.coded.inj q q' (ap (λ g. head (tail (tail g))) p) i)
+      (coded_ℕ.inj n n' (ap (λ g. head (tail (tail (tail g)))) p) i)
+      (term_inj e e' (ap (λ g. tail (tail (tail (tail g)))) p) i)
+  tree_inj skip skip p = refl
   tree_inj (branch l c a b) (branch l' c' a' b') p =
       λ i. branch (label.the_row.coded.inj l l' (ap (λ g. head (tail g)) p) i)
       (term_inj c c' (ap (λ g. head (tail (tail g))) p) i)

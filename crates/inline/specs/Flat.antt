@@ -2,12 +2,14 @@
 use Rattle.std.specs.Prelude.{ℕ, Bool, List, [], ◌∷◌, map, Option, None, Some}
 use Rattle.inline.specs.declared.flat.FlatVariable.{FlatVariable}
 use Rattle.inline.specs.declared.flat.Term.{Term, Number, Truth, Variable, Prefix', Binary', Rotate', Convert', Select', Element'}
-use Rattle.inline.specs.declared.flat.FlatStatement.{FlatStatement, Declare, DeclareArray, Assign, AssignElement, Branch', Loop', Row_of-FlatStatement, end_of-FlatStatement, more_of-FlatStatement}
+use Rattle.inline.specs.declared.flat.FlatStatement.{FlatStatement, Declare, DeclareArray, Assign, AssignElement, Hold, Skip, Branch', Loop', Row_of-FlatStatement, end_of-FlatStatement, more_of-FlatStatement}
 use Rattle.language.specs.declared.signature.Form.{Form}
 use Rattle.language.specs.declared.signature.Form.TheVariants.{SingleWord, FixedArray, MutableArray}
 use Rattle.language.specs.declared.signature.Param.{Param}
 use Rattle.language.specs.declared.signature.Kind.{Kind}
+use Rattle.language.specs.declared.signature.Kind.TheVariants.{Uint32}
 use Rattle.language.specs.declared.signature.Label.{Label}
+use Rattle.language.specs.declared.signature.Label.TheVariants.{Public}
 use Rattle.language.specs.declared.tree.BinaryOperator.{BinaryOperator}
 use Rattle.language.specs.declared.tree.PrefixOperator.{PrefixOperator}
 use Rattle.language.specs.declared.typing.WordType.{WordType}
@@ -37,6 +39,10 @@ mutual
     assign : (variable : ℕ) (value : TermTree) → FlatTree
     -- an element of an array of so many is assigned to
     put : (place : Place) (variable size : ℕ) (index value : TermTree) → FlatTree
+    -- an index is held in a variable until the element of an array of so many is assigned to
+    hold : (variable : ℕ) (place : Place) (size : ℕ) (index : TermTree) → FlatTree
+    -- nothing: a node of the source, such as a call's own, for which nothing is left to do
+    skip : FlatTree
     -- a conditional, with the label of its condition
     branch : (label : Label) (condition : TermTree) (accepted otherwise : FlatBlock) → FlatTree
     -- a loop: the first number that its counter is, and the first that it is no longer
@@ -45,6 +51,11 @@ mutual
   pub data FlatBlock : Type 0 where
     nothing : FlatBlock
     first : (statement : FlatTree) (rest : FlatBlock) → FlatBlock
+
+-- a block, and another behind it
+abbrev pub chain : FlatBlock → FlatBlock → FlatBlock
+chain nothing next = next
+chain (first statement rest) next = first statement (chain rest next)
 
 -- one word, declared
 abbrev pub word_as : WordType → Bool → FlatVariable
@@ -68,6 +79,10 @@ elements_by MutableArray length = Some length
 -- a parameter is a variable
 abbrev pub declaration_of : Param → FlatVariable
 declaration_of p = record { word = record { kind = p.kind; label = p.label }; mutable = is_mutable p.form; elements = elements_by p.form p.length }
+
+-- a number that decides what is public, such as a counter or an index that is held
+abbrev pub counter_type : WordType
+counter_type = record { kind = Uint32; label = Public }
 
 -- the export
 pub record FlatProgram : Type 0 where
@@ -101,6 +116,8 @@ abbrev mutual
   flat_tree (DeclareArray x word mutable size values) = array x word mutable size (map term_tree values.items)
   flat_tree (Assign x value) = assign x (term_tree value)
   flat_tree (AssignElement place x size index value) = put place x size (term_tree index) (term_tree value)
+  flat_tree (Hold x place size index) = hold x place size (term_tree index)
+  flat_tree Skip = skip
   flat_tree (Branch' label condition shape accepted shape' otherwise) = branch label (term_tree condition) (row_tree accepted) (row_tree otherwise)
   flat_tree (Loop' x low high shape body) = loop x (term_tree low) (term_tree high) (row_tree body)
 

@@ -4,7 +4,7 @@ use Rattle.std.specs.Prelude.{ℕ, zero, suc, ◌+◌, ◌-◌, ◌==◌, List, 
 use Rattle.std.specs.Option.{option_map}
 use Rattle.arguments.specs.Within.{words_of}
 use Rattle.inline.specs.declared.flat.FlatVariable.{FlatVariable}
-use Rattle.inline.specs.Flat.{TermTree, number, truth, variable, prefix, binary, rotate, convert, select, element, FlatTree, declare, array, assign, put, branch, loop, FlatBlock, nothing, first, FlatProgram, numbers_in}
+use Rattle.inline.specs.Flat.{TermTree, number, truth, variable, prefix, binary, rotate, convert, select, element, FlatTree, declare, array, assign, put, hold, skip, branch, loop, FlatBlock, nothing, first, FlatProgram, numbers_in}
 use Rattle.inline.specs.Path.{bounded, indexed, divided, Path, first_fault}
 use Rattle.language.specs.Meaning.{Ending, gives, faults}
 use Rattle.language.specs.Operators.{divides, operated, prefix_value, width_of}
@@ -83,6 +83,8 @@ abbrev mutual
   after m (array x word mutable size values) = with_value m x (elements m size values)
   after m (assign x value) = with_value m x (value_in m value ∷ [])
   after m (put place x size index value) = with_value m x (slice_set (m x) (value_in m index) (value_in m value))
+  after m (hold x place size index) = with_value m x (value_in m index ∷ [])
+  after m skip = m
   after m (branch label condition accepted otherwise) = if value_in m condition == 0 then after_all m otherwise else after_all m accepted
   after m (loop x low high body) =
       turns (value_in m high - value_in m low) (value_in m low) (λ i t. after_all (with_value t x (i ∷ [])) body) m
@@ -98,6 +100,8 @@ abbrev mutual
   path_at m (array x word mutable size values) = path_in_all m values
   path_at m (assign x value) = path_in m value
   path_at m (put place x size index value) = path_in m index ++ indexed place size (value_in m index) ∷ path_in m value
+  path_at m (hold x place size index) = path_in m index ++ indexed place size (value_in m index) ∷ []
+  path_at m skip = []
   path_at m (branch label condition accepted otherwise) =
       path_in m condition ++ (if value_in m condition == 0 then path_along m otherwise else path_along m accepted)
   path_at m (loop x low high body) =

@@ -2,8 +2,9 @@
 use Rattle.std.specs.Prelude.{◌≡◌, ℕ, ◌+◌, ◌*◌, ◌≤◌, List, [], ◌∷◌, Option, None, Some}
 use Rattle.std.specs.List.{AllByRecursion}
 use Rattle.inline.specs.declared.flat.FlatVariable.{FlatVariable}
-use Rattle.inline.specs.Flat.{TermTree, number, truth, variable, prefix, binary, rotate, convert, select, element, FlatTree, declare, array, assign, put, branch, loop, FlatBlock, nothing, first, FlatProgram}
-use Rattle.language.specs.declared.limits.TheConstants.{MOST_NODES, MOST_DECLARED_BYTES, MOST_ELEMENTS}
+use Rattle.inline.specs.Flat.{TermTree, number, truth, variable, prefix, binary, rotate, convert, select, element, FlatTree, declare, array, assign, put, hold, skip, branch, loop, FlatBlock, nothing, first, FlatProgram}
+pub use Rattle.inline.specs.declared.limits.TheConstants.{MOST_VARIABLE_BYTES}
+use Rattle.language.specs.declared.limits.TheConstants.{MOST_NODES, MOST_ELEMENTS}
 use Rattle.language.specs.declared.signature.Form.{Form}
 use Rattle.language.specs.declared.signature.Form.TheVariants.{SingleWord, FixedArray, MutableArray}
 use Rattle.language.specs.declared.signature.Param.{Param}
@@ -34,6 +35,8 @@ abbrev mutual
   tree_nodes (array x word mutable size values) = 1 + terms_nodes values
   tree_nodes (assign x value) = 1 + term_nodes value
   tree_nodes (put place x size index value) = 1 + (1 + term_nodes index) + term_nodes value
+  tree_nodes (hold x place size index) = 1 + term_nodes index
+  tree_nodes skip = 1
   tree_nodes (branch label condition accepted otherwise) = 1 + term_nodes condition + body_nodes accepted + body_nodes otherwise
   tree_nodes (loop x low high body) = 1 + term_nodes low + term_nodes high + body_nodes body
 
@@ -68,7 +71,8 @@ HasLength MutableArray length = (1 ≤ length) × (length ≤ MOST_ELEMENTS)
 -- a program within the limits on size
 pub record IsSized (p : FlatProgram) : Type 0 where
   pub lengths : AllByRecursion (λ (parameter : Param). HasLength parameter.form parameter.length) p.parameters
-  pub declared : 4 * declared_words p.declared ≤ MOST_DECLARED_BYTES
+  -- what the source declares, and the words that are held besides: one for every three nodes at most
+  pub declared : 4 * declared_words p.declared ≤ MOST_VARIABLE_BYTES
   -- its nodes are those of the source
   pub counted : body_nodes p.body + value_nodes p.value ≡ p.nodes
   pub nodes : p.nodes ≤ MOST_NODES

@@ -1,7 +1,8 @@
 -- Types of numbered variables: what is known of a well-typed body once its names are gone.
 use Rattle.std.specs.Prelude.{◌≡◌, ℕ, Bool, true, false, ◌^◌, ◌<◌, ◌==◌, ◌+◌, List, [], ◌∷◌, length, map, take, Option, None, Some, if◌then◌else◌, slice_get}
 use Rattle.inline.specs.declared.flat.FlatVariable.{FlatVariable}
-use Rattle.inline.specs.Flat.{TermTree, number, truth, variable, prefix, binary, rotate, convert, select, element, FlatTree, declare, array, assign, put, branch, loop, FlatBlock, nothing, first, FlatProgram, word_as, array_as, declaration_of}
+pub use Rattle.inline.specs.Flat.{counter_type}
+use Rattle.inline.specs.Flat.{TermTree, number, truth, variable, prefix, binary, rotate, convert, select, element, FlatTree, declare, array, assign, put, hold, skip, branch, loop, FlatBlock, nothing, first, FlatProgram, word_as, array_as, declaration_of}
 use Rattle.language.specs.declared.signature.Kind.{Kind}
 use Rattle.language.specs.declared.signature.Kind.TheVariants.{Boolean, Uint32}
 use Rattle.language.specs.declared.signature.Label.{Label}
@@ -88,16 +89,14 @@ abbrev pub HasCount : ℕ → List TermTree → Type 0
 HasCount size [] = Unit {0}
 HasCount size (e ∷ es) = length (e ∷ es) ≡ size
 
--- a counter is a public number
-abbrev pub counter_type : WordType
-counter_type = labelled Uint32 Public
-
 -- the types after a statement: what an arm or a loop declares is its own
 abbrev pub types_after : Types → FlatTree → Types
 types_after types (declare x word mutable value) = with_type types x (word_as word mutable)
 types_after types (array x word mutable size values) = with_type types x (array_as word mutable size)
 types_after types (assign x value) = types
 types_after types (put place x size index value) = types
+types_after types (hold x place size index) = with_type types x (word_as counter_type false)
+types_after types skip = types
 types_after types (branch label condition accepted otherwise) = types
 types_after types (loop x low high body) = types
 
@@ -134,6 +133,8 @@ abbrev mutual
       IsNew declared types x (array_as word mutable size) × AllSuit types word values × HasCount size values
   IsTyped declared types control (assign x value) = IsAssigned types control x value
   IsTyped declared types control (put place x size index value) = IsPut types control x size index value
+  IsTyped declared types control (hold x place size index) = IsNew declared types x (word_as counter_type false) × HasType types index counter_type
+  IsTyped declared types control skip = Unit {0}
   IsTyped declared types control (branch label condition accepted otherwise) =
       HasType types condition (labelled Boolean label)
       × AreTyped declared types (joined label control) accepted × AreTyped declared types (joined label control) otherwise
@@ -153,6 +154,8 @@ abbrev mutual
   declarations_in (array x word mutable size values) = 1
   declarations_in (assign x value) = 0
   declarations_in (put place x size index value) = 0
+  declarations_in (hold x place size index) = 1
+  declarations_in skip = 0
   declarations_in (branch label condition accepted otherwise) = declarations_in_all accepted + declarations_in_all otherwise
   declarations_in (loop x low high body) = 1 + declarations_in_all body
 
@@ -167,6 +170,8 @@ abbrev mutual
   IsNumbered n (array x word mutable size values) = x ≡ n
   IsNumbered n (assign x value) = Unit {0}
   IsNumbered n (put place x size index value) = Unit {0}
+  IsNumbered n (hold x place size index) = x ≡ n
+  IsNumbered n skip = Unit {0}
   IsNumbered n (branch label condition accepted otherwise) = AreNumbered n accepted × AreNumbered (n + declarations_in_all accepted) otherwise
   IsNumbered n (loop x low high body) = (x ≡ n) × AreNumbered (n + 1) body
 

@@ -6,4 +6,3 @@ pub mod FlatMeaning
 pub mod FlatTyping
 pub mod Fitting
 pub mod FlatSize
-pub mod WithoutCalls

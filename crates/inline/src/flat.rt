@@ -95,6 +95,11 @@ pub enum FlatStatement {
     Assign(u32, Term),
     /// The element at an index of an array, which has so many, is set to a value.
     AssignElement(Place, u32, u32, Term, Term),
+    /// An index is held in a variable of this number until the element of an array, which has so many, is
+    /// assigned to. It has to be below that, here already.
+    Hold(u32, Place, u32, Term),
+    /// Nothing: a node of the source, such as a call's own, for which nothing is left to do.
+    Skip,
     /// What runs where the condition, which has this label, is true, and where it is not.
     Branch(Label, Term, Vec<FlatStatement>, Vec<FlatStatement>),
     /// What runs for each number of a counter, from the first bound up to the last before the second.

@@ -1,17 +1,14 @@
-// One body with numbered variables: names are gone, so are scopes. What the body means is what the
+// One body with numbered variables: names are gone, so are scopes and calls. What the body means is what the
 // source means, with the same types and labels. Stands on the syntax tree and its typing.
 #![tactic(auto)]
 
 mod flat;
-mod inlining;
 mod laws;
+mod limits;
 mod numbering;
 mod program;
-mod sizes;
 
 pub use flat::{FlatStatement, FlatVariable, Term};
-pub use inlining::inline;
-pub use laws::{
-    flat_is_sized, flat_is_typed, flat_keeps_meaning, flat_values_fit, typed_values_fit,
-};
+pub use laws::{flat_values_fit, typed_values_fit};
+pub use limits::MOST_VARIABLE_BYTES;
 pub use program::Flat;

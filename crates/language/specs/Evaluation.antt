@@ -7,6 +7,7 @@ use Rattle.word.specs.declared.place.Place.{Place}
 use Rattle.language.specs.declared.signature.Kind.{Kind}
 use Rattle.language.specs.declared.values.Arg.{Arg}
 use Rattle.language.specs.Meaning.{Ending, gives, faults, applied, element_held, word_arguments, begun, copied_out, Returned, made_array, written, with_element, with_some, word_given, counting, exported, holding, final_arrays}
+pub use Rattle.language.specs.Known.{first_known}
 use Rattle.language.specs.Operators.{truth_of}
 use Rattle.language.specs.Results.{Results}
 use Rattle.language.specs.State.{State, Word, single, with_value}
@@ -157,11 +158,6 @@ return_run t (Some r) = tick (andthen (value t r.value) (λ w. given (record { w
 -- a procedure's body and its `return`
 abbrev pub body_run : Knowledge → ProcedureTree → State → Run Returned
 body_run known p s = andthen (run_all known s p.body) (λ t. return_run t p.returned)
-
--- of two procedures of a name the first keeps it
-abbrev pub first_known : Option Known → Option Known → Option Known
-first_known (Some one) other = Some one
-first_known None other = other
 
 -- with one more procedure, which calls the earlier ones
 abbrev pub knowing : Knowledge → ProcedureTree → Knowledge

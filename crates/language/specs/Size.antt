@@ -1,14 +1,30 @@
--- How large a program is, and the limits on it. What is counted is the exported procedure.
-use Rattle.std.specs.Prelude.{ℕ, ◌+◌, ◌*◌, ◌/◌, List, [], ◌∷◌, ◌++◌, Option, None, Some, nat_lt}
-pub use Rattle.language.specs.declared.limits.TheConstants.{MOST_NODES, MOST_DECLARED_BYTES}
+-- How large a program is, and the limits on it. What is counted is the exported procedure, with every call replaced by the
+-- called body.
+use Rattle.std.specs.Prelude.{ℕ, ◌+◌, ◌*◌, ◌/◌, ◌||◌, max, List, [], ◌∷◌, ◌++◌, Option, None, Some, nat_lt, if◌then◌else◌}
+pub use Rattle.language.specs.declared.limits.TheConstants.{MOST_NODES, MOST_DECLARED_BYTES, MOST_BODIES}
 use Rattle.language.specs.declared.rule.Rule.TheVariants.{InlinedSize, DeclaredBytes}
 use Rattle.language.specs.declared.signature.Form.{Form}
 use Rattle.language.specs.declared.signature.Form.TheVariants.{SingleWord, FixedArray, MutableArray}
 use Rattle.language.specs.declared.signature.Kind.{Kind}
 use Rattle.language.specs.declared.signature.Kind.TheVariants.{Boolean, Uint8, Uint16, Uint32}
 use Rattle.language.specs.declared.typing.Violation.{Violation}
+use Rattle.language.specs.Known.{Known, known_of}
+use Rattle.language.specs.Meaning.{is_word, word_arguments}
 use Rattle.language.specs.Tree.{ExprTree, number, truth, name, prefix, binary, rotate, convert, select, element, CallTree, RightTree, called, computed, StatementTree, declaration, array, assignment, element_assignment, call, conditional, loop, BlockTree, nothing, first, ParameterTree, ReturnTree, ProcedureTree, written}
 use Rattle.language.specs.Types.{at, when}
+
+-- how large a procedure is where it is called
+pub record Extent : Type 0 where
+  pub parameters : List ParameterTree
+  -- the nodes of its body
+  pub nodes : ℕ
+  -- the words, of 4 bytes each, that its word parameters and its body declare
+  pub words : ℕ
+  -- how many bodies are open in it at once, its own among them
+  pub bodies : ℕ
+
+abbrev pub Extents : Type 0
+Extents = Known Extent
 
 -- the nodes of an expression
 abbrev pub nodes_in : ExprTree → ℕ
@@ -27,33 +43,38 @@ abbrev pub nodes_in_all : List ExprTree → ℕ
 nodes_in_all [] = 0
 nodes_in_all (e ∷ es) = nodes_in e + nodes_in_all es
 
--- of arguments, each of which is put into a parameter
+-- of the arguments that are put into word parameters
 abbrev pub nodes_passed : List ExprTree → ℕ
 nodes_passed [] = 0
 nodes_passed (e ∷ es) = 1 + nodes_in e + nodes_passed es
 
--- the own nodes of a call of a procedure whose parameters are words, without the body that is called
-abbrev pub call_nodes : CallTree → ℕ
-call_nodes c = 1 + nodes_passed c.arguments
+-- of a call: itself, its word arguments and the called body
+abbrev pub called_nodes : Option Extent → CallTree → ℕ
+called_nodes None c = 1
+called_nodes (Some extent) c = 1 + nodes_passed (word_arguments extent.parameters c.arguments) + extent.nodes
 
-abbrev pub right_nodes : RightTree → ℕ
-right_nodes (called c) = call_nodes c
-right_nodes (computed e) = nodes_in e
+abbrev pub call_nodes : Extents → CallTree → ℕ
+call_nodes extents c = called_nodes (extents c.name) c
+
+abbrev pub right_nodes : Extents → RightTree → ℕ
+right_nodes extents (called c) = call_nodes extents c
+right_nodes extents (computed e) = nodes_in e
 
 abbrev mutual
   -- the nodes of a statement, itself among them
-  pub statement_nodes : StatementTree → ℕ
-  statement_nodes (declaration place label mutable kind text right) = 1 + right_nodes right
-  statement_nodes (array place label mutable kind length text values) = 1 + nodes_in_all (written values)
-  statement_nodes (assignment place target text right) = 1 + right_nodes right
-  statement_nodes (element_assignment place bracket target text index right) = 1 + (1 + nodes_in index) + right_nodes right
-  statement_nodes (call c) = call_nodes c
-  statement_nodes (conditional place condition accepted otherwise) = 1 + nodes_in condition + block_nodes accepted + block_nodes otherwise
-  statement_nodes (loop place counter text low high body) = 1 + nodes_in low + nodes_in high + block_nodes body
+  pub statement_nodes : Extents → StatementTree → ℕ
+  statement_nodes extents (declaration place label mutable kind text right) = 1 + right_nodes extents right
+  statement_nodes extents (array place label mutable kind length text values) = 1 + nodes_in_all (written values)
+  statement_nodes extents (assignment place target text right) = 1 + right_nodes extents right
+  statement_nodes extents (element_assignment place bracket target text index right) = 1 + (1 + nodes_in index) + right_nodes extents right
+  statement_nodes extents (call c) = call_nodes extents c
+  statement_nodes extents (conditional place condition accepted otherwise) =
+      1 + nodes_in condition + block_nodes extents accepted + block_nodes extents otherwise
+  statement_nodes extents (loop place counter text low high body) = 1 + nodes_in low + nodes_in high + block_nodes extents body
 
-  pub block_nodes : BlockTree → ℕ
-  block_nodes nothing = 0
-  block_nodes (first statement rest) = statement_nodes statement + block_nodes rest
+  pub block_nodes : Extents → BlockTree → ℕ
+  block_nodes extents nothing = 0
+  block_nodes extents (first statement rest) = statement_nodes extents statement + block_nodes extents rest
 
 -- `return`, where it stands, is a node
 abbrev pub return_nodes : Option ReturnTree → ℕ
@@ -61,12 +82,8 @@ return_nodes None = 0
 return_nodes (Some r) = 1 + nodes_in r.value
 
 -- the nodes of a procedure
-abbrev pub nodes_of : ProcedureTree → ℕ
-nodes_of p = block_nodes p.body + return_nodes p.returned
-
--- the work of a procedure without loops: each node is counted once, those of both arms of a conditional too
-abbrev pub work_of : ProcedureTree → ℕ
-work_of p = nodes_of p
+abbrev pub nodes_of : Extents → ProcedureTree → ℕ
+nodes_of extents p = block_nodes extents p.body + return_nodes p.returned
 
 -- the bytes of an element
 abbrev pub element_bytes : Kind → ℕ
@@ -79,36 +96,92 @@ element_bytes Uint32 = 4
 abbrev pub array_words : Kind → ℕ → ℕ
 array_words kind length = (length * element_bytes kind + 3) / 4
 
+-- the words that a called body declares
+abbrev pub words_of_called : Option Extent → ℕ
+words_of_called None = 0
+words_of_called (Some extent) = extent.words
+
+abbrev pub right_words : Extents → RightTree → ℕ
+right_words extents (called c) = words_of_called (extents c.name)
+right_words extents (computed e) = 0
+
 abbrev mutual
   -- how many words a statement declares; a counter is one
-  pub statement_words : StatementTree → ℕ
-  statement_words (declaration place label mutable kind text right) = 1
-  statement_words (array place label mutable kind length text values) = array_words kind length
-  statement_words (assignment place target text right) = 0
-  statement_words (element_assignment place bracket target text index right) = 0
-  statement_words (call c) = 0
-  statement_words (conditional place condition accepted otherwise) = block_words accepted + block_words otherwise
-  statement_words (loop place counter text low high body) = 1 + block_words body
+  pub statement_words : Extents → StatementTree → ℕ
+  statement_words extents (declaration place label mutable kind text right) = 1 + right_words extents right
+  statement_words extents (array place label mutable kind length text values) = array_words kind length
+  statement_words extents (assignment place target text right) = right_words extents right
+  statement_words extents (element_assignment place bracket target text index right) = right_words extents right
+  statement_words extents (call c) = words_of_called (extents c.name)
+  statement_words extents (conditional place condition accepted otherwise) = block_words extents accepted + block_words extents otherwise
+  statement_words extents (loop place counter text low high body) = 1 + block_words extents body
 
-  pub block_words : BlockTree → ℕ
-  block_words nothing = 0
-  block_words (first statement rest) = statement_words statement + block_words rest
+  pub block_words : Extents → BlockTree → ℕ
+  block_words extents nothing = 0
+  block_words extents (first statement rest) = statement_words extents statement + block_words extents rest
 
 abbrev pub held_words : Form → Kind → ℕ → ℕ
 held_words SingleWord kind length = 1
 held_words FixedArray kind length = array_words kind length
 held_words MutableArray kind length = array_words kind length
 
+-- of the export's parameters
 abbrev pub parameter_words : List ParameterTree → ℕ
 parameter_words [] = 0
 parameter_words (p ∷ ps) = held_words p.form p.kind p.length + parameter_words ps
 
--- the bytes of what a procedure declares: 4 for each word
-abbrev pub declared_bytes : ProcedureTree → ℕ
-declared_bytes p = 4 * (parameter_words p.parameters + block_words p.body)
+-- of a called procedure's parameters: an array is the caller's own
+abbrev pub passed_words : List ParameterTree → ℕ
+passed_words [] = 0
+passed_words (p ∷ ps) = (if is_word p.form then 1 else 0) + passed_words ps
 
--- the limits that a procedure passes, at its name
-abbrev pub size_violations : ProcedureTree → List Violation
-size_violations p =
-    at p.place (when (nat_lt MOST_NODES (nodes_of p)) InlinedSize
-    ++ when (nat_lt MOST_DECLARED_BYTES (declared_bytes p)) DeclaredBytes)
+-- the bytes of what a procedure declares: 4 for each word
+abbrev pub declared_bytes : Extents → ProcedureTree → ℕ
+declared_bytes extents p = 4 * (parameter_words p.parameters + block_words extents p.body)
+
+-- how many bodies are open at once in a called one
+abbrev pub bodies_of_called : Option Extent → ℕ
+bodies_of_called None = 0
+bodies_of_called (Some extent) = extent.bodies
+
+abbrev pub right_bodies : Extents → RightTree → ℕ
+right_bodies extents (called c) = bodies_of_called (extents c.name)
+right_bodies extents (computed e) = 0
+
+abbrev mutual
+  -- how many bodies are open at once in a statement
+  pub statement_bodies : Extents → StatementTree → ℕ
+  statement_bodies extents (declaration place label mutable kind text right) = right_bodies extents right
+  statement_bodies extents (array place label mutable kind length text values) = 0
+  statement_bodies extents (assignment place target text right) = right_bodies extents right
+  statement_bodies extents (element_assignment place bracket target text index right) = right_bodies extents right
+  statement_bodies extents (call c) = bodies_of_called (extents c.name)
+  statement_bodies extents (conditional place condition accepted otherwise) = max (block_bodies extents accepted) (block_bodies extents otherwise)
+  statement_bodies extents (loop place counter text low high body) = block_bodies extents body
+
+  pub block_bodies : Extents → BlockTree → ℕ
+  block_bodies extents nothing = 0
+  block_bodies extents (first statement rest) = max (statement_bodies extents statement) (block_bodies extents rest)
+
+-- in a procedure: its own body, and those in it
+abbrev pub bodies_of : Extents → ProcedureTree → ℕ
+bodies_of extents p = 1 + block_bodies extents p.body
+
+-- a procedure where it is called
+abbrev pub extent_of : Extents → ProcedureTree → Extent
+extent_of extents p = record {
+  parameters = p.parameters;
+  nodes = nodes_of extents p;
+  words = passed_words p.parameters + block_words extents p.body;
+  bodies = bodies_of extents p;
+}
+
+-- the procedures that may be called behind these
+abbrev pub extents_of : List ProcedureTree → Extents
+extents_of before = known_of extent_of before
+
+-- the limits that a procedure passes behind the earlier ones, at its name
+abbrev pub size_violations : List ProcedureTree → ProcedureTree → List Violation
+size_violations before p =
+    at p.place (when (nat_lt MOST_NODES (nodes_of (extents_of before) p) || nat_lt MOST_BODIES (bodies_of (extents_of before) p)) InlinedSize
+    ++ when (nat_lt MOST_DECLARED_BYTES (declared_bytes (extents_of before) p)) DeclaredBytes)

@@ -3,6 +3,9 @@
 /// The most nodes that a procedure may have, those of the bodies that it calls among them.
 pub const MOST_NODES: u32 = 6_000;
 
+/// The most bodies that may be open at once, each in the one that calls it, the export's among them.
+pub const MOST_BODIES: u32 = 64;
+
 /// The most bytes that a procedure may declare.
 pub const MOST_DECLARED_BYTES: u32 = 32_768;
 

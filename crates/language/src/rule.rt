@@ -37,11 +37,10 @@ pub enum Rule {
     DivisorMayBeZero,
     TooMuchWork,
     OutOfMemory,
-    NotCompiledYet,
 }
 
 /// Each rule's short code, and what it says in a few words, in the order of the rules.
-const ROWS: [(&str, &str); 31] = [
+const ROWS: [(&str, &str); 30] = [
     ("X1", "unknown character"),
     ("X2", "bad number"),
     ("X3", "unexpected token"),
@@ -72,7 +71,6 @@ const ROWS: [(&str, &str); 31] = [
     ("I2", "divisor may be 0"),
     ("S3", "work"),
     ("M1", "memory"),
-    ("U1", "not in this stage"),
 ];
 
 impl Rule {

@@ -1,3 +1,0 @@
-pub mod EarliestLemmas
-pub mod TreeLemmas
-pub mod CompiledLemmas

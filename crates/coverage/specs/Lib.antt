@@ -1,3 +1,0 @@
-pub mod NotCompiled
-pub mod Earliest
-pub mod Compiled
