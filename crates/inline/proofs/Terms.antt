@@ -239,7 +239,7 @@ module _ (scope : Scope) (names : Numbers) (types : Types) (n : ℕ) (linked : L
       record {
         kind = ap (λ (x : Numbered). x.declaration.word.kind) k.here;
         label = ap (λ (x : Numbered). x.declaration.word.label) k.here;
-        typed = flat.of_element (ap (λ (x : Numbered). types x.number) k.here ∙ (k.typed ∙ ap (λ (x : Numbered). Some (array_as own.element mutable (numbers_in x.declaration.elements))) (sym k.here))) i.typed;
+        typed = flat.of_element (ap (λ (x : Numbered). types x.number) k.here ∙ (k.typed ∙ ap (λ (x : Numbered). Some (array_as own.element k.free (numbers_in x.declaration.elements))) (sym k.here))) i.typed;
         value = λ s m shows.
             let v = value_in m (term names index) in
             let p = path_in m (term names index) in
