@@ -1,5 +1,7 @@
 pub mod Lookup
 pub mod Linked
+pub mod Chains
+pub mod KnownLemmas
 pub mod Comes
 pub mod Terms
 pub mod Parameters

@@ -1,5 +1,5 @@
 -- Names, their types and their numbers, as they go together.
-use Rattle.std.proofs.Common.{◌≡◌, ℕ, ◌+◌, ◌<◌, ◌≤◌, Bool, true, false, if◌then◌else◌, List, Option, Some, None, unwrap_or, refl, sym, ap, ap₂, ◌∙◌, ◌⊎◌, inl, inr, subst, arith, eq-eqb, ne_eqb}
+use Rattle.std.proofs.Common.{◌≡◌, ℕ, ◌+◌, ◌<◌, ◌≤◌, Bool, true, false, if◌then◌else◌, List, Option, Some, None, unwrap_or, refl, sym, ap, ap₂, ◌∙◌, true≢false, subst, arith, eq-eqb, ne_eqb}
 use Rattle.std.proofs.lemmas.Option.{none-some, same_Some}
 use Rattle.std.specs.Str.{bytes_eq}
 use lib.Pointwise.{bytes_decides}
@@ -31,25 +31,26 @@ variable_as d = record { value = value_as d.word d.elements; mutable = d.mutable
 abbrev pub entry : ℕ → FlatVariable → Numbered
 entry n d = record { number = n; declaration = d }
 
--- a variable, declared so
-abbrev pub whole : WordType → Bool → Option ℕ → FlatVariable
-whole word mutable elements = record { word = word; mutable = mutable; elements = elements }
+-- What a number is declared as serves where this is wanted: it is declared alike, and may be assigned to where that is. An array
+-- that may be assigned to may stand for a parameter that may not.
+pub record Serves (there : Option FlatVariable) (d : FlatVariable) : Type 0 where
+  pub free : Bool
+  pub is : there ≡ Some (record { word = d.word; mutable = free; elements = d.elements })
+  pub enough : d.mutable ≡ true → free ≡ true
 
--- A variable: its number, and what its name is declared as. Its number is declared alike, but for `mut`: an array that may be
--- assigned to may stand for a parameter that may not.
+pub serves_itself : (there : Option FlatVariable) (d : FlatVariable) → there ≡ Some d → Serves there d
+serves_itself there d is = record { free = d.mutable; is = is; enough = λ e. e }
+
+pub serves_alike : {there other : Option FlatVariable} {d : FlatVariable} → other ≡ there → Serves there d → Serves other d
+serves_alike same serves = record { free = serves.free; is = same ∙ serves.is; enough = serves.enough }
+
+-- a variable: its number, and what its name is declared as
 pub record Known (names : Numbers) (types : Types) (text : List ℕ) (v : VariableType) : Type 0 where
   pub number : ℕ
   pub declaration : FlatVariable
   pub numbered : found names text ≡ Some (entry number declaration)
   pub is : v ≡ variable_as declaration
-  pub free : Bool
-  pub may : declaration.mutable ≡ true → free ≡ true
-  pub typed : types number ≡ Some (whole declaration.word free declaration.elements)
-
--- two names of one array, which none of them may change
-pub record AreFixed (x y : Numbered) : Type 0 where
-  pub one : x.declaration.mutable ≡ false
-  pub other : y.declaration.mutable ≡ false
+  pub typed : Serves (types number) declaration
 
 -- the next number is n
 pub record Linked (scope : Scope) (names : Numbers) (types : Types) (n : ℕ) : Type 0 where
@@ -59,7 +60,7 @@ pub record Linked (scope : Scope) (names : Numbers) (types : Types) (n : ℕ) : 
   pub none : (text : List ℕ) → found scope text ≡ None → found names text ≡ None
   pub below : (text : List ℕ) (x : Numbered) → found names text ≡ Some x → x.number < n
   -- a number is that of two names only where neither may be assigned to
-  pub apart : (a b : List ℕ) (x y : Numbered) → found names a ≡ Some x → found names b ≡ Some y → x.number ≡ y.number → (a ≡ b) ⊎ AreFixed x y
+  pub apart : (a b : List ℕ) (x y : Numbered) → found names a ≡ Some x → found names b ≡ Some y → x.number ≡ y.number → x.declaration.mutable ≡ true → a ≡ b
   pub fresh : (x : ℕ) → n ≤ x → types x ≡ None
 
 -- further numbers are taken, by what no name stands for
@@ -68,7 +69,7 @@ widened scope names types others n m more same new linked = record {
   known = λ text v is.
       let k = linked.known text v is in
       let low = linked.below text (entry k.number k.declaration) k.numbered in
-      record { number = k.number; declaration = k.declaration; numbered = k.numbered; is = k.is; free = k.free; may = k.may; typed = same k.number low ∙ k.typed };
+      record { number = k.number; declaration = k.declaration; numbered = k.numbered; is = k.is; typed = serves_alike (same k.number low) k.typed };
   none = linked.none;
   below = λ text x is. let low = linked.below text x is in omega arith;
   apart = linked.apart;
@@ -89,8 +90,8 @@ same_variable v w e = cc
 
 -- A name for a number that is declared: for a new one, or for a caller's array.
 
-module _ (scope : Scope) (names : Numbers) (types : Types) (n : ℕ) (linked : Linked scope names types n) (text : List ℕ) (new : found scope text ≡ None) (number : ℕ) (own : FlatVariable) (free : Bool) (may : own.mutable ≡ true → free ≡ true)
-    (low : number < n) (typed : types number ≡ Some (whole own.word free own.elements)) (clear : (b : List ℕ) (y : Numbered) → found names b ≡ Some y → y.number ≡ number → AreFixed (entry number own) y) where
+module _ (scope : Scope) (names : Numbers) (types : Types) (n : ℕ) (linked : Linked scope names types n) (text : List ℕ) (new : found scope text ≡ None) (number : ℕ) (own : FlatVariable)
+    (low : number < n) (typed : Serves (types number) own) (clear : (b : List ℕ) (y : Numbered) → found names b ≡ Some y → y.number ≡ number → (own.mutable ≡ false) × (y.declaration.mutable ≡ false)) where
   after_scope : Scope
   after_scope = declared scope text (Variable (variable_as own))
 
@@ -114,8 +115,6 @@ module _ (scope : Scope) (names : Numbers) (types : Types) (n : ℕ) (linked : L
         declaration = own;
         numbered = found-new names text (entry number own) other e (linked.none text new);
         is = sym same;
-        free = free;
-        may = may;
         typed = typed;
       }
   known_by other w false e is =
@@ -125,8 +124,6 @@ module _ (scope : Scope) (names : Numbers) (types : Types) (n : ℕ) (linked : L
         declaration = old.declaration;
         numbered = found-other names text (entry number own) other e ∙ old.numbered;
         is = old.is;
-        free = old.free;
-        may = old.may;
         typed = old.typed;
       }
 
@@ -139,16 +136,17 @@ module _ (scope : Scope) (names : Numbers) (types : Types) (n : ℕ) (linked : L
   below_by other x true e is = let same = ap (λ (z : Numbered). z.number) (this_one other x e is) in omega (arith, same, low)
   below_by other x false e is = linked.below other x (old_one other x e is)
 
-  apart_by : (a b : List ℕ) (x y : Numbered) (s t : Bool) → bytes_eq a text ≡ s → bytes_eq b text ≡ t → found after_names a ≡ Some x → found after_names b ≡ Some y → x.number ≡ y.number → (a ≡ b) ⊎ AreFixed x y
-  apart_by a b x y true true d e is is' equal = inl ((bytes_decides a text).0 d ∙ sym ((bytes_decides b text).0 e))
-  apart_by a b x y true false d e is is' equal =
+  apart_by : (a b : List ℕ) (x y : Numbered) (s t : Bool) → bytes_eq a text ≡ s → bytes_eq b text ≡ t → found after_names a ≡ Some x → found after_names b ≡ Some y → x.number ≡ y.number → x.declaration.mutable ≡ true → a ≡ b
+  apart_by a b x y true true d e is is' equal free = (bytes_decides a text).0 d ∙ sym ((bytes_decides b text).0 e)
+  apart_by a b x y true false d e is is' equal free =
       let same = this_one a x d is in
-      inr (subst (λ z. AreFixed z y) same (clear b y (old_one b y e is') (sym equal ∙ ap (λ (z : Numbered). z.number) (sym same))))
-  apart_by a b x y false true d e is is' equal =
+      let fixed = (clear b y (old_one b y e is') (sym equal ∙ ap (λ (z : Numbered). z.number) (sym same))).0 in
+      absurd (true≢false (sym free ∙ (ap (λ (z : Numbered). z.declaration.mutable) (sym same) ∙ fixed)))
+  apart_by a b x y false true d e is is' equal free =
       let same = this_one b y e is' in
-      let fixed = subst (λ z. AreFixed z x) same (clear a x (old_one a x d is) (equal ∙ ap (λ (z : Numbered). z.number) (sym same))) in
-      inr (record { one = fixed.other; other = fixed.one })
-  apart_by a b x y false false d e is is' equal = linked.apart a b x y (old_one a x d is) (old_one b y e is') equal
+      let fixed = (clear a x (old_one a x d is) (equal ∙ ap (λ (z : Numbered). z.number) (sym same))).1 in
+      absurd (true≢false (sym free ∙ fixed))
+  apart_by a b x y false false d e is is' equal free = linked.apart a b x y (old_one a x d is) (old_one b y e is') equal free
 
   pub linked_named : Linked (declared scope text (Variable (variable_as own))) (naming names text number own) types n
   unfolding after_scope after_names
@@ -165,7 +163,7 @@ pub linked_declared : (scope : Scope) (names : Numbers) (types : Types) (n : ℕ
     → Linked (declared scope text (Variable (variable_as own))) (naming names text n own) (with_type types n own) (n + 1)
 linked_declared scope names types n linked text own new =
     let wide = widened scope names types (with_type types n own) n (n + 1) (omega arith) (λ x low. with_type-other types n x own (λ q. omega arith)) (λ x high. with_type-other types n x own (λ q. omega arith) ∙ linked.fresh x (omega arith)) linked in
-    linked_named scope names (with_type types n own) (n + 1) wide text new n own own.mutable (λ e. e) (omega arith) (with_type-same types n own)
+    linked_named scope names (with_type types n own) (n + 1) wide text new n own (omega arith) (serves_itself (with_type types n own n) own (with_type-same types n own))
     (λ b y is same. let low = linked.below b y is in absurd (omega (arith, low, same)))
 
 -- Variables that are known to be words or arrays.
@@ -174,20 +172,18 @@ linked_declared scope names types n linked text own new =
 pub record KnownAs (names : Numbers) (types : Types) (text : List ℕ) (d : FlatVariable) : Type 0 where
   pub number : ℕ
   pub found : found names text ≡ Some (entry number d)
-  pub free : Bool
-  pub may : d.mutable ≡ true → free ≡ true
-  pub typed : types number ≡ Some (whole d.word free d.elements)
+  pub typed : Serves (types number) d
   pub here : numbered names text ≡ entry number d
 
 as_word : (word : WordType) (mutable : Bool) (own : WordType) (free : Bool) (size : Option ℕ) → Word word ≡ value_as own size → mutable ≡ free
-    → whole own free size ≡ word_as word mutable
+    → record { word = own; mutable = free; elements = size } ≡ word_as word mutable
 as_word word mutable own free None e f =
     let same : own ≡ word = cc in
     ap₂ word_as same (sym f)
 as_word word mutable own free (Some size) e f = absurd cc
 
 as_array : (array : ArrayType) (mutable : Bool) (own : WordType) (free : Bool) (size : Option ℕ) → Array array ≡ value_as own size → mutable ≡ free
-    → whole own free size ≡ array_as array.element mutable array.length
+    → record { word = own; mutable = free; elements = size } ≡ array_as array.element mutable array.length
 as_array array mutable own free None e f = absurd cc
 as_array array mutable own free (Some size) e f =
     let same : record { element = own; length = size } ≡ array = cc in
@@ -200,8 +196,6 @@ module _ (scope : Scope) (names : Numbers) (types : Types) (n : ℕ) (linked : L
       subst (KnownAs names types text) (so k.declaration k.is) (record {
         number = k.number;
         found = k.numbered;
-        free = k.free;
-        may = k.may;
         typed = k.typed;
         here = ap (λ (o : Option Numbered). unwrap_or {T = Numbered} o (record { number = 0; declaration = word_as counter_type false })) k.numbered;
       })

@@ -118,7 +118,7 @@ where_begun scope none ps new = begins ps scope [] no_types 0 new (record {
   known = λ text v is. absurd (none text v is);
   none = λ text is. refl;
   below = λ text x is. absurd (none-some x is);
-  apart = λ a b x y is is' equal. absurd (none-some x is);
+  apart = λ a b x y is is' equal free. absurd (none-some x is);
   fresh = λ x high. refl;
 })
 
