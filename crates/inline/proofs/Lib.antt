@@ -2,6 +2,7 @@ pub mod Lookup
 pub mod Linked
 pub mod Chains
 pub mod KnownLemmas
+pub mod Procedures
 pub mod Comes
 pub mod Terms
 pub mod Parameters
