@@ -54,6 +54,34 @@ module _ {A : Type 0} (make : Known A → ProcedureTree → A) where
   pub known-none : (ps : List ProcedureTree) (text : List ℕ) → named [] ps text ≡ None → known_of make ps text ≡ None
   known-none ps text is = known-after [] ps text ∙ ap (option_map made) is
 
+-- What is true of all that is made, where each is made from such as it is true of.
+
+-- it is true of what is there
+abbrev pub OnSome : {A : Type 0} → (A → Type 0) → Option A → Type 0
+OnSome P None = Unit {0}
+OnSome P (Some a) = P a
+
+-- of each that is known
+abbrev pub AllKnown : {A : Type 0} → (A → Type 0) → Known A → Type 0
+AllKnown P known = (text : List ℕ) → OnSome P (known text)
+
+module _ {A : Type 0} (P : A → Type 0) (make : Known A → ProcedureTree → A) (true_of : (known : Known A) → AllKnown P known → (p : ProcedureTree) → P (make known p)) where
+  first-true : (a b : Option A) → OnSome P a → OnSome P b → OnSome P (first_known a b)
+  first-true (Some x) b one other = one
+  first-true None b one other = other
+
+  one-true : (b : Bool) (a : A) → P a → OnSome P (if b then Some a else None)
+  one-true true a is = is
+  one-true false a is = tt
+
+  from-true : (known : Known A) (ps : List ProcedureTree) → AllKnown P known → AllKnown P (known_from make known ps)
+  from-true known [] all = all
+  from-true known (p ∷ ps) all =
+      from-true (with_known known p.name (make known p)) ps (λ text. first-true (known text) _ (all text) (one-true (bytes_eq text p.name) (make known p) (true_of known all p)))
+
+  pub known-true : (ps : List ProcedureTree) → AllKnown P (known_of make ps)
+  known-true ps = from-true nothing_known ps (λ text. tt)
+
 -- One procedure more.
 
 pub named-kept : (before ps : List ProcedureTree) (p : ProcedureTree) (text : List ℕ) (found : Found) → named before ps text ≡ Some found → named before (ps ++ p ∷ []) text ≡ Some found

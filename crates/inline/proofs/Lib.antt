@@ -1,11 +1,13 @@
 pub mod Lookup
 pub mod Linked
-pub mod Chains
+pub mod ChainTypes
 pub mod KnownLemmas
 pub mod Procedures
 pub mod Comes
 pub mod Terms
 pub mod Parameters
+pub mod Begun
+pub mod Listed
 pub mod TypesKept
 pub mod Fitting
 pub mod FittingBodies
