@@ -3,6 +3,9 @@ pub mod Linked
 pub mod ChainTypes
 pub mod KnownLemmas
 pub mod Procedures
+pub mod CallTypes
+pub mod Hiding
+pub mod FlatTypes
 pub mod Comes
 pub mod Terms
 pub mod Parameters

@@ -158,12 +158,17 @@ module _ (scope : Scope) (names : Numbers) (types : Types) (n : ℕ) (linked : L
     fresh = linked.fresh;
   }
 
+-- a number that no name stands for
+pub linked_beside : (scope : Scope) (names : Numbers) (types : Types) (n : ℕ) (own : FlatVariable) → Linked scope names types n → Linked scope names (with_type types n own) (n + 1)
+linked_beside scope names types n own linked =
+    widened scope names types (with_type types n own) n (n + 1) (omega arith) (λ x low. with_type-other types n x own (λ q. omega arith))
+    (λ x high. with_type-other types n x own (λ q. omega arith) ∙ linked.fresh x (omega arith)) linked
+
 -- a declaration
 pub linked_declared : (scope : Scope) (names : Numbers) (types : Types) (n : ℕ) → Linked scope names types n → (text : List ℕ) (own : FlatVariable) → found scope text ≡ None
     → Linked (declared scope text (Variable (variable_as own))) (naming names text n own) (with_type types n own) (n + 1)
 linked_declared scope names types n linked text own new =
-    let wide = widened scope names types (with_type types n own) n (n + 1) (omega arith) (λ x low. with_type-other types n x own (λ q. omega arith)) (λ x high. with_type-other types n x own (λ q. omega arith) ∙ linked.fresh x (omega arith)) linked in
-    linked_named scope names (with_type types n own) (n + 1) wide text new n own (omega arith) (serves_itself (with_type types n own n) own (with_type-same types n own))
+    linked_named scope names (with_type types n own) (n + 1) (linked_beside scope names types n own linked) text new n own (omega arith) (serves_itself (with_type types n own n) own (with_type-same types n own))
     (λ b y is same. let low = linked.below b y is in absurd (omega (arith, low, same)))
 
 -- Variables that are known to be words or arrays.

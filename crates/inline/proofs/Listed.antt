@@ -103,7 +103,7 @@ passed_takes names n (p ∷ ps) (e ∷ es) = by_form (is_word p.form) (passed_ta
     by_form false one other = other
 
 module _ (names : Numbers) (es : List ExprTree) where
-  call_takes : (n : ℕ) (o : Option Callable) → OnSome IsCounted o → Takes n (call_block o names n es) (length (call_variables o es))
+  pub call_takes : (n : ℕ) (o : Option Callable) → OnSome IsCounted o → Takes n (call_block o names n es) (length (call_variables o es))
   call_takes n None is = record { numbered = tt; counted = refl }
   call_takes n (Some c) is =
       let words = passed_variables c.parameters es in
