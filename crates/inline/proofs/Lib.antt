@@ -6,6 +6,7 @@ pub mod Procedures
 pub mod CallTypes
 pub mod Hiding
 pub mod FlatTypes
+pub mod FlatPrograms
 pub mod Comes
 pub mod Terms
 pub mod Parameters

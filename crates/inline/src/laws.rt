@@ -1,16 +1,30 @@
 // The laws, which hold of the definitions alone.
 
-ghost use Rattle.std.specs.Prelude.{◌≡◌, List, Some};
+ghost use Rattle.std.specs.List.{AllByRecursion};
+ghost use Rattle.std.specs.Prelude.{◌≡◌, [], List, Some, length};
 ghost use Rattle.arguments.specs.Within.{AreWithin};
 ghost use Rattle.inline.specs.declared.flat.FlatVariable.{FlatVariable};
 ghost use Rattle.inline.specs.Fitting.{Fits, IsWithinKind};
 ghost use Rattle.inline.specs.Flat.{FlatBlock, FlatProgram, FlatTree, TermTree};
 ghost use Rattle.inline.specs.FlatMeaning.{Values, after, after_all, end_of, given, value_in};
 ghost use Rattle.inline.specs.FlatTyping.{AreTyped, HasType, IsTyped, IsTypedProgram, Suits, Types, end_types, parameter_types, types_after, types_after_all};
+ghost use Rattle.inline.specs.Numbering.{flattened};
 ghost use Rattle.language.specs.declared.signature.Label.{Label};
 ghost use Rattle.language.specs.declared.typing.WordType.{WordType};
 ghost use Rattle.language.specs.declared.values.Arg.{Arg};
+ghost use Rattle.language.specs.Grammatical.{IsGrammatical};
+ghost use Rattle.language.specs.Meaning.{exported};
+ghost use Rattle.language.specs.Tree.{ProcedureTree, ProgramTree};
+ghost use Rattle.language.specs.Typing.{violations};
 
+/// The export of a program that violates no rule is well typed once its names are numbers, with the bodies that it calls in it.
+pub fn flat_is_typed()
+    ensures { (program : ProgramTree) (before : List ProcedureTree) (p : ProcedureTree) → length (violations program) ≡ 0
+        → exported [] program.procedures ≡ Some (before, p) → AllByRecursion IsGrammatical before → IsGrammatical p
+        → IsTypedProgram (flattened before p) }
+{}
+
+/// Where each variable holds what it is declared as, each expression has a value of its own kind, and
 /// each well-typed statement leaves it so, also where it meets a fault.
 pub fn typed_values_fit()
     ensures value { (types : Types) (m : Values) (e : TermTree) (word : WordType) → Fits types m
