@@ -7,6 +7,8 @@ pub mod CallTypes
 pub mod Hiding
 pub mod FlatTypes
 pub mod FlatPrograms
+pub mod CallSizes
+pub mod FlatSizes
 pub mod Comes
 pub mod Terms
 pub mod Parameters

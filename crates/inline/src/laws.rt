@@ -7,6 +7,7 @@ ghost use Rattle.inline.specs.declared.flat.FlatVariable.{FlatVariable};
 ghost use Rattle.inline.specs.Fitting.{Fits, IsWithinKind};
 ghost use Rattle.inline.specs.Flat.{FlatBlock, FlatProgram, FlatTree, TermTree};
 ghost use Rattle.inline.specs.FlatMeaning.{Values, after, after_all, end_of, given, value_in};
+ghost use Rattle.inline.specs.FlatSize.{IsSized};
 ghost use Rattle.inline.specs.FlatTyping.{AreTyped, HasType, IsTyped, IsTypedProgram, Suits, Types, end_types, parameter_types, types_after, types_after_all};
 ghost use Rattle.inline.specs.Numbering.{flattened};
 ghost use Rattle.language.specs.declared.signature.Label.{Label};
@@ -14,6 +15,7 @@ ghost use Rattle.language.specs.declared.typing.WordType.{WordType};
 ghost use Rattle.language.specs.declared.values.Arg.{Arg};
 ghost use Rattle.language.specs.Grammatical.{IsGrammatical};
 ghost use Rattle.language.specs.Meaning.{exported};
+ghost use Rattle.language.specs.Size.{size_violations};
 ghost use Rattle.language.specs.Tree.{ProcedureTree, ProgramTree};
 ghost use Rattle.language.specs.Typing.{violations};
 
@@ -22,6 +24,13 @@ pub fn flat_is_typed()
     ensures { (program : ProgramTree) (before : List ProcedureTree) (p : ProcedureTree) → length (violations program) ≡ 0
         → exported [] program.procedures ≡ Some (before, p) → AllByRecursion IsGrammatical before → IsGrammatical p
         → IsTypedProgram (flattened before p) }
+{}
+
+/// And it keeps the limits on size, where the procedure passes none.
+pub fn flat_is_sized()
+    ensures { (program : ProgramTree) (before : List ProcedureTree) (p : ProcedureTree) → length (violations program) ≡ 0
+        → exported [] program.procedures ≡ Some (before, p) → AllByRecursion IsGrammatical before → IsGrammatical p
+        → length (size_violations before p) ≡ 0 → IsSized (flattened before p) }
 {}
 
 /// Where each variable holds what it is declared as, each expression has a value of its own kind, and
