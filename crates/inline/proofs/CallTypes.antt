@@ -1,16 +1,15 @@
 -- A call is well typed once its names are numbers: words are declared, and then comes the called body.
-use Rattle.std.proofs.Common.{◌≡◌, ℕ, suc, ◌+◌, Bool, true, false, if◌then◌else◌, List, [], ◌∷◌, ◌++◌, length, Option, Some, None, refl, sym, ap, ◌∙◌, subst, arith, slice_get}
+use Rattle.std.proofs.Common.{◌≡◌, ℕ, ◌+◌, Bool, true, false, if◌then◌else◌, List, [], ◌∷◌, length, Option, Some, None, refl, sym, ap, ◌∙◌, subst, arith}
 use Rattle.std.proofs.lemmas.Option.{none-some}
 use Rattle.inline.specs.declared.flat.FlatVariable.{FlatVariable}
 use Rattle.inline.specs.Flat.{TermTree, word_as, elements_by}
 use Rattle.inline.specs.Flat as flat
 use Rattle.inline.specs.FlatTyping.{Types, with_type, AreTyped, IsResult, Suits, types_after_all}
-use Rattle.inline.specs.Numbering.{Numbers, Callable, Callables, callable, callables, passed, passed_variables, own_variable, begun, call_block, call_variables, call_result, call_value, value_given, value_of, declared_in_all, names_after_all, block, term, dropped_block, dropped_variables}
+use Rattle.inline.specs.Numbering.{Numbers, Callable, callable, callables, passed, passed_variables, own_variable, begun, call_block, call_variables, call_result, call_value, value_given, value_of, declared_in_all, names_after_all, block, term, dropped_block, dropped_variables}
 use Rattle.language.specs.declared.signature.Form.{Form}
 use Rattle.language.specs.declared.signature.Form.TheVariants.{SingleWord, FixedArray, MutableArray}
 use Rattle.language.specs.declared.signature.Label.{Label}
 use Rattle.language.specs.declared.signature.Label.TheVariants.{Public, Secret}
-use Rattle.language.specs.declared.typing.Callee.{Callee}
 use Rattle.language.specs.declared.typing.Declared.TheVariants.{Procedure}
 use Rattle.language.specs.declared.typing.ValueType.{ValueType}
 use Rattle.language.specs.declared.typing.ValueType.TheVariants.{Word}
@@ -23,7 +22,7 @@ use Rattle.language.specs.Typing.{is_mutable, may_assign, calls_one, assigns_pub
 use Rattle.language.specs.WellTyped as rules
 use Rattle.language.specs.WellTyped.{labelled, AreNew, ArePassed, none_passed, one_passed, IsCall, of_procedure}
 use Rattle.names.specs.Scope.{found}
-use Rattle.inline.proofs.Begun.{WordGiven, word_given, enters, distinct_none}
+use Rattle.inline.proofs.Begun.{word_given, enters, distinct_none}
 use Rattle.inline.proofs.ChainTypes.{chain-types, chain-typed}
 use Rattle.inline.proofs.KnownLemmas.{known-named}
 use Rattle.inline.proofs.Linked.{Linked, linked_beside}

@@ -1,9 +1,9 @@
 -- A block and another behind it: what is known of both is known of the two.
-use Rattle.std.proofs.Common.{◌≡◌, ℕ, ◌+◌, ◌<◌, ◌≤◌, false, List, Some, None, refl, ap, ◌∙◌, subst, sym, arith}
+use Rattle.std.proofs.Common.{◌≡◌, ℕ, ◌+◌, ◌<◌, ◌≤◌, false, List, refl, ◌∙◌, subst, arith}
 use Rattle.inline.specs.declared.flat.FlatVariable.{FlatVariable}
 use Rattle.inline.specs.Flat.{FlatTree, declare, array, assign, put, hold, skip, branch, loop, FlatBlock, nothing, first, chain, word_as, array_as, counter_type}
-use Rattle.inline.specs.FlatSize.{tree_nodes, body_nodes}
-use Rattle.inline.specs.FlatTyping.{Types, IsTyped, AreTyped, types_after, types_after_all, declarations_in, declarations_in_all, IsNumbered, AreNumbered}
+use Rattle.inline.specs.FlatSize.{body_nodes}
+use Rattle.inline.specs.FlatTyping.{Types, AreTyped, types_after, types_after_all, declarations_in, declarations_in_all, IsNumbered, AreNumbered}
 use Rattle.language.specs.declared.signature.Label.{Label}
 use Rattle.inline.proofs.Linked.{with_type-other}
 

@@ -1,11 +1,11 @@
 -- The export of a program that violates no rule is a well-typed flat program.
-use Rattle.std.proofs.Common.{◌≡◌, ℕ, ◌+◌, ◌||◌, Bool, true, false, List, [], ◌∷◌, ◌++◌, length, map, take, Option, Some, None, refl, sym, ap, ◌∙◌, subst, arith}
+use Rattle.std.proofs.Common.{◌≡◌, ℕ, ◌+◌, false, List, [], ◌∷◌, ◌++◌, length, map, take, Option, Some, refl, sym, ap, ◌∙◌, subst, arith}
 use Rattle.std.proofs.Math.Seq.{take-append_seam}
 use Rattle.std.proofs.lemmas.List.{length-map}
 use Rattle.std.specs.List.{AllByRecursion}
 use Rattle.inline.specs.declared.flat.FlatVariable.{FlatVariable}
 use Rattle.inline.specs.FlatTyping.{Types, IsTypedProgram, AreNumbered, AreTyped, IsResult, parameter_types, types_after_all}
-use Rattle.inline.specs.Numbering.{Numbers, param_of, parameter_names, return_names, flattened, callables, block, declared_in_all, numbers_taken_all, names_after_all, value_of}
+use Rattle.inline.specs.Numbering.{Numbers, param_of, parameter_names, flattened, callables, block, declared_in_all, numbers_taken_all, names_after_all, value_of}
 use Rattle.language.specs.declared.signature.Label.{Label}
 use Rattle.language.specs.declared.signature.Label.TheVariants.{Public, Secret}
 use Rattle.language.specs.declared.typing.WordType.{WordType}

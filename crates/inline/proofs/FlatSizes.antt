@@ -1,14 +1,13 @@
 -- The body of a procedure within the limits on size is within them too, with the bodies that it calls in it.
-use Rattle.std.proofs.Common.{◌≡◌, ℕ, ◌+◌, ◌*◌, ◌≤◌, ◌||◌, Bool, true, false, nat_lt, List, [], ◌∷◌, ◌++◌, length, map, Option, None, Some, refl, sym, arith, length-append}
+use Rattle.std.proofs.Common.{◌≡◌, ℕ, ◌+◌, ◌*◌, ◌≤◌, ◌||◌, Bool, true, false, nat_lt, List, [], ◌∷◌, ◌++◌, length, map, Option, Some, refl, arith, length-append}
 use Rattle.std.proofs.lemmas.Bool.Decides.{nat_tests}
 use Rattle.std.proofs.lemmas.List.{length-map}
 use Rattle.std.specs.List.{AllByRecursion}
-use Rattle.inline.specs.declared.flat.FlatVariable.{FlatVariable}
 use Rattle.inline.specs.Flat.{chain, elements_by, word_as, array_as, counter_type}
 use Rattle.inline.specs.Flat as tree
 use Rattle.inline.specs.FlatSize as flat
 use Rattle.inline.specs.FlatSize.{term_nodes, body_nodes, value_nodes, words_by, declared_words, IsSized}
-use Rattle.inline.specs.Numbering.{Numbers, Callables, callables, call_block, call_variables, call_result, call_value, right_block, right_variables, right_end, right, value_given, dropped_block, dropped_variables, element_block, element_variables, declared_in, declared_in_all, numbers_taken, numbers_taken_all, naming, names_after, statement, block, single, term, number_of, size_of, param_of, parameter_names, return_names, flattened}
+use Rattle.inline.specs.Numbering.{Numbers, Callables, callables, call_block, call_variables, call_result, call_value, right_block, right_variables, right_end, right, value_given, dropped_block, dropped_variables, declared_in, declared_in_all, numbers_taken, numbers_taken_all, naming, names_after, statement, block, single, number_of, size_of, param_of, parameter_names, return_names, flattened}
 use Rattle.language.specs.declared.limits.TheConstants.{MOST_NODES, MOST_BODIES, MOST_DECLARED_BYTES}
 use Rattle.language.specs.declared.rule.Rule.{Rule}
 use Rattle.language.specs.declared.rule.Rule.TheVariants.{InlinedSize, DeclaredBytes}
@@ -21,16 +20,16 @@ use Rattle.language.specs.declared.typing.Violation.{Violation}
 use Rattle.language.specs.declared.typing.WordType.{WordType}
 use Rattle.language.specs.Grammatical.{HasLength, HasForm, IsGrammatical}
 use Rattle.language.specs.Meaning.{exported}
-use Rattle.language.specs.Size.{Extents, extents_of, nodes_in, right_nodes, right_words, return_nodes, statement_nodes, block_nodes, nodes_of, bodies_of, held_words, parameter_words, statement_words, block_words, declared_bytes, size_violations}
-use Rattle.language.specs.Tree.{ExprTree, RightTree, StatementTree, declaration, array, assignment, element_assignment, call, conditional, loop, BlockTree, ParameterTree, ProcedureTree, ProgramTree, ReturnTree, written}
+use Rattle.language.specs.Size.{Extents, extents_of, right_nodes, right_words, statement_nodes, block_nodes, nodes_of, bodies_of, held_words, parameter_words, statement_words, block_words, declared_bytes, size_violations}
+use Rattle.language.specs.Tree.{ExprTree, RightTree, StatementTree, element_assignment, BlockTree, ParameterTree, ProcedureTree, ProgramTree, ReturnTree, written}
 use Rattle.language.specs.Types.{Scope, when}
-use Rattle.language.specs.Typing.{body_scope, violations}
+use Rattle.language.specs.Typing.{violations}
 use Rattle.language.specs.WellTyped.{labelled, Gives, of_call, of_value, IsWellTyped, declares, declares_array, assigns, assigns_element, calls, chooses, repeats, AreWellTyped, no_statement, one_more, IsProcedure, Returns, nothing_returned, value_returned}
 use Rattle.word.specs.declared.place.Place.{Place}
 use Rattle.inline.proofs.CallSizes.{same_nodes, same_all, same_result, GoTogether, value_there, dropped_nodes, dropped_words, words-append, SizedBody, call_sized}
 use Rattle.inline.proofs.ChainTypes.{chain-nodes}
 use Rattle.inline.proofs.Parameters.{own, all_own}
-use Rattle.inline.proofs.Procedures.{Stand, Exported, IsWithin, own_typing, earlier_within, within_after, within_declared, within_parameters}
+use Rattle.inline.proofs.Procedures.{Stand, IsWithin, own_typing, earlier_within, within_after, within_declared, within_parameters}
 
 -- Limits.
 

@@ -1,9 +1,7 @@
 -- A well-typed statement is well typed once its names are numbers, under the control label of the source, and under secret
 -- control too where it assigns to nothing public.
-use Rattle.std.proofs.Common.{◌≡◌, ℕ, suc, ◌+◌, ◌||◌, Bool, false, true, List, [], ◌∷◌, ◌++◌, length, map, Option, Some, None, refl, sym, ap, ◌∙◌, subst, arith, length-append, true≢false}
+use Rattle.std.proofs.Common.{◌≡◌, ℕ, suc, ◌+◌, Bool, false, true, List, [], ◌∷◌, ◌++◌, length, map, Option, Some, None, refl, sym, ap, ◌∙◌, subst, arith, length-append}
 use Rattle.std.proofs.lemmas.List.{length-map}
-use Rattle.std.proofs.lemmas.Option.{same_Some}
-use Rattle.std.specs.Str.{bytes_eq}
 use Rattle.inline.specs.declared.flat.FlatVariable.{FlatVariable}
 use Rattle.inline.specs.declared.numbering.Numbered.{Numbered}
 use Rattle.inline.specs.Flat.{FlatBlock, chain, word_as, array_as, numbers_in}
@@ -11,8 +9,7 @@ use Rattle.inline.specs.Flat as tree
 use Rattle.inline.specs.FlatTyping.{Types, IsTyped, AreTyped, IsPut, Suits, types_after, types_after_all, with_type, counter_type}
 use Rattle.inline.specs.FlatTyping as flat
 use Rattle.inline.specs.Numbering.{Numbers, Callables, callables, call_block, call_variables, call_result, call_value, right_block, right_variables, right_end, right, value_given, element_block, element_variables, dropped_block, dropped_variables, statement, block, names_after, names_after_all, naming, number_of, size_of, declared_in, declared_in_all, numbers_taken, numbers_taken_all, term, single}
-use Rattle.language.specs.declared.signature.Kind.{Kind}
-use Rattle.language.specs.declared.signature.Kind.TheVariants.{Boolean, Uint32}
+use Rattle.language.specs.declared.signature.Kind.TheVariants.{Boolean}
 use Rattle.language.specs.declared.signature.Label.{Label}
 use Rattle.language.specs.declared.signature.Label.TheVariants.{Public, Secret}
 use Rattle.language.specs.declared.typing.ArrayType.{ArrayType}
@@ -21,16 +18,16 @@ use Rattle.language.specs.declared.typing.WordType.{WordType}
 use Rattle.language.specs.Grammatical.{AreSmall, AreAllSmall, AreSmallValues, IsSmallRight, IsPlain, ArePlain}
 use Rattle.language.specs.Tree.{ExprTree, RightTree, StatementTree, declaration, assignment, element_assignment, call, BlockTree, ProcedureTree, written}
 use Rattle.language.specs.Types.{Scope, joined}
-use Rattle.language.specs.Typing.{block_assigns, declared_as, declared_array, right_assigns, scope_after, scope_after_all, statement_assigns}
+use Rattle.language.specs.Typing.{block_assigns, right_assigns, scope_after, scope_after_all, statement_assigns}
 use Rattle.language.specs.WellTyped as rules
 use Rattle.language.specs.WellTyped.{labelled, IsVariable, FlowsTo, public_flows, secret_flows, Gives, of_call, of_value, IsWellTyped, declares, declares_array, assigns, assigns_element, calls, chooses, repeats, AreWellTyped, no_statement, one_more}
 use Rattle.word.specs.declared.place.Place.{Place}
-use Rattle.inline.proofs.CallTypes.{TypedBody, CallFits, call_fits, result_suits, dropped_typed}
+use Rattle.inline.proofs.CallTypes.{TypedBody, call_fits, result_suits, dropped_typed}
 use Rattle.inline.proofs.ChainTypes.{chain-types, chain-typed, types_before}
 use Rattle.inline.proofs.Hiding.{Hides, hides_after, hides_counter, either_false}
 use Rattle.inline.proofs.KnownLemmas.{AllKnown}
 use Rattle.inline.proofs.Linked.{Linked, Serves, KnownAs, linked_beside, linked_declared, known_word, known_array, later, with_type-same}
-use Rattle.inline.proofs.Listed.{Lists, Takes, IsCounted, call_takes, right_takes, statement_takes, block_takes, passed_over, all_counted, lists_first, lists_left, lists_right}
+use Rattle.inline.proofs.Listed.{Lists, IsCounted, call_takes, right_takes, statement_takes, passed_over, all_counted, lists_first, lists_left, lists_right}
 use Rattle.inline.proofs.Procedures.{Stand, IsWithin, within_after, within_declared}
 use Rattle.inline.proofs.Terms.{means, suits_there}
 
@@ -237,9 +234,11 @@ module _ (earlier : List ProcedureTree) where
           let value = call_value o names n c.arguments in
           let m = n + length vars in
           let f = call_fits earlier at stand is within outer (λ e. (hush e).1) all names types n linked plain (lists_left all n vars dropped lists) in
-          let there = passed_over scope names types n body (length vars) (call_takes names c.arguments n o (counted c.name)) linked in
-          (tt, chain-typed all types (joined outer control) body (dropped_block m (call_result o) value) f.typed
-          (dropped_typed all (types_after_all types body) (joined outer control) m (call_result o) value (there.fresh m (omega arith)) (lists_right all n vars dropped lists) f.result))
+          let there = passed_over scope names types n body (length vars) (call_takes names c.arguments n o (counted c.name)) linked in (
+            tt,
+            chain-typed all types (joined outer control) body (dropped_block m (call_result o) value) f.typed
+                (dropped_typed all (types_after_all types body) (joined outer control) m (call_result o) value (there.fresh m (omega arith)) (lists_right all n vars dropped lists) f.result),
+          )
       typed_statement (chooses {scope = scope} {control = control} {condition = condition} {accepted = accepted} {otherwise = otherwise} {label = label} has one other) within hush names types n linked plain lists =
           let m = n + numbers_taken_all known accepted in
           let c = means scope names types n linked has plain.0 in
@@ -249,7 +248,7 @@ module _ (earlier : List ProcedureTree) where
           let swap = joined-swap outer label control in
           let arms = subst (λ k. AreTyped all types k (block known names n accepted) × AreTyped all types k (block known names m otherwise)) swap (a, b) in (
             subst (λ l. flat.HasType types (term names condition) (labelled Boolean l) × AreTyped all types (joined l (joined outer control)) (block known names n accepted) × AreTyped all types (joined l (joined outer control)) (block known names m otherwise))
-            (sym c.label) (c.typed, arms.0, arms.1),
+                (sym c.label) (c.typed, arms.0, arms.1),
             tt,
           )
       typed_statement (repeats {scope = scope} {text = text} {body = body} low high new inner) within hush names types n linked plain lists =
@@ -259,7 +258,7 @@ module _ (earlier : List ProcedureTree) where
               (means scope names types n linked high plain.1).typed,
               record { new = linked.fresh n (omega arith); listed = lists_first all n own (declared_in_all known body) lists },
               typed_block inner (within_declared earlier at scope text _ new within) (λ e. (hides_counter scope text new (hush e).0, (hush e).1)) (naming names text n own) (with_type types n own) (n + 1) (linked_declared scope names types n linked text own new) plain.2
-              (lists_right all n (own ∷ []) (declared_in_all known body) lists),
+                  (lists_right all n (own ∷ []) (declared_in_all known body) lists),
             ),
             tt,
           )

@@ -1,16 +1,15 @@
 -- A scope in which nothing public may be assigned to.
-use Rattle.std.proofs.Common.{◌≡◌, ℕ, Bool, true, false, not, ◌&&◌, ◌||◌, List, [], ◌∷◌, Some, None, refl, sym, ap, ◌∙◌, subst, true≢false}
+use Rattle.std.proofs.Common.{◌≡◌, ℕ, Bool, true, false, ◌||◌, List, Some, None, refl, sym, ◌∙◌, subst, true≢false}
 use Rattle.std.specs.Str.{bytes_eq}
 use Rattle.language.specs.declared.signature.Form.{Form}
 use Rattle.language.specs.declared.signature.Form.TheVariants.{SingleWord, FixedArray, MutableArray}
 use Rattle.language.specs.declared.signature.Label.{Label}
 use Rattle.language.specs.declared.signature.Label.TheVariants.{Public, Secret}
 use Rattle.language.specs.declared.typing.Declared.TheVariants.{Variable}
-use Rattle.language.specs.declared.typing.ValueType.{ValueType}
 use Rattle.language.specs.declared.typing.VariableType.{VariableType}
 use Rattle.language.specs.Tree.{ParameterTree, ProcedureTree, StatementTree}
-use Rattle.language.specs.Types.{Scope, is_secret, label_of}
-use Rattle.language.specs.Typing.{is_mutable, is_public_mutable, counter_as, parameter_as, parameter_value, parameters_assign, right_assigns, scope_after, statement_assigns, with_parameters}
+use Rattle.language.specs.Types.{Scope, label_of}
+use Rattle.language.specs.Typing.{is_mutable, is_public_mutable, counter_as, parameter_value, parameters_assign, right_assigns, scope_after, statement_assigns, with_parameters}
 use Rattle.language.specs.WellTyped.{IsWellTyped, declares, declares_array, assigns, assigns_element, calls, chooses, repeats, AreNew, no_parameter, one_is_new}
 use Rattle.names.specs.Scope.{found, declared}
 use Rattle.inline.proofs.Linked.{same_variable}
