@@ -214,6 +214,7 @@ flat_is_sized program before p h is earlier plain small =
     let bytes = few.1 in
     record {
       lengths = have_lengths p.parameters plain.parameters;
+      parameters = omega (arith, taken, bytes);
       declared = omega (arith, sum, taken, words, most, bytes);
       counted = omega (arith, nodes, value);
       nodes = most;
