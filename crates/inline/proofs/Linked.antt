@@ -31,13 +31,26 @@ variable_as d = record { value = value_as d.word d.elements; mutable = d.mutable
 abbrev pub entry : ℕ → FlatVariable → Numbered
 entry n d = record { number = n; declaration = d }
 
+-- A number that is declared so serves where this is wanted: the word and the elements are the same, and it may be assigned to
+-- where that may be. The array that is given for a parameter may be mutable where the parameter is not.
+pub record Serves (there : Option FlatVariable) (d : FlatVariable) : Type 0 where
+  pub free : Bool
+  pub is : there ≡ Some (record { word = d.word; mutable = free; elements = d.elements })
+  pub enough : d.mutable ≡ true → free ≡ true
+
+pub serves_itself : (there : Option FlatVariable) (d : FlatVariable) → there ≡ Some d → Serves there d
+serves_itself there d is = record { free = d.mutable; is = is; enough = λ e. e }
+
+pub serves_alike : {there other : Option FlatVariable} {d : FlatVariable} → other ≡ there → Serves there d → Serves other d
+serves_alike same serves = record { free = serves.free; is = same ∙ serves.is; enough = serves.enough }
+
 -- a variable: its number, and what it is declared as
 pub record Known (names : Numbers) (types : Types) (text : List ℕ) (v : VariableType) : Type 0 where
   pub number : ℕ
   pub declaration : FlatVariable
   pub numbered : found names text ≡ Some (entry number declaration)
   pub is : v ≡ variable_as declaration
-  pub typed : types number ≡ Some declaration
+  pub typed : Serves (types number) declaration
 
 -- the next number is n
 pub record Linked (scope : Scope) (names : Numbers) (types : Types) (n : ℕ) : Type 0 where
@@ -46,8 +59,8 @@ pub record Linked (scope : Scope) (names : Numbers) (types : Types) (n : ℕ) : 
   -- only what is in scope has a number
   pub none : (text : List ℕ) → found scope text ≡ None → found names text ≡ None
   pub below : (text : List ℕ) (x : Numbered) → found names text ≡ Some x → x.number < n
-  -- no number is that of two names
-  pub apart : (a b : List ℕ) (x y : Numbered) → found names a ≡ Some x → found names b ≡ Some y → x.number ≡ y.number → a ≡ b
+  -- the number of a name that may be assigned to is that of no other name
+  pub apart : (a b : List ℕ) (x y : Numbered) → found names a ≡ Some x → found names b ≡ Some y → x.number ≡ y.number → x.declaration.mutable ≡ true → a ≡ b
   pub fresh : (x : ℕ) → n ≤ x → types x ≡ None
 
 pub later : (scope : Scope) (names : Numbers) (types : Types) (n m : ℕ) → n ≤ m → Linked scope names types n → Linked scope names types m
@@ -89,7 +102,7 @@ module _ (scope : Scope) (names : Numbers) (types : Types) (n : ℕ) (linked : L
         declaration = own;
         numbered = found-new names text (entry n own) other e (linked.none text new);
         is = sym same;
-        typed = with_type-same types n own;
+        typed = serves_itself (after_types n) own (with_type-same types n own);
       }
   known_by other w false e is =
       let old = linked.known other w (sym (found-other scope text (Variable (variable_as own)) other e) ∙ is) in
@@ -99,7 +112,7 @@ module _ (scope : Scope) (names : Numbers) (types : Types) (n : ℕ) (linked : L
         declaration = old.declaration;
         numbered = found-other names text (entry n own) other e ∙ old.numbered;
         is = old.is;
-        typed = with_type-other types n old.number own (λ q. omega arith) ∙ old.typed;
+        typed = serves_alike (with_type-other types n old.number own (λ q. omega arith)) old.typed;
       }
 
   none_by : (other : List ℕ) (b : Bool) → bytes_eq other text ≡ b → found after_scope other ≡ None → found after_names other ≡ None
@@ -112,19 +125,19 @@ module _ (scope : Scope) (names : Numbers) (types : Types) (n : ℕ) (linked : L
   below_by other x true e is = let same = ap (λ (z : Numbered). z.number) (same_Some (entry n own) x (sym (found-new names text (entry n own) other e (linked.none text new)) ∙ is)) in omega arith
   below_by other x false e is = let low = linked.below other x (sym (found-other names text (entry n own) other e) ∙ is) in omega arith
 
-  apart_by : (a b : List ℕ) (x y : Numbered) (s t : Bool) → bytes_eq a text ≡ s → bytes_eq b text ≡ t → found after_names a ≡ Some x → found after_names b ≡ Some y → x.number ≡ y.number → a ≡ b
+  apart_by : (a b : List ℕ) (x y : Numbered) (s t : Bool) → bytes_eq a text ≡ s → bytes_eq b text ≡ t → found after_names a ≡ Some x → found after_names b ≡ Some y → x.number ≡ y.number → x.declaration.mutable ≡ true → a ≡ b
   unfolding after_names
-  apart_by a b x y true true d e is is' equal = (bytes_decides a text).0 d ∙ sym ((bytes_decides b text).0 e)
-  apart_by a b x y true false d e is is' equal =
+  apart_by a b x y true true d e is is' equal free = (bytes_decides a text).0 d ∙ sym ((bytes_decides b text).0 e)
+  apart_by a b x y true false d e is is' equal free =
       let same = ap (λ (z : Numbered). z.number) (same_Some (entry n own) x (sym (found-new names text (entry n own) a d (linked.none text new)) ∙ is)) in
       let low = linked.below b y (sym (found-other names text (entry n own) b e) ∙ is') in
       absurd (omega arith)
-  apart_by a b x y false true d e is is' equal =
+  apart_by a b x y false true d e is is' equal free =
       let same = ap (λ (z : Numbered). z.number) (same_Some (entry n own) y (sym (found-new names text (entry n own) b e (linked.none text new)) ∙ is')) in
       let low = linked.below a x (sym (found-other names text (entry n own) a d) ∙ is) in
       absurd (omega arith)
-  apart_by a b x y false false d e is is' equal =
-      linked.apart a b x y (sym (found-other names text (entry n own) a d) ∙ is) (sym (found-other names text (entry n own) b e) ∙ is') equal
+  apart_by a b x y false false d e is is' equal free =
+      linked.apart a b x y (sym (found-other names text (entry n own) a d) ∙ is) (sym (found-other names text (entry n own) b e) ∙ is') equal free
 
   pub linked_declared : Linked (declared scope text (Variable (variable_as own))) (naming names text n own) (with_type types n own) (n + 1)
   unfolding after_scope after_names after_types
@@ -142,7 +155,7 @@ module _ (scope : Scope) (names : Numbers) (types : Types) (n : ℕ) (linked : L
 pub record KnownAs (names : Numbers) (types : Types) (text : List ℕ) (d : FlatVariable) : Type 0 where
   pub number : ℕ
   pub found : found names text ≡ Some (entry number d)
-  pub typed : types number ≡ Some d
+  pub typed : Serves (types number) d
   pub here : numbered names text ≡ entry number d
 
 abbrev whole : WordType → Bool → Option ℕ → FlatVariable

@@ -26,7 +26,7 @@ use Rattle.language.specs.Types.{Scope}
 use Rattle.language.specs.Typing.{with_parameters, parameter_as, parameter_value, is_mutable}
 use Rattle.language.specs.WellTyped.{AreNew, one_is_new}
 use Rattle.inline.proofs.Lookup.{found-new, found-other, found-kept}
-use Rattle.inline.proofs.Linked.{Linked, entry, value_as, variable_as, linked_declared, with_type-same, with_type-other}
+use Rattle.inline.proofs.Linked.{Linked, entry, serves_alike, value_as, variable_as, linked_declared, with_type-same, with_type-other}
 use Rattle.inline.proofs.Terms.{held, Holds, Shows}
 
 -- what a parameter is declared as
@@ -109,7 +109,7 @@ retyped : (scope : Scope) (names : Numbers) (types others : Types) (n : ℕ) →
 retyped scope names types others n same linked = record {
   known = λ text v is.
       let k = linked.known text v is in
-      record { number = k.number; declaration = k.declaration; numbered = k.numbered; is = k.is; typed = sym (same k.number) ∙ k.typed };
+      record { number = k.number; declaration = k.declaration; numbered = k.numbered; is = k.is; typed = serves_alike (sym (same k.number)) k.typed };
   none = linked.none;
   below = linked.below;
   apart = linked.apart;
@@ -125,7 +125,7 @@ where_begun scope none ps new = begins ps scope [] no_types 0 new (record {
   known = λ text v is. absurd (none text v is);
   none = λ text is. refl;
   below = λ text x is. absurd (none-some x is);
-  apart = λ a b x y is is' equal. absurd (none-some x is);
+  apart = λ a b x y is is' equal free. absurd (none-some x is);
   fresh = λ x high. refl;
 })
 

@@ -147,7 +147,7 @@ module _ (scope : Scope) (names : Numbers) (types : Types) (n : ℕ) (linked : L
       record {
         kind = ap (λ (x : Numbered). x.declaration.word.kind) k.here;
         label = ap (λ (x : Numbered). x.declaration.word.label) k.here;
-        typed = flat.of_variable (ap (λ (x : Numbered). types x.number) k.here ∙ k.typed);
+        typed = flat.of_variable (ap (λ (x : Numbered). types x.number) k.here ∙ k.typed.is);
         value = λ s m shows.
             with_none s (name place text) _ refl
             (ap (λ o. gives (word_held o)) (shows text _ k.found).is ∙ ap (λ (x : Numbered). gives (word_at word.kind (slice_index (m x.number) 0))) (sym k.here));
@@ -239,7 +239,7 @@ module _ (scope : Scope) (names : Numbers) (types : Types) (n : ℕ) (linked : L
       record {
         kind = ap (λ (x : Numbered). x.declaration.word.kind) k.here;
         label = ap (λ (x : Numbered). x.declaration.word.label) k.here;
-        typed = flat.of_element (ap (λ (x : Numbered). types x.number) k.here ∙ (k.typed ∙ ap (λ (x : Numbered). Some (array_as own.element mutable (numbers_in x.declaration.elements))) (sym k.here))) i.typed;
+        typed = flat.of_element (ap (λ (x : Numbered). types x.number) k.here ∙ (k.typed.is ∙ ap (λ (x : Numbered). Some (array_as own.element k.typed.free (numbers_in x.declaration.elements))) (sym k.here))) i.typed;
         value = λ s m shows.
             let v = value_in m (term names index) in
             let p = path_in m (term names index) in
