@@ -1,8 +1,11 @@
 pub mod Lookup
 pub mod Linked
 pub mod Comes
+pub mod Chains
 pub mod Terms
+pub mod States
 pub mod Parameters
+pub mod Called
 pub mod TypesKept
 pub mod Fitting
 pub mod FittingBodies

@@ -1,5 +1,7 @@
-use Rattle.inline.proofs.Parameters.{linked_parameters}
+use Rattle.inline.proofs.Chains.{fault_chain}
+use Rattle.inline.proofs.States.{shows_before}
+use Rattle.inline.proofs.Called.{ready_later}
 use Rattle.inline.proofs.laws.flat_keeps_meaning.Goals as goal
 
 pub returns : goal.returns
-returns c = linked_parameters
+returns c = fault_chain
