@@ -5,6 +5,7 @@ pub mod Chains
 pub mod Terms
 pub mod States
 pub mod Parameters
+pub mod Begun
 pub mod Called
 pub mod TypesKept
 pub mod Fitting

@@ -42,7 +42,7 @@ value_same p SingleWord = refl
 value_same p FixedArray = refl
 value_same p MutableArray = refl
 
-parameter_same : (p : ParameterTree) → Variable (variable_as (own p)) ≡ parameter_as p
+pub parameter_same : (p : ParameterTree) → Variable (variable_as (own p)) ≡ parameter_as p
 parameter_same p = ap (λ v. Variable (record { value = v; mutable = is_mutable p.form })) (sym (value_same p p.form))
 
 -- Numbers.
@@ -66,7 +66,7 @@ pub record Begins (scope : Scope) (names : Numbers) (types : Types) (n : ℕ) (p
   pub linked : Linked (with_parameters scope ps) (numbering.with_parameters names n ps) (typed_with types n (all_own ps)) (n + length ps)
   pub named : Named (numbering.with_parameters names n ps) n ps
 
-itself : (text : List ℕ) → bytes_eq text text ≡ true
+pub itself : (text : List ℕ) → bytes_eq text text ≡ true
 itself text = (bytes_decides text text).1 refl
 
 begins : (ps : List ParameterTree) (scope : Scope) (names : Numbers) (types : Types) (n : ℕ) → AreNew scope ps → Linked scope names types n → Begins scope names types n ps
