@@ -6,6 +6,7 @@ pub mod Terms
 pub mod States
 pub mod Parameters
 pub mod Begun
+pub mod Passing
 pub mod Called
 pub mod TypesKept
 pub mod Fitting
