@@ -8,6 +8,7 @@ pub mod Parameters
 pub mod Begun
 pub mod Passing
 pub mod Called
+pub mod Copied
 pub mod TypesKept
 pub mod Fitting
 pub mod FittingBodies

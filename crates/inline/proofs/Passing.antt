@@ -46,10 +46,10 @@ passed_keeps names (p ∷ ps) (e ∷ es) n x low m = by_form (is_word p.form)
     by_form true one other = one
     by_form false one other = other
 
-held_by_name : (s : State) (text other : List ℕ) (v : Option Value) (w : Value) → v ≡ Some w → bytes_eq other text ≡ true → with_some s text v other ≡ Some w
+pub held_by_name : (s : State) (text other : List ℕ) (v : Option Value) (w : Value) → v ≡ Some w → bytes_eq other text ≡ true → with_some s text v other ≡ Some w
 held_by_name s text other v w is e = ap (λ o. with_some s text o other) is ∙ ap (λ b. if b then Some w else s other) e
 
-held_by_other : (s : State) (text other : List ℕ) (v : Option Value) → bytes_eq other text ≡ false → with_some s text v other ≡ s other
+pub held_by_other : (s : State) (text other : List ℕ) (v : Option Value) → bytes_eq other text ≡ false → with_some s text v other ≡ s other
 held_by_other s text other None e = refl
 held_by_other s text other (Some w) e = ap (λ b. if b then Some w else s other) e
 
