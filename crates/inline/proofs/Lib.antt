@@ -7,8 +7,10 @@ pub mod States
 pub mod Parameters
 pub mod Begun
 pub mod Passing
+pub mod CallableNames
 pub mod Called
 pub mod Copied
+pub mod Calls
 pub mod TypesKept
 pub mod Fitting
 pub mod FittingBodies

@@ -1,5 +1,5 @@
-use Rattle.inline.proofs.Copied.{copied}
+use Rattle.inline.proofs.Calls.{call_means}
 use Rattle.inline.proofs.laws.flat_keeps_meaning.Goals as goal
 
 pub returns : goal.returns
-returns c = copied
+returns c = call_means
