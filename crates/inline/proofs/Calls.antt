@@ -27,7 +27,7 @@ use Rattle.inline.proofs.Called.{Agrees, Spares, Behaves, Meant, Ready}
 use Rattle.inline.proofs.Chains.{after_chain, fault_chain}
 use Rattle.inline.proofs.Comes.{Comes, then_comes, also, either-assoc}
 use Rattle.inline.proofs.Copied.{Changes, changes_or_not, mutable_begun, spares_begun, copied}
-use Rattle.inline.proofs.CallableNames.{known_named}
+use Rattle.inline.proofs.KnownLemmas.{known-named}
 use Rattle.inline.proofs.Linked.{Linked}
 use Rattle.inline.proofs.Parameters.{NoVariables, typed_with}
 use Rattle.inline.proofs.Passing.{passed_keeps, passed_comes}
@@ -102,7 +102,7 @@ module _ (earlier : List ProcedureTree) (scope : Scope) (names : Numbers) (n : �
     own_callable = callable (callables meant.before) p
 
     known_call : callables earlier c.name ≡ Some own_callable
-    known_call = known_named callable earlier meant.before p c.name meant.named
+    known_call = known-named callable earlier meant.before p c.name meant.named
 
     own_ends : (s : State) (m : Values) → Shows names s m → AreAllSmall c.arguments → CallEnds (Some own_callable) s m
     own_ends s m shows small =
@@ -147,6 +147,11 @@ module _ (earlier : List ProcedureTree) (scope : Scope) (names : Numbers) (n : �
         ap (λ o. after_all m (call_block o names n c.arguments) x) known_call
         ∙ (ap (λ (end : Values). end x) (after_chain passed_block body_block m) ∙ body_kept x spares.below (no_change scope passed_are names ready.types n x ready.linked spares) m)
 
+    nothing_here : call_result (callables earlier c.name) ≡ None → call_value (callables earlier c.name) names n c.arguments ≡ None
+    nothing_here none =
+        ap (λ o. call_value o names n c.arguments) known_call
+        ∙ ap (λ o. value_of (names_after_all (callables meant.before) own start p.body) o) (meant.behaves.returns (sym result_here ∙ none))
+
   -- what is known of each call
   pub record CallMeans (c : CallTree) (type : ValueType) : Type 0 where
     pub result : result_value (call_result (callables earlier c.name)) ≡ type
@@ -155,6 +160,7 @@ module _ (earlier : List ProcedureTree) (scope : Scope) (names : Numbers) (n : �
         let value = call_value (callables earlier c.name) names n c.arguments in
         let end = after_all m tree in
         Comes (Calls earlier s c) (Agrees names end (call_result (callables earlier c.name)) value) (either (first_fault (path_along m tree)) (first_fault (path_of_result end value))))
+    pub nothing : call_result (callables earlier c.name) ≡ None → call_value (callables earlier c.name) names n c.arguments ≡ None
     pub keeps : (x : ℕ) → Spares names n x → (m : Values) → after_all m (call_block (callables earlier c.name) names n c.arguments) x ≡ m x
 
   pub call_means : {control : Label} {c : CallTree} {type : ValueType} → IsCall earlier scope control c type → CallMeans c type
@@ -163,5 +169,6 @@ module _ (earlier : List ProcedureTree) (scope : Scope) (names : Numbers) (n : �
       record {
         result = ap result_value (result_here c p meant are);
         comes = call_ends_here c p meant are;
+        nothing = nothing_here c p meant are;
         keeps = call_keeps_here c p meant are;
       }

@@ -5,12 +5,14 @@ pub mod Chains
 pub mod Terms
 pub mod States
 pub mod Parameters
+pub mod KnownLemmas
+pub mod Procedures
 pub mod Begun
 pub mod Passing
-pub mod CallableNames
 pub mod Called
 pub mod Copied
 pub mod Calls
+pub mod Rights
 pub mod TypesKept
 pub mod Fitting
 pub mod FittingBodies

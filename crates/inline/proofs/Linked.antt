@@ -1,5 +1,5 @@
 -- Names, their types and their numbers, as they go together.
-use Rattle.std.proofs.Common.{◌≡◌, ℕ, ◌+◌, ◌<◌, ◌≤◌, Bool, true, false, if◌then◌else◌, List, Option, Some, None, unwrap_or, refl, sym, ap, ap₂, ◌∙◌, subst, arith, eq-eqb, ne_eqb}
+use Rattle.std.proofs.Common.{◌≡◌, ℕ, ◌+◌, ◌<◌, ◌≤◌, Bool, true, false, if◌then◌else◌, List, Option, Some, None, unwrap_or, refl, sym, ap, ap₂, ◌∙◌, true≢false, subst, arith, eq-eqb, ne_eqb}
 use Rattle.std.proofs.lemmas.Option.{none-some, same_Some}
 use Rattle.std.specs.Str.{bytes_eq}
 use lib.Pointwise.{bytes_decides}
@@ -31,8 +31,8 @@ variable_as d = record { value = value_as d.word d.elements; mutable = d.mutable
 abbrev pub entry : ℕ → FlatVariable → Numbered
 entry n d = record { number = n; declaration = d }
 
--- A number that is declared so serves where this is wanted: the word and the elements are the same, and it may be assigned to
--- where that may be. The array that is given for a parameter may be mutable where the parameter is not.
+-- What a number is declared as serves where this is wanted: it is declared alike, and may be assigned to where that is. An array
+-- that may be assigned to may stand for a parameter that may not.
 pub record Serves (there : Option FlatVariable) (d : FlatVariable) : Type 0 where
   pub free : Bool
   pub is : there ≡ Some (record { word = d.word; mutable = free; elements = d.elements })
@@ -44,7 +44,7 @@ serves_itself there d is = record { free = d.mutable; is = is; enough = λ e. e 
 pub serves_alike : {there other : Option FlatVariable} {d : FlatVariable} → other ≡ there → Serves there d → Serves other d
 serves_alike same serves = record { free = serves.free; is = same ∙ serves.is; enough = serves.enough }
 
--- a variable: its number, and what it is declared as
+-- a variable: its number, and what its name is declared as
 pub record Known (names : Numbers) (types : Types) (text : List ℕ) (v : VariableType) : Type 0 where
   pub number : ℕ
   pub declaration : FlatVariable
@@ -59,18 +59,25 @@ pub record Linked (scope : Scope) (names : Numbers) (types : Types) (n : ℕ) : 
   -- only what is in scope has a number
   pub none : (text : List ℕ) → found scope text ≡ None → found names text ≡ None
   pub below : (text : List ℕ) (x : Numbered) → found names text ≡ Some x → x.number < n
-  -- the number of a name that may be assigned to is that of no other name
+  -- a number is that of two names only where neither may be assigned to
   pub apart : (a b : List ℕ) (x y : Numbered) → found names a ≡ Some x → found names b ≡ Some y → x.number ≡ y.number → x.declaration.mutable ≡ true → a ≡ b
   pub fresh : (x : ℕ) → n ≤ x → types x ≡ None
 
-pub later : (scope : Scope) (names : Numbers) (types : Types) (n m : ℕ) → n ≤ m → Linked scope names types n → Linked scope names types m
-later scope names types n m more linked = record {
-  known = linked.known;
+-- further numbers are taken, by what no name stands for
+pub widened : (scope : Scope) (names : Numbers) (types others : Types) (n m : ℕ) → n ≤ m → ((x : ℕ) → x < n → others x ≡ types x) → ((x : ℕ) → m ≤ x → others x ≡ None) → Linked scope names types n → Linked scope names others m
+widened scope names types others n m more same new linked = record {
+  known = λ text v is.
+      let k = linked.known text v is in
+      let low = linked.below text (entry k.number k.declaration) k.numbered in
+      record { number = k.number; declaration = k.declaration; numbered = k.numbered; is = k.is; typed = serves_alike (same k.number low) k.typed };
   none = linked.none;
   below = λ text x is. let low = linked.below text x is in omega arith;
   apart = linked.apart;
-  fresh = λ x high. linked.fresh x (omega arith);
+  fresh = new;
 }
+
+pub later : (scope : Scope) (names : Numbers) (types : Types) (n m : ℕ) → n ≤ m → Linked scope names types n → Linked scope names types m
+later scope names types n m more linked = widened scope names types types n m more (λ x low. refl) (λ x high. linked.fresh x (omega arith)) linked
 
 pub with_type-same : (types : Types) (n : ℕ) (d : FlatVariable) → with_type types n d n ≡ Some d
 with_type-same types n d = ap (λ b. if b then Some d else types n) (eq-eqb n n refl)
@@ -81,73 +88,88 @@ with_type-other types n x d other = ap (λ b. if b then Some d else types x) (ne
 pub same_variable : (v w : VariableType) → Some (Variable v) ≡ Some (Variable w) → v ≡ w
 same_variable v w e = cc
 
--- A declaration.
+-- A name for a number that is declared: for a new one, or for a caller's array.
 
-module _ (scope : Scope) (names : Numbers) (types : Types) (n : ℕ) (linked : Linked scope names types n) (text : List ℕ) (own : FlatVariable) (new : found scope text ≡ None) where
+module _ (scope : Scope) (names : Numbers) (types : Types) (n : ℕ) (linked : Linked scope names types n) (text : List ℕ) (new : found scope text ≡ None) (number : ℕ) (own : FlatVariable)
+    (low : number < n) (typed : Serves (types number) own) (clear : (b : List ℕ) (y : Numbered) → found names b ≡ Some y → y.number ≡ number → (own.mutable ≡ false) × (y.declaration.mutable ≡ false)) where
   after_scope : Scope
   after_scope = declared scope text (Variable (variable_as own))
 
   after_names : Numbers
-  after_names = naming names text n own
+  after_names = naming names text number own
 
-  after_types : Types
-  after_types = with_type types n own
+  this_one : (other : List ℕ) (x : Numbered) → bytes_eq other text ≡ true → found after_names other ≡ Some x → entry number own ≡ x
+  unfolding after_names
+  this_one other x e is = same_Some (entry number own) x (sym (found-new names text (entry number own) other e (linked.none text new)) ∙ is)
 
-  known_by : (other : List ℕ) (w : VariableType) (b : Bool) → bytes_eq other text ≡ b → found after_scope other ≡ Some (Variable w) → Known after_names after_types other w
-  unfolding after_scope after_names after_types
+  old_one : (other : List ℕ) (x : Numbered) → bytes_eq other text ≡ false → found after_names other ≡ Some x → found names other ≡ Some x
+  unfolding after_names
+  old_one other x e is = sym (found-other names text (entry number own) other e) ∙ is
+
+  known_by : (other : List ℕ) (w : VariableType) (b : Bool) → bytes_eq other text ≡ b → found after_scope other ≡ Some (Variable w) → Known after_names types other w
+  unfolding after_scope after_names
   known_by other w true e is =
       let same = same_variable (variable_as own) w (sym (found-new scope text (Variable (variable_as own)) other e new) ∙ is) in
       record {
-        number = n;
+        number = number;
         declaration = own;
-        numbered = found-new names text (entry n own) other e (linked.none text new);
+        numbered = found-new names text (entry number own) other e (linked.none text new);
         is = sym same;
-        typed = serves_itself (after_types n) own (with_type-same types n own);
+        typed = typed;
       }
   known_by other w false e is =
       let old = linked.known other w (sym (found-other scope text (Variable (variable_as own)) other e) ∙ is) in
-      let low = linked.below other (entry old.number old.declaration) old.numbered in
       record {
         number = old.number;
         declaration = old.declaration;
-        numbered = found-other names text (entry n own) other e ∙ old.numbered;
+        numbered = found-other names text (entry number own) other e ∙ old.numbered;
         is = old.is;
-        typed = serves_alike (with_type-other types n old.number own (λ q. omega arith)) old.typed;
+        typed = old.typed;
       }
 
   none_by : (other : List ℕ) (b : Bool) → bytes_eq other text ≡ b → found after_scope other ≡ None → found after_names other ≡ None
   unfolding after_scope after_names
   none_by other true e is = absurd (none-some (Variable (variable_as own)) (sym is ∙ found-new scope text (Variable (variable_as own)) other e new))
-  none_by other false e is = found-other names text (entry n own) other e ∙ linked.none other (sym (found-other scope text (Variable (variable_as own)) other e) ∙ is)
+  none_by other false e is = found-other names text (entry number own) other e ∙ linked.none other (sym (found-other scope text (Variable (variable_as own)) other e) ∙ is)
 
-  below_by : (other : List ℕ) (x : Numbered) (b : Bool) → bytes_eq other text ≡ b → found after_names other ≡ Some x → x.number < n + 1
-  unfolding after_names
-  below_by other x true e is = let same = ap (λ (z : Numbered). z.number) (same_Some (entry n own) x (sym (found-new names text (entry n own) other e (linked.none text new)) ∙ is)) in omega arith
-  below_by other x false e is = let low = linked.below other x (sym (found-other names text (entry n own) other e) ∙ is) in omega arith
+  below_by : (other : List ℕ) (x : Numbered) (b : Bool) → bytes_eq other text ≡ b → found after_names other ≡ Some x → x.number < n
+  below_by other x true e is = let same = ap (λ (z : Numbered). z.number) (this_one other x e is) in omega (arith, same, low)
+  below_by other x false e is = linked.below other x (old_one other x e is)
 
   apart_by : (a b : List ℕ) (x y : Numbered) (s t : Bool) → bytes_eq a text ≡ s → bytes_eq b text ≡ t → found after_names a ≡ Some x → found after_names b ≡ Some y → x.number ≡ y.number → x.declaration.mutable ≡ true → a ≡ b
-  unfolding after_names
   apart_by a b x y true true d e is is' equal free = (bytes_decides a text).0 d ∙ sym ((bytes_decides b text).0 e)
   apart_by a b x y true false d e is is' equal free =
-      let same = ap (λ (z : Numbered). z.number) (same_Some (entry n own) x (sym (found-new names text (entry n own) a d (linked.none text new)) ∙ is)) in
-      let low = linked.below b y (sym (found-other names text (entry n own) b e) ∙ is') in
-      absurd (omega arith)
+      let same = this_one a x d is in
+      let fixed = (clear b y (old_one b y e is') (sym equal ∙ ap (λ (z : Numbered). z.number) (sym same))).0 in
+      absurd (true≢false (sym free ∙ (ap (λ (z : Numbered). z.declaration.mutable) (sym same) ∙ fixed)))
   apart_by a b x y false true d e is is' equal free =
-      let same = ap (λ (z : Numbered). z.number) (same_Some (entry n own) y (sym (found-new names text (entry n own) b e (linked.none text new)) ∙ is')) in
-      let low = linked.below a x (sym (found-other names text (entry n own) a d) ∙ is) in
-      absurd (omega arith)
-  apart_by a b x y false false d e is is' equal free =
-      linked.apart a b x y (sym (found-other names text (entry n own) a d) ∙ is) (sym (found-other names text (entry n own) b e) ∙ is') equal free
+      let same = this_one b y e is' in
+      let fixed = (clear a x (old_one a x d is) (equal ∙ ap (λ (z : Numbered). z.number) (sym same))).1 in
+      absurd (true≢false (sym free ∙ fixed))
+  apart_by a b x y false false d e is is' equal free = linked.apart a b x y (old_one a x d is) (old_one b y e is') equal free
 
-  pub linked_declared : Linked (declared scope text (Variable (variable_as own))) (naming names text n own) (with_type types n own) (n + 1)
-  unfolding after_scope after_names after_types
-  linked_declared = record {
+  pub linked_named : Linked (declared scope text (Variable (variable_as own))) (naming names text number own) types n
+  unfolding after_scope after_names
+  linked_named = record {
     known = λ other w. known_by other w (bytes_eq other text) refl;
     none = λ other. none_by other (bytes_eq other text) refl;
     below = λ other x. below_by other x (bytes_eq other text) refl;
     apart = λ a b x y. apart_by a b x y (bytes_eq a text) (bytes_eq b text) refl refl;
-    fresh = λ x high. with_type-other types n x own (λ q. omega arith) ∙ linked.fresh x (omega arith);
+    fresh = linked.fresh;
   }
+
+-- a number that no name stands for
+pub linked_beside : (scope : Scope) (names : Numbers) (types : Types) (n : ℕ) (own : FlatVariable) → Linked scope names types n → Linked scope names (with_type types n own) (n + 1)
+linked_beside scope names types n own linked =
+    widened scope names types (with_type types n own) n (n + 1) (omega arith) (λ x low. with_type-other types n x own (λ q. omega arith))
+    (λ x high. with_type-other types n x own (λ q. omega arith) ∙ linked.fresh x (omega arith)) linked
+
+-- a declaration
+pub linked_declared : (scope : Scope) (names : Numbers) (types : Types) (n : ℕ) → Linked scope names types n → (text : List ℕ) (own : FlatVariable) → found scope text ≡ None
+    → Linked (declared scope text (Variable (variable_as own))) (naming names text n own) (with_type types n own) (n + 1)
+linked_declared scope names types n linked text own new =
+    linked_named scope names (with_type types n own) (n + 1) (linked_beside scope names types n own linked) text new n own (omega arith) (serves_itself (with_type types n own n) own (with_type-same types n own))
+    (λ b y is same. let low = linked.below b y is in absurd (omega (arith, low, same)))
 
 -- Variables that are known to be words or arrays.
 
@@ -158,18 +180,15 @@ pub record KnownAs (names : Numbers) (types : Types) (text : List ℕ) (d : Flat
   pub typed : Serves (types number) d
   pub here : numbered names text ≡ entry number d
 
-abbrev whole : WordType → Bool → Option ℕ → FlatVariable
-whole word mutable elements = record { word = word; mutable = mutable; elements = elements }
-
 as_word : (word : WordType) (mutable : Bool) (own : WordType) (free : Bool) (size : Option ℕ) → Word word ≡ value_as own size → mutable ≡ free
-    → whole own free size ≡ word_as word mutable
+    → record { word = own; mutable = free; elements = size } ≡ word_as word mutable
 as_word word mutable own free None e f =
     let same : own ≡ word = cc in
     ap₂ word_as same (sym f)
 as_word word mutable own free (Some size) e f = absurd cc
 
 as_array : (array : ArrayType) (mutable : Bool) (own : WordType) (free : Bool) (size : Option ℕ) → Array array ≡ value_as own size → mutable ≡ free
-    → whole own free size ≡ array_as array.element mutable array.length
+    → record { word = own; mutable = free; elements = size } ≡ array_as array.element mutable array.length
 as_array array mutable own free None e f = absurd cc
 as_array array mutable own free (Some size) e f =
     let same : record { element = own; length = size } ≡ array = cc in

@@ -26,7 +26,7 @@ use Rattle.language.specs.Types.{Scope}
 use Rattle.language.specs.Typing.{with_parameters, parameter_as, parameter_value, is_mutable}
 use Rattle.language.specs.WellTyped.{AreNew, one_is_new}
 use Rattle.inline.proofs.Lookup.{found-new, found-other, found-kept}
-use Rattle.inline.proofs.Linked.{Linked, entry, serves_alike, value_as, variable_as, linked_declared, with_type-same, with_type-other}
+use Rattle.inline.proofs.Linked.{Linked, widened, entry, value_as, variable_as, linked_declared, with_type-same, with_type-other}
 use Rattle.inline.proofs.Terms.{held, Holds, Shows}
 
 -- what a parameter is declared as
@@ -106,15 +106,8 @@ types_same ds x =
 
 -- types that are equal everywhere serve as well
 retyped : (scope : Scope) (names : Numbers) (types others : Types) (n : ℕ) → ((x : ℕ) → types x ≡ others x) → Linked scope names types n → Linked scope names others n
-retyped scope names types others n same linked = record {
-  known = λ text v is.
-      let k = linked.known text v is in
-      record { number = k.number; declaration = k.declaration; numbered = k.numbered; is = k.is; typed = serves_alike (sym (same k.number)) k.typed };
-  none = linked.none;
-  below = linked.below;
-  apart = linked.apart;
-  fresh = λ x high. sym (same x) ∙ linked.fresh x high;
-}
+retyped scope names types others n same linked =
+    widened scope names types others n n (omega arith) (λ x low. sym (same x)) (λ x high. sym (same x) ∙ linked.fresh x high) linked
 
 -- no variable stands in a scope of procedures
 abbrev pub NoVariables : Scope → Type 0

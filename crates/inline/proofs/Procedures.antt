@@ -1,0 +1,194 @@
+-- A statement about each procedure that may be called, by induction over the text.
+use Rattle.std.proofs.Common.{◌≡◌, ◌≢◌, ℕ, zero, suc, ◌+◌, ◌<◌, Bool, true, false, if◌then◌else◌, List, [], ◌∷◌, ◌++◌, length, Option, Some, None, is_some, refl, sym, ap, ◌∙◌, subst, arith, slice_get, length-append}
+use Rattle.std.proofs.lemmas.List.{nil_from_length}
+use Rattle.std.proofs.lemmas.Option.{none-some, same_Some}
+use Rattle.std.specs.List.{AllByRecursion}
+use Rattle.std.specs.Str.{bytes_eq}
+use lib.Pointwise.{bytes_decides}
+use Rattle.language.specs.declared.typing.Callee.{Callee}
+use Rattle.language.specs.declared.typing.Declared.{Declared}
+use Rattle.language.specs.declared.typing.Declared.TheVariants.{Procedure, Variable}
+use Rattle.language.specs.declared.typing.VariableType.{VariableType}
+use Rattle.language.specs.Meaning.{exported, named}
+use Rattle.language.specs.Tree.{ParameterTree, ProcedureTree, ProgramTree, StatementTree, declaration, array, assignment, element_assignment, call, conditional, loop}
+use Rattle.names.specs.Scope.{found, declared}
+use Rattle.language.specs.Types.{Scope}
+use Rattle.language.specs.Typing.{assigns_public, declared_as, declared_array, parameter_as, scope_after, violations, with_parameters, with_procedure}
+use Rattle.language.specs.WellTyped.{IsProcedure, AreProcedures, no_procedure, one_procedure}
+use Rattle.inline.proofs.KnownLemmas.{named-kept, named-missed, named-new}
+use Rattle.inline.proofs.Lookup.{found-new, found-other}
+use Rattle.inline.proofs.Parameters.{NoVariables}
+use Rattle.typing_laws.proofs.Programs.{programs}
+
+-- what a name in scope is, where it is a procedure's
+abbrev pub as_callee : Scope → ℕ → ProcedureTree → Callee
+as_callee scope number p = record { number = number; assigns_public = assigns_public scope p }
+
+same_callee : (a b : Callee) → Some (Procedure a) ≡ Some (Procedure b) → a ≡ b
+same_callee a b e = cc
+
+no_callee : (c : Callee) (v : VariableType) → Some (Procedure c) ≢ Some (Variable v)
+no_callee c v e = cc
+
+-- Lists.
+
+get_front : (ps : List ProcedureTree) (p : ProcedureTree) (i : ℕ) → i < length ps → slice_get (ps ++ p ∷ []) i ≡ slice_get ps i
+get_front [] p i low = absurd (omega (arith, low))
+get_front (q ∷ ps) p zero low = refl
+get_front (q ∷ ps) p (suc i) low = get_front ps p i (omega (arith, low))
+
+get_last : (ps : List ProcedureTree) (p : ProcedureTree) → slice_get (ps ++ p ∷ []) (length ps) ≡ Some p
+get_last [] p = refl
+get_last (q ∷ ps) p = get_last ps p
+
+get_none : (ps : List ProcedureTree) → slice_get ps (length ps) ≡ None
+get_none [] = refl
+get_none (q ∷ ps) = get_none ps
+
+module _ (Extra : ProcedureTree → Type 0) where
+  all_front : (ps : List ProcedureTree) (p : ProcedureTree) → AllByRecursion Extra (ps ++ p ∷ []) → AllByRecursion Extra ps × Extra p
+  all_front [] p all = (tt, all.0)
+  all_front (q ∷ ps) p all = let rest = all_front ps p all.1 in ((all.0, rest.0), rest.1)
+
+-- Procedures that may be called. The statement is of a procedure, those before it, and the scope that those make.
+
+module _ (Good : List ProcedureTree → Scope → ProcedureTree → Type 0) where
+  -- what a name stands for that may be called behind these
+  pub record IsCallable (earlier : List ProcedureTree) (text : List ℕ) (c : Callee) (p : ProcedureTree) : Type 0 where
+    pub before : List ProcedureTree
+    pub at : Scope
+    pub is : named [] earlier text ≡ Some (before, p)
+    pub quiet : c.assigns_public ≡ assigns_public at p
+    pub good : Good before at p
+
+  -- the scope that these procedures make
+  pub record Stand (earlier : List ProcedureTree) (scope : Scope) : Type 0 where
+    pub variables : NoVariables scope
+    pub below : (text : List ℕ) (c : Callee) → found scope text ≡ Some (Procedure c) → c.number < length earlier
+    pub new : (text : List ℕ) → found scope text ≡ None → named [] earlier text ≡ None
+    pub callable : (text : List ℕ) (c : Callee) (p : ProcedureTree) → found scope text ≡ Some (Procedure c) → slice_get earlier c.number ≡ Some p → IsCallable earlier text c p
+
+  none_stand : Stand [] []
+  none_stand = record {
+    variables = λ text v is. none-some (Variable v) is;
+    below = λ text c is. absurd (none-some (Procedure c) is);
+    new = λ text is. refl;
+    callable = λ text c p is there. absurd (none-some (Procedure c) is);
+  }
+
+  module _ (earlier : List ProcedureTree) (scope : Scope) (stand : Stand earlier scope) (p : ProcedureTree) (new : found scope p.name ≡ None) where
+    abbrev own : Callee
+    own = as_callee scope (length earlier) p
+
+    abbrev after : Scope
+    after = with_procedure scope (length earlier) p
+
+    here : (text : List ℕ) → bytes_eq text p.name ≡ true → found after text ≡ Some (Procedure own)
+    here text e = found-new scope p.name (Procedure own) text e new
+
+    there : (text : List ℕ) → bytes_eq text p.name ≡ false → found after text ≡ found scope text
+    there text e = found-other scope p.name (Procedure own) text e
+
+    variables_by : (text : List ℕ) (b : Bool) → bytes_eq text p.name ≡ b → (v : VariableType) → found after text ≢ Some (Variable v)
+    variables_by text true e v is = no_callee own v (sym (here text e) ∙ is)
+    variables_by text false e v is = stand.variables text v (sym (there text e) ∙ is)
+
+    -- what a procedure's name is in its own body
+    pub variables_within : NoVariables after
+    variables_within text v is = variables_by text (bytes_eq text p.name) refl v is
+
+    -- which may not call itself
+    pub earlier_within : (text : List ℕ) (c : Callee) (q : ProcedureTree) → found after text ≡ Some (Procedure c) → slice_get earlier c.number ≡ Some q → found scope text ≡ Some (Procedure c)
+    earlier_within text c q is get = by_name (bytes_eq text p.name) refl
+      where
+        by_name : (b : Bool) → bytes_eq text p.name ≡ b → found scope text ≡ Some (Procedure c)
+        by_name true e =
+            let same = same_callee own c (sym (here text e) ∙ is) in
+            absurd (none-some q (sym (get_none earlier) ∙ (ap (λ (d : Callee). slice_get earlier d.number) same ∙ get)))
+        by_name false e = sym (there text e) ∙ is
+
+    below_by : (text : List ℕ) (c : Callee) (b : Bool) → bytes_eq text p.name ≡ b → found after text ≡ Some (Procedure c) → c.number < length (earlier ++ p ∷ [])
+    below_by text c true e is =
+        let same = ap (λ (d : Callee). d.number) (same_callee own c (sym (here text e) ∙ is)) in
+        let count = length-append earlier (p ∷ []) in
+        omega (arith, same, count)
+    below_by text c false e is =
+        let low = stand.below text c (sym (there text e) ∙ is) in
+        let count = length-append earlier (p ∷ []) in
+        omega (arith, low, count)
+
+    new_by : (text : List ℕ) (b : Bool) → bytes_eq text p.name ≡ b → found after text ≡ None → named [] (earlier ++ p ∷ []) text ≡ None
+    new_by text true e is = absurd (none-some (Procedure own) (sym is ∙ here text e))
+    new_by text false e is = named-missed [] earlier p text (stand.new text (sym (there text e) ∙ is)) e
+
+    callable_by : Good earlier scope p → (text : List ℕ) (c : Callee) (q : ProcedureTree) (b : Bool) → bytes_eq text p.name ≡ b → found after text ≡ Some (Procedure c) → slice_get (earlier ++ p ∷ []) c.number ≡ Some q
+        → IsCallable (earlier ++ p ∷ []) text c q
+    callable_by good text c q true e is get =
+        let same = same_callee own c (sym (here text e) ∙ is) in
+        let tree = same_Some p q (sym (get_last earlier p) ∙ (ap (λ (d : Callee). slice_get (earlier ++ p ∷ []) d.number) same ∙ get)) in
+        let absent = stand.new text (ap (found scope) ((bytes_decides text p.name).0 e) ∙ new) in
+        subst (IsCallable (earlier ++ p ∷ []) text c) tree (record {
+          before = earlier;
+          at = scope;
+          is = named-new [] earlier p text absent e;
+          quiet = ap (λ (d : Callee). d.assigns_public) (sym same);
+          good = good;
+        })
+    callable_by good text c q false e is get =
+        let old = sym (there text e) ∙ is in
+        let k = stand.callable text c q old (sym (get_front earlier p c.number (stand.below text c old)) ∙ get) in
+        record { before = k.before; at = k.at; is = named-kept [] earlier p text _ k.is; quiet = k.quiet; good = k.good }
+
+    one_stands : Good earlier scope p → Stand (earlier ++ p ∷ []) after
+    one_stands good = record {
+      variables = variables_within;
+      below = λ text c. below_by text c (bytes_eq text p.name) refl;
+      new = λ text. new_by text (bytes_eq text p.name) refl;
+      callable = λ text c q. callable_by good text c q (bytes_eq text p.name) refl;
+    }
+
+  -- the export behind the procedures that it may call
+  pub record Exported (before : List ProcedureTree) (p : ProcedureTree) : Type 0 where
+    pub scope : Scope
+    pub stand : Stand before scope
+    pub typed : IsProcedure before scope p
+
+  module _ (Extra : ProcedureTree → Type 0) (step : (before : List ProcedureTree) (scope : Scope) (p : ProcedureTree) → Stand before scope → IsProcedure before scope p → Extra p → Good before scope p) where
+    all_before : (earlier ps before : List ProcedureTree) (p : ProcedureTree) → exported earlier ps ≡ Some (before, p) → AllByRecursion Extra before → AllByRecursion Extra earlier
+    all_before earlier [] before p is all = absurd (none-some _ is)
+    all_before earlier (q ∷ qs) before p is all = by_word (is_some q.export) (λ rest. (all_front Extra earlier q (all_before (earlier ++ q ∷ []) qs before p rest all)).0) is
+      where
+        by_word : (b : Bool) → (exported (earlier ++ q ∷ []) qs ≡ Some (before, p) → AllByRecursion Extra earlier) → (if b then Some (earlier, q) else exported (earlier ++ q ∷ []) qs) ≡ Some (before, p) → AllByRecursion Extra earlier
+        by_word true rest e = subst (AllByRecursion Extra) (sym (ap (λ (z : List ProcedureTree × ProcedureTree). z.0) (same_Some (earlier, q) (before, p) e))) all
+        by_word false rest e = rest e
+
+    the_export : {earlier : List ProcedureTree} {scope : Scope} {ps : List ProcedureTree} → AreProcedures earlier scope ps → (before : List ProcedureTree) (p : ProcedureTree) → Stand earlier scope → AllByRecursion Extra before → exported earlier ps ≡ Some (before, p) → Exported before p
+    the_export no_procedure before p stand all is = absurd (none-some _ is)
+    the_export (one_procedure {earlier = earlier} {scope = scope} {p = q} {ps = qs} this more) before p stand all is =
+        by_word (is_some q.export) (λ rest. the_export more before p (one_stands earlier scope stand q this.is_new (step earlier scope q stand this (all_front Extra earlier q (all_before (earlier ++ q ∷ []) qs before p rest all)).1)) all rest) is
+      where
+        by_word : (b : Bool) → (exported (earlier ++ q ∷ []) qs ≡ Some (before, p) → Exported before p) → (if b then Some (earlier, q) else exported (earlier ++ q ∷ []) qs) ≡ Some (before, p) → Exported before p
+        by_word true rest e =
+            let same = same_Some (earlier, q) (before, p) e in
+            let one = ap (λ (z : List ProcedureTree × ProcedureTree). z.0) same in
+            let other = ap (λ (z : List ProcedureTree × ProcedureTree). z.1) same in
+            subst (λ (x : List ProcedureTree). Exported x p) one (subst (λ x. Exported earlier x) other (record { scope = scope; stand = stand; typed = this }))
+        by_word false rest e = rest e
+
+    -- of a program that violates no rule
+    pub own_typing : (program : ProgramTree) (before : List ProcedureTree) (p : ProcedureTree) → length (violations program) ≡ 0 → exported [] program.procedures ≡ Some (before, p) → AllByRecursion Extra before → Exported before p
+    own_typing program before p h is all = the_export ((programs program).0 (nil_from_length (violations program) h)).procedures before p none_stand all is
+
+-- In a body.
+
+-- what may be called from a scope stands in the other, where the body's procedure begins
+abbrev pub IsWithin : List ProcedureTree → Scope → Scope → Type 0
+IsWithin earlier at scope = (text : List ℕ) (c : Callee) (p : ProcedureTree) → found scope text ≡ Some (Procedure c) → slice_get earlier c.number ≡ Some p → found at text ≡ Some (Procedure c)
+
+module _ (earlier : List ProcedureTree) (at : Scope) where
+  pub within_declared : (scope : Scope) (name : List ℕ) (v : VariableType) → found scope name ≡ None → IsWithin earlier at scope → IsWithin earlier at (declared scope name (Variable v))
+  within_declared scope name v new within text c p is get = by_name (bytes_eq text name) refl
+    where
+      by_name : (b : Bool) → bytes_eq text name ≡ b → found at text ≡ Some (Procedure c)
+      by_name true e = absurd (no_callee c v (sym is ∙ found-new scope name (Variable v) text e new))
+      by_name false e = within text c p (sym (found-other scope name (Variable v) text e) ∙ is) get
