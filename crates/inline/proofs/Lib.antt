@@ -13,6 +13,7 @@ pub mod Called
 pub mod Copied
 pub mod Calls
 pub mod Rights
+pub mod Kept
 pub mod TypesKept
 pub mod Fitting
 pub mod FittingBodies
