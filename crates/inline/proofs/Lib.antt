@@ -14,6 +14,7 @@ pub mod Copied
 pub mod Calls
 pub mod Rights
 pub mod Kept
+pub mod FlatEnds
 pub mod TypesKept
 pub mod Fitting
 pub mod FittingBodies

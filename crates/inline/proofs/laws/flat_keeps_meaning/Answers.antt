@@ -1,5 +1,5 @@
-use Rattle.inline.proofs.Kept.{block_keeps}
+use Rattle.inline.proofs.FlatEnds.{same_ends}
 use Rattle.inline.proofs.laws.flat_keeps_meaning.Goals as goal
 
 pub returns : goal.returns
-returns c = block_keeps
+returns c = same_ends
