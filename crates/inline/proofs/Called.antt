@@ -81,7 +81,7 @@ pub ready_later : {earlier : List ProcedureTree} {scope : Scope} {names : Number
 ready_later {scope = scope} {names = names} n m more ready = record { types = ready.types; linked = later scope names ready.types n m more ready.linked; calls = ready.calls }
 
 -- after a declaration
-same_calls : (earlier : List ProcedureTree) (scope : Scope) (text : List ℕ) (v : VariableType) → CallsAreKept earlier scope → CallsAreKept earlier (declared scope text (Variable v))
+pub same_calls : (earlier : List ProcedureTree) (scope : Scope) (text : List ℕ) (v : VariableType) → CallsAreKept earlier scope → CallsAreKept earlier (declared scope text (Variable v))
 same_calls earlier scope text v old_calls other c p is there = by_name (found-split scope text (Variable v) other (Procedure c) is)
   where
     no_procedure : (v : VariableType) (c : Callee) → Variable v ≡ Procedure c → ⊥

@@ -15,6 +15,7 @@ pub mod Calls
 pub mod Rights
 pub mod Kept
 pub mod FlatEnds
+pub mod FlatMeanings
 pub mod TypesKept
 pub mod Fitting
 pub mod FittingBodies
