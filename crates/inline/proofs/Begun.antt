@@ -8,7 +8,7 @@ use Rattle.inline.specs.declared.numbering.Numbered.{Numbered}
 use Rattle.word.specs.declared.place.Place.{Place}
 use Rattle.inline.specs.Flat.{array_as, elements_by}
 use Rattle.inline.specs.FlatTyping.{Types, with_type}
-use Rattle.inline.specs.Numbering.{Numbers, naming, begun, passed_variables, number_given, number_of, own_variable}
+use Rattle.inline.specs.Numbering.{Numbers, naming, begun, passed_variables, number_given, own_variable}
 use Rattle.language.specs.declared.signature.Form.{Form}
 use Rattle.language.specs.declared.signature.Form.TheVariants.{SingleWord, FixedArray, MutableArray}
 use Rattle.language.specs.declared.typing.Declared.TheVariants.{Variable}
@@ -19,10 +19,10 @@ use Rattle.language.specs.Meaning.{is_word}
 use Rattle.language.specs.Tree.{ExprTree, name, ParameterTree}
 use Rattle.language.specs.Types.{Scope}
 use Rattle.language.specs.Typing.{with_parameters, parameter_as, is_mutable, same_name}
-use Rattle.language.specs.WellTyped.{labelled, HasType, Suits, IsVariable, IsPassed, as_word, as_array, as_mutable_array, array_given, array_of, is_shared, SharesNone, ArePassed, none_passed, one_passed, AreNew, no_parameter, one_is_new}
+use Rattle.language.specs.WellTyped.{labelled, HasType, Suits, IsVariable, IsPassed, as_word, as_array, as_mutable_array, array_given, array_of, SharesNone, ArePassed, none_passed, one_passed, AreNew, one_is_new}
 use Rattle.names.specs.Scope.{found, declared}
 use Rattle.inline.proofs.Lookup.{found-new, found-other, found-kept}
-use Rattle.inline.proofs.Linked.{Linked, Serves, serves_alike, Known, KnownAs, entry, variable_as, linked_declared, known_array, same_variable, with_type-other}
+use Rattle.inline.proofs.Linked.{Linked, Serves, serves_alike, Known, entry, variable_as, linked_declared, known_array, same_variable, with_type-other}
 use Rattle.inline.proofs.Parameters.{parameter_same, typed_with, itself}
 
 -- An argument.
@@ -95,7 +95,6 @@ module _ (scope : Scope) (names : Numbers) (types : Types) (n : ℕ) (linked : L
   array_passed {p = p} (as_word form has suit) off = no_word p.form form off
   array_passed {p = p} (as_array {place = place} {text = text} {mutable = mutable} form known) off = by_name p FixedArray place text mutable form known refl (λ e. absurd (true≢false (sym e))) refl
   array_passed {p = p} (as_mutable_array {place = place} {text = text} form known) off = by_name p MutableArray place text true form known refl (λ e. refl) refl
-
   -- Arguments apart.
 
 -- no argument here has this number, unless neither of the two may be changed
@@ -255,9 +254,9 @@ module _ (scope : Scope) (names : Numbers) where
 
       by_form : (b : Bool) → is_word p.form ≡ b
           → ((own' : Numbers) (types' : Types) (n' : ℕ) → Linked scope names types' n' → Linked (declared inner p.name (parameter_as p)) own' types' n' → Distinct names own' ps es
-              → Enters (declared inner p.name (parameter_as p)) names ps es (begun names own' n' ps es) (typed_with types' n' (passed_variables ps es)) (n' + length (passed_variables ps es)))
+          → Enters (declared inner p.name (parameter_as p)) names ps es (begun names own' n' ps es) (typed_with types' n' (passed_variables ps es)) (n' + length (passed_variables ps es)))
           → Enters inner names (p ∷ ps) (e ∷ es) (if is_word p.form then begun names (naming own p.name n (own_variable p)) (n + 1) ps es else begun names (naming own p.name (number_given names e) (own_variable p)) n ps es)
-              (typed_with types n (if is_word p.form then own_variable p ∷ passed_variables ps es else passed_variables ps es)) (n + length (if is_word p.form then own_variable p ∷ passed_variables ps es else passed_variables ps es))
+          (typed_with types n (if is_word p.form then own_variable p ∷ passed_variables ps es else passed_variables ps es)) (n + length (if is_word p.form then own_variable p ∷ passed_variables ps es else passed_variables ps es))
       by_form true form more =
           let d = own_variable p in
           let own' = naming own p.name n d in
@@ -277,7 +276,7 @@ module _ (scope : Scope) (names : Numbers) where
           let new = within.none p.name here in
           let low = subst (λ k. k < n) (sym a.here) a.low in
           let next = subst (λ v. Linked (declared inner p.name v) own' types n) (parameter_same p)
-              (linked_shared inner own types n within p.name d here number low (subst (λ k. Serves (types k) d) (sym a.here) a.serves) (λ other x known. apart.0 other x known form)) in
+          (linked_shared inner own types n within p.name d here number low (subst (λ k. Serves (types k) d) (sym a.here) a.serves) (λ other x known. apart.0 other x known form)) in
           let rest = more own' types n linked next (distinct_more names own p.name number d new ps es (unshared_array scope names types n linked p e a shares are) apart.1) in
           let end = begun names own' n ps es in
           subst (λ b. Enters inner names (p ∷ ps) (e ∷ es) (if b then begun names (naming own p.name n d) (n + 1) ps es else end) (typed_with types n (if b then d ∷ passed_variables ps es else passed_variables ps es)) (n + length (if b then d ∷ passed_variables ps es else passed_variables ps es)))

@@ -1,17 +1,15 @@
 -- A call comes to the same where the called body stands in its place.
-use Rattle.std.proofs.Common.{◌≡◌, ℕ, ◌+◌, ◌<◌, ◌≤◌, Bool, true, false, List, [], ◌∷◌, length, Option, Some, None, slice_get, ◌⊎◌, inl, inr, refl, sym, ap, ◌∙◌, subst, arith, true≢false}
+use Rattle.std.proofs.Common.{◌≡◌, ℕ, ◌+◌, ◌<◌, ◌≤◌, true, false, List, [], ◌∷◌, length, Option, Some, None, ◌⊎◌, inl, inr, refl, sym, ap, ◌∙◌, subst, arith, true≢false}
 use Rattle.std.proofs.lemmas.Option.{none-some}
 use Rattle.inline.specs.declared.numbering.Numbered.{Numbered}
 use Rattle.inline.specs.Flat.{FlatBlock, chain}
 use Rattle.inline.specs.FlatMeaning.{Values, after_all, path_along, path_of_result}
 use Rattle.inline.specs.FlatTyping.{Types}
-use Rattle.inline.specs.Numbering.{Numbers, Callable, callable, callables, begun, passed, passed_variables, number_given, block, call_block, call_value, call_result, value_of, names_after_all}
+use Rattle.inline.specs.Numbering.{Numbers, Callable, callable, callables, begun, passed, passed_variables, block, call_block, call_value, call_result, value_of, names_after_all}
 use Rattle.inline.specs.Path.{either, first_fault}
 use Rattle.language.specs.declared.signature.Form.{Form}
 use Rattle.language.specs.declared.signature.Form.TheVariants.{SingleWord, FixedArray, MutableArray}
 use Rattle.language.specs.declared.signature.Label.{Label}
-use Rattle.language.specs.declared.typing.Callee.{Callee}
-use Rattle.language.specs.declared.typing.Declared.TheVariants.{Procedure}
 use Rattle.language.specs.declared.typing.ValueType.{ValueType}
 use Rattle.language.specs.Grammatical.{AreAllSmall}
 use Rattle.language.specs.Meaning.{Calls, argument_faults, body_faults, body_ends, copied_out, is_word, gives, faults}
@@ -19,14 +17,14 @@ use Rattle.language.specs.Meaning as meaning
 use Rattle.language.specs.State.{State}
 use Rattle.language.specs.Tree.{ExprTree, CallTree, ParameterTree, ProcedureTree}
 use Rattle.language.specs.Types.{Scope}
-use Rattle.language.specs.Typing.{with_parameters, is_mutable, result_value}
-use Rattle.language.specs.WellTyped.{IsPassed, ArePassed, none_passed, one_passed, IsCall, of_procedure}
+use Rattle.language.specs.Typing.{is_mutable, result_value}
+use Rattle.language.specs.WellTyped.{ArePassed, none_passed, one_passed, IsCall, of_procedure}
 use Rattle.names.specs.Scope.{found}
-use Rattle.inline.proofs.Begun.{Enters, ArrayGiven, array_passed, enters, distinct_none}
-use Rattle.inline.proofs.Called.{Agrees, Spares, Behaves, Meant, Ready}
+use Rattle.inline.proofs.Begun.{Enters, array_passed, enters, distinct_none}
+use Rattle.inline.proofs.Called.{Agrees, Spares, Meant, Ready}
 use Rattle.inline.proofs.Chains.{after_chain, fault_chain}
 use Rattle.inline.proofs.Comes.{Comes, then_comes, also, either-assoc}
-use Rattle.inline.proofs.Copied.{Changes, changes_or_not, mutable_begun, spares_begun, copied}
+use Rattle.inline.proofs.Copied.{Changes, changes_or_not, spares_begun, copied}
 use Rattle.inline.proofs.KnownLemmas.{known-named}
 use Rattle.inline.proofs.Linked.{Linked}
 use Rattle.inline.proofs.Parameters.{NoVariables, typed_with}

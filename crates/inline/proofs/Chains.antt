@@ -1,6 +1,5 @@
 -- What one block after another does.
-use Rattle.std.proofs.Common.{◌≡◌, ◌++◌, Option, refl, ap, ap₂, sym, ◌∙◌}
-use Rattle.word.specs.declared.place.Place.{Place}
+use Rattle.std.proofs.Common.{◌≡◌, refl, ap, sym, ◌∙◌}
 use Rattle.inline.specs.Flat.{FlatTree, FlatBlock, nothing, first, chain}
 use Rattle.inline.specs.FlatMeaning.{Values, after, after_all, path_at, path_along}
 use Rattle.inline.specs.Numbering.{single}

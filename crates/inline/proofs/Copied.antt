@@ -1,5 +1,5 @@
 -- What the caller's names hold once a called body has ended.
-use Rattle.std.proofs.Common.{◌≡◌, ℕ, ◌+◌, ◌<◌, ◌==◌, Bool, true, false, if◌then◌else◌, List, [], ◌∷◌, length, Option, Some, None, ◌⊎◌, inl, inr, refl, sym, ap, ◌∙◌, subst, true≢false, eq-eqb}
+use Rattle.std.proofs.Common.{◌≡◌, ℕ, ◌+◌, ◌<◌, ◌==◌, Bool, true, false, if◌then◌else◌, List, [], ◌∷◌, length, Some, None, ◌⊎◌, inl, inr, refl, sym, ap, ◌∙◌, subst, true≢false, eq-eqb}
 use Rattle.std.proofs.lemmas.Bool.{eqb-true}
 use Rattle.std.proofs.lemmas.Option.{none-some, same_Some}
 use Rattle.std.specs.Str.{bytes_eq}
@@ -18,7 +18,7 @@ use Rattle.language.specs.State.{State}
 use Rattle.language.specs.Tree.{ExprTree, name, ParameterTree}
 use Rattle.language.specs.Types.{Scope}
 use Rattle.language.specs.Typing.{is_mutable}
-use Rattle.language.specs.WellTyped.{labelled, IsVariable, IsPassed, as_word, as_array, as_mutable_array, array_of, ArePassed, none_passed, one_passed}
+use Rattle.language.specs.WellTyped.{labelled, IsVariable, as_word, as_array, as_mutable_array, array_of, ArePassed, none_passed, one_passed}
 use Rattle.names.specs.Scope.{found}
 use Rattle.inline.proofs.Begun.{NamesGiven}
 use Rattle.inline.proofs.Called.{Spares}

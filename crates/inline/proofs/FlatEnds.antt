@@ -1,5 +1,5 @@
 -- A well-typed statement comes to the same once its names are numbers.
-use Rattle.std.proofs.Common.{◌≡◌, ℕ, zero, suc, ◌+◌, ◌-◌, ◌<◌, ◌≤◌, ◌==◌, Bool, true, false, not, if◌then◌else◌, List, [], ◌∷◌, length, map, replicate, Option, Some, None, slice_index, slice_set, refl, sym, ap, ap₂, ◌∙◌, subst, arith}
+use Rattle.std.proofs.Common.{◌≡◌, ℕ, zero, suc, ◌+◌, ◌-◌, ◌<◌, ◌==◌, Bool, true, false, not, if◌then◌else◌, List, [], ◌∷◌, length, map, replicate, Option, Some, None, slice_index, slice_set, refl, sym, ap, ap₂, ◌∙◌, subst, arith}
 use Rattle.std.proofs.lemmas.List.{length-set, length-replicate, length-map}
 use Rattle.word.specs.declared.place.Place.{Place}
 use Rattle.inline.specs.declared.numbering.Numbered.{Numbered}
@@ -18,19 +18,18 @@ use Rattle.language.specs.declared.typing.ArrayType.{ArrayType}
 use Rattle.language.specs.declared.typing.ValueType.TheVariants.{Array}
 use Rattle.language.specs.declared.typing.WordType.{WordType}
 use Rattle.language.specs.Grammatical.{AreAllSmall, AreSmallValues, IsPlain, ArePlain}
-use Rattle.language.specs.Meaning.{Ending, Evaluates, EvaluatesAll, by_operands, operand_faults, none_left, one_more, this_faults, gives, faults, element_held, made_array, counting, with_some, with_element, word_given, of_expr, of_call, expr_faults, Runs, RunsAll, Turns, no_turn, turn_faults, a_turn, declares, declaration_faults, declares_array, first_value_faults, assigns, assignment_faults, target_faults, right_faults, assigns_element, calls, call_faults, condition_faults, accepts, declines, bounds_fault, loops, ends, stops, goes_on}
+use Rattle.language.specs.Meaning.{Ending, Evaluates, EvaluatesAll, by_operands, operand_faults, none_left, one_more, this_faults, gives, faults, element_held, made_array, counting, with_some, with_element, word_given, of_expr, expr_faults, Runs, RunsAll, Turns, no_turn, turn_faults, a_turn, declares, declaration_faults, declares_array, first_value_faults, assigns, assignment_faults, target_faults, right_faults, assigns_element, calls, call_faults, condition_faults, accepts, declines, bounds_fault, loops, ends, stops, goes_on}
 use Rattle.language.specs.State.{State, Value, single, with_value}
 use Rattle.language.specs.State as state
 use Rattle.language.specs.Tree.{ExprTree, element, called, computed, StatementTree, element_assignment, call, conditional, loop, BlockTree, first, ProcedureTree, written}
 use Rattle.language.specs.Types.{Scope}
 use Rattle.language.specs.WellTyped as rules
 use Rattle.language.specs.WellTyped.{labelled, IsVariable}
-use Rattle.names.specs.Scope.{found}
 use Rattle.inline.proofs.Called.{Spares, Ready, ready_later, ready_declared, ready_after}
 use Rattle.inline.proofs.Calls.{call_means}
 use Rattle.inline.proofs.Chains.{after_chain, fault_chain, fault_single}
 use Rattle.inline.proofs.Comes.{Comes, well, fails, then_comes, also, either-none, across, across₃}
-use Rattle.inline.proofs.Linked.{Linked, entry, later, known_word, known_array}
+use Rattle.inline.proofs.Linked.{Linked, entry, known_word, known_array}
 use Rattle.inline.proofs.Lookup.{found-kept}
 use Rattle.inline.proofs.Rights.{right_means, call_gives, path_given}
 use Rattle.inline.proofs.States.{shows_declared, shows_changed, shows_before, shows_kept, with_value-other, with_value-same}
@@ -274,12 +273,12 @@ module _ (ps : List ProcedureTree) where
         let q = first_fault (path_in end taken) in
         let here : slice_index (end n) 0 ≡ i = ap (λ ns. slice_index ns 0) kept in
         let fault : first_fault (path_along m (flat_tree.first held (chain tree (single_block last)))) ≡ either a (either k (either f q)) =
-            across (path_at m held) (path_along began (chain tree (single_block last)))
-            ∙ (ap₂ either (across (path_in m (term names index)) (indexed bracket size i ∷ []))
-                (fault_chain tree (single_block last) began ∙ ap (either f) (fault_single last end ∙ ap (λ j. either (fault_at (indexed bracket size j)) q) here))
-            ∙ met_twice a k f q) in
+        across (path_at m held) (path_along began (chain tree (single_block last)))
+        ∙ (ap₂ either (across (path_in m (term names index)) (indexed bracket size i ∷ []))
+        (fault_chain tree (single_block last) began ∙ ap (either f) (fault_single last end ∙ ap (λ j. either (fault_at (indexed bracket size j)) q) here))
+        ∙ met_twice a k f q) in
         let over : after_all began (chain tree (single_block last)) ≡ flat.with_value end y (slice_set (end y) i v) =
-            after_chain tree (single_block last) began ∙ ap (λ j. flat.with_value end y (slice_set (end y) j v)) here in
+        after_chain tree (single_block last) began ∙ ap (λ j. flat.with_value end y (slice_set (end y) j v)) here in
         subst (λ (final : Values). Comes (Runs ps s (element_assignment place bracket target text index (called c))) (λ t. Shows names t final) (first_fault (path_along m (flat_tree.first held (chain tree (single_block last)))))) (sym over)
         (subst (Comes (Runs ps s (element_assignment place bracket target text index (called c))) (λ t. Shows names t (flat.with_value end y (slice_set (end y) i v)))) (sym fault)
         (then_comes ((means scope names ready.types n ready.linked has plain.0).value s m shows)

@@ -1,5 +1,5 @@
 -- A program that violates no rule comes to what the flat program comes to.
-use Rattle.std.proofs.Common.{◌≡◌, ℕ, ◌+◌, List, [], ◌∷◌, ◌++◌, length, map, Option, None, Some, slice_get, refl, sym, ap, ap₂, ◌∙◌, subst}
+use Rattle.std.proofs.Common.{◌≡◌, ℕ, ◌+◌, List, [], ◌∷◌, ◌++◌, length, map, Option, None, Some, refl, sym, ap, ap₂, ◌∙◌, subst}
 use Rattle.std.specs.List.{AllByRecursion}
 use Rattle.std.specs.Option.{option_map}
 use Rattle.word.specs.declared.place.Place.{Place}
@@ -8,27 +8,25 @@ use Rattle.inline.specs.Flat.{TermTree}
 use Rattle.inline.specs.FlatMeaning.{Values, given, value_in, path_along, path_of_result, after_all, outcome_of, ending_by, ending_of}
 use Rattle.inline.specs.FlatTyping.{Types, parameter_types}
 use Rattle.inline.specs.Numbering.{Numbers, param_of, callables, parameter_names, names_after_all, value_of, flattened, block, term, declared_in_all, numbers_taken_all}
-use Rattle.inline.specs.Path.{either, first_fault}
-use Rattle.language.specs.declared.typing.Callee.{Callee}
-use Rattle.language.specs.declared.typing.Declared.TheVariants.{Procedure}
+use Rattle.inline.specs.Path.{first_fault}
 use Rattle.language.specs.declared.typing.WordType.{WordType}
 use Rattle.language.specs.declared.values.Arg.{Arg}
 use Rattle.language.specs.Grammatical.{IsGrammatical, IsSmallReturn}
-use Rattle.language.specs.Meaning.{Bodies, statements_fault, returns, returns_nothing, return_faults, Gives, ends_well, meets_fault, RunsAll, exported, final_arrays, gives, holding, Returned}
+use Rattle.language.specs.Meaning.{Bodies, statements_fault, returns, returns_nothing, return_faults, Gives, ends_well, meets_fault, RunsAll, exported, final_arrays, gives, holding}
 use Rattle.language.specs.Results.{Results}
 use Rattle.language.specs.State.{State, Word}
 use Rattle.language.specs.Tree.{ParameterTree, ProcedureTree, ProgramTree, ReturnTree}
 use Rattle.language.specs.Types.{Scope}
 use Rattle.language.specs.Typing.{body_scope, parameter_as, scope_after_all, violations, with_parameters, with_procedure}
 use Rattle.language.specs.WellTyped as rules
-use Rattle.names.specs.Scope.{found, declared}
-use Rattle.inline.proofs.Called.{Agrees, HasResult, nothing_given, a_word, Behaves, BodyComes, Meant, CallsAreKept, Ready, same_calls, ready_after_all}
+use Rattle.names.specs.Scope.{declared}
+use Rattle.inline.proofs.Called.{Agrees, HasResult, nothing_given, a_word, Behaves, BodyComes, CallsAreKept, Ready, same_calls, ready_after_all}
 use Rattle.inline.proofs.Comes.{Comes, well, fails, then_comes, also, across}
 use Rattle.inline.proofs.FlatEnds.{same_ends}
 use Rattle.inline.proofs.Kept.{block_keeps}
 use Rattle.inline.proofs.Linked.{Linked}
-use Rattle.inline.proofs.Parameters.{Named, shows_arguments, arrays_same, all_own, where_begun, linked_parameters}
-use Rattle.inline.proofs.Procedures.{IsCallable, Stand, Exported, own_typing, variables_within, earlier_within}
+use Rattle.inline.proofs.Parameters.{shows_arguments, arrays_same, all_own, where_begun, linked_parameters}
+use Rattle.inline.proofs.Procedures.{Stand, own_typing, variables_within, earlier_within}
 use Rattle.inline.proofs.States.{shows_before}
 use Rattle.inline.proofs.Terms.{Shows, means}
 

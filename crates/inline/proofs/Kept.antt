@@ -1,5 +1,5 @@
 -- A well-typed statement changes its own numbers and those of mutable names, and no others.
-use Rattle.std.proofs.Common.{◌≡◌, ℕ, zero, suc, ◌+◌, ◌-◌, ◌<◌, ◌≤◌, ◌==◌, Bool, true, false, if◌then◌else◌, List, [], ◌∷◌, length, map, Option, Some, None, ◌⊎◌, inl, inr, refl, sym, ap, ◌∙◌, subst, arith}
+use Rattle.std.proofs.Common.{◌≡◌, ℕ, zero, suc, ◌+◌, ◌-◌, ◌≤◌, ◌==◌, Bool, true, false, if◌then◌else◌, List, [], ◌∷◌, length, map, Option, Some, None, ◌⊎◌, inl, inr, refl, sym, ap, ◌∙◌, arith}
 use Rattle.std.specs.Str.{bytes_eq}
 use Rattle.inline.specs.declared.flat.FlatVariable.{FlatVariable}
 use Rattle.inline.specs.declared.numbering.Numbered.{Numbered}
@@ -8,12 +8,12 @@ use Rattle.inline.specs.Flat.{FlatTree, FlatBlock, chain, word_as, array_as}
 use Rattle.inline.specs.FlatMeaning.{Values, value_in, elements, after, after_all, turns}
 use Rattle.inline.specs.FlatMeaning as flat_meaning
 use Rattle.inline.specs.FlatTyping.{counter_type}
-use Rattle.inline.specs.Numbering.{Numbers, callables, single, naming, number_of, size_of, term, statement, block, names_after, numbers_taken, numbers_taken_all, right, right_block, right_end, right_variables, call_block, call_value, call_result, call_variables, dropped_block, value_given}
+use Rattle.inline.specs.Numbering.{Numbers, callables, single, naming, number_of, size_of, term, statement, block, names_after, numbers_taken, numbers_taken_all, right, right_block, right_end, call_block, call_value, call_result, call_variables, dropped_block, value_given}
 use Rattle.language.specs.declared.signature.Label.{Label}
 use Rattle.language.specs.declared.typing.ArrayType.{ArrayType}
 use Rattle.language.specs.declared.typing.ValueType.TheVariants.{Word, Array}
 use Rattle.language.specs.declared.typing.WordType.{WordType}
-use Rattle.language.specs.Tree.{StatementTree, BlockTree, ProcedureTree, ExprTree, written}
+use Rattle.language.specs.Tree.{StatementTree, BlockTree, ProcedureTree, written}
 use Rattle.language.specs.Types.{Scope}
 use Rattle.language.specs.WellTyped.{labelled, IsVariable, of_value, of_call, IsWellTyped, declares, declares_array, assigns, assigns_element, calls, chooses, repeats, AreWellTyped, no_statement, one_more}
 use Rattle.names.specs.Scope.{found}

@@ -1,10 +1,8 @@
 -- What a called body's names hold where it begins: words as evaluated, arrays as the caller's.
-use Rattle.std.proofs.Common.{◌≡◌, ℕ, ◌+◌, ◌<◌, ◌≤◌, Bool, true, false, if◌then◌else◌, List, [], ◌∷◌, length, Option, Some, None, refl, sym, ap, ap₂, ◌∙◌, subst, arith, true≢false}
+use Rattle.std.proofs.Common.{◌≡◌, ℕ, ◌+◌, ◌<◌, Bool, true, false, if◌then◌else◌, List, [], ◌∷◌, Option, Some, None, refl, sym, ap, ◌∙◌, subst, arith, true≢false}
 use Rattle.std.proofs.lemmas.Option.{none-some, same_Some}
 use Rattle.std.specs.Str.{bytes_eq}
 use lib.Pointwise.{bytes_decides}
-use Rattle.word.specs.declared.place.Place.{Place}
-use Rattle.inline.specs.declared.flat.FlatVariable.{FlatVariable}
 use Rattle.inline.specs.declared.numbering.Numbered.{Numbered}
 use Rattle.inline.specs.Flat as flat
 use Rattle.inline.specs.Flat.{FlatBlock, elements_by, numbers_in}
@@ -12,10 +10,9 @@ use Rattle.inline.specs.FlatMeaning.{Values, value_in, path_in, after_all, path_
 use Rattle.inline.specs.FlatMeaning as flat_meaning
 use Rattle.inline.specs.FlatTyping.{Types}
 use Rattle.inline.specs.Numbering.{Numbers, naming, begun, passed, number_given, own_variable, term}
-use Rattle.inline.specs.Path.{either, first_fault}
+use Rattle.inline.specs.Path.{first_fault}
 use Rattle.language.specs.declared.signature.Form.{Form}
 use Rattle.language.specs.declared.signature.Form.TheVariants.{SingleWord, FixedArray, MutableArray}
-use Rattle.language.specs.declared.signature.Kind.{Kind}
 use Rattle.language.specs.declared.typing.WordType.{WordType}
 use Rattle.language.specs.Grammatical.{AreAllSmall}
 use Rattle.language.specs.Meaning.{is_word, EvaluatesAll, none_left, one_more, this_faults, later_faults, gives, faults, word_arguments, argument_held, words_left, array_named, with_some}
@@ -26,8 +23,8 @@ use Rattle.language.specs.Types.{Scope}
 use Rattle.language.specs.WellTyped as rules
 use Rattle.language.specs.WellTyped.{labelled, ArePassed, none_passed, one_passed}
 use Rattle.names.specs.Scope.{found}
-use Rattle.inline.proofs.Begun.{WordGiven, ArrayGiven, word_given, array_passed, kept_begun}
-use Rattle.inline.proofs.Comes.{Comes, well, fails, then_comes, also, across}
+use Rattle.inline.proofs.Begun.{ArrayGiven, word_given, array_passed, kept_begun}
+use Rattle.inline.proofs.Comes.{Comes, well, then_comes, also, across}
 use Rattle.inline.proofs.Linked.{Linked, entry, later}
 use Rattle.inline.proofs.Lookup.{found-new, found-other}
 use Rattle.inline.proofs.States.{with_value-other, with_value-same, shows_kept}
@@ -80,7 +77,7 @@ module _ (scope : Scope) (names : Numbers) (types : Types) (s : State) where
         (own : Numbers) (text : List ℕ) (x : Numbered) → found own text ≡ None
         → found (if b then begun names (naming own p.name n (own_variable p)) (n + 1) ps es else begun names (naming own p.name (number_given names e) (own_variable p)) n ps es) text ≡ Some x
         → Holds x.declaration (with_some (meaning.begun s ps es left) p.name value text)
-            (after_all m (if b then flat.first (flat.declare n (labelled p.kind p.label) false (term names e)) (passed names (n + 1) ps es) else passed names n ps es) x.number)
+        (after_all m (if b then flat.first (flat.declare n (labelled p.kind p.label) false (term names e)) (passed names (n + 1) ps es) else passed names n ps es) x.number)
 
     -- what is to be shown, by whether the first is a word
     abbrev Goal : Bool → Form → Type 0
@@ -163,6 +160,10 @@ module _ (scope : Scope) (names : Numbers) (types : Types) (s : State) where
           let a = array_passed scope names types n linked is form in
           subst (λ b. Goal p ps e es n m b p.form) (sym form)
           (also (more n linked m shows)
-          (λ vs all holds. (vs, all, subst (λ left. Whole p ps e es n m false (argument_held s p.form e vs) left) (sym (no_word_left p.form vs form))
-              (subst (λ value. Whole p ps e es n m false value vs) (sym (array_held s p.form e vs form)) (array_whole p ps e es n m vs shows a holds))))
+          (λ vs all holds. (
+            vs,
+            all,
+            subst (λ left. Whole p ps e es n m false (argument_held s p.form e vs) left) (sym (no_word_left p.form vs form))
+                (subst (λ value. Whole p ps e es n m false value vs) (sym (array_held s p.form e vs form)) (array_whole p ps e es n m vs shows a holds)),
+          ))
           (λ at all. all))

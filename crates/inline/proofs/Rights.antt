@@ -1,9 +1,9 @@
 -- A right side comes to the same, and changes only what may be changed.
-use Rattle.std.proofs.Common.{◌≡◌, ℕ, ◌+◌, List, Option, Some, None, refl, sym, ap, ◌∙◌, subst}
+use Rattle.std.proofs.Common.{◌≡◌, ℕ, List, Option, Some, None, refl, sym, ap, ◌∙◌, subst}
 use Rattle.inline.specs.Flat as flat
 use Rattle.inline.specs.Flat.{TermTree, chain}
 use Rattle.inline.specs.FlatMeaning.{Values, value_in, path_in, after_all, path_along, path_of_result}
-use Rattle.inline.specs.Numbering.{Numbers, callables, single, call_block, call_value, call_result, value_given, right_block, right, term}
+use Rattle.inline.specs.Numbering.{Numbers, callables, single, call_block, call_value, call_result, value_given, right_block, right}
 use Rattle.inline.specs.Path.{either, first_fault}
 use Rattle.language.specs.declared.signature.Label.{Label}
 use Rattle.language.specs.declared.typing.ValueType.TheVariants.{Word}
@@ -12,12 +12,12 @@ use Rattle.language.specs.Grammatical.{IsSmallRight}
 use Rattle.language.specs.Meaning.{Rights, of_call, of_expr, expr_faults, Returned, word_given, gives, faults}
 use Rattle.language.specs.State.{State}
 use Rattle.language.specs.State as state
-use Rattle.language.specs.Tree.{RightTree, called, computed, CallTree, ProcedureTree}
+use Rattle.language.specs.Tree.{RightTree, called, CallTree, ProcedureTree}
 use Rattle.language.specs.Types.{Scope}
 use Rattle.language.specs.Typing.{result_value}
 use Rattle.language.specs.WellTyped as rules
-use Rattle.inline.proofs.Called.{Agrees, HasResult, a_word, Spares, Ready}
-use Rattle.inline.proofs.Calls.{CallMeans, call_means}
+use Rattle.inline.proofs.Called.{HasResult, a_word, Spares, Ready}
+use Rattle.inline.proofs.Calls.{call_means}
 use Rattle.inline.proofs.Chains.{after_chain, fault_chain}
 use Rattle.inline.proofs.Comes.{Comes, also, either-none}
 use Rattle.inline.proofs.Terms.{Shows, word_at, means}
@@ -43,8 +43,8 @@ module _ (earlier : List ProcedureTree) (scope : Scope) (names : Numbers) (n : �
   -- a call that gives a word
   pub call_gives : {control : Label} {c : CallTree} {given : WordType} → rules.IsCall earlier scope control c (Word given) → (s : State) (m : Values) → Shows names s m → IsSmallRight (called c)
       → Comes (Rights earlier s (called c)) (IsGiven names (after_all m (call_block (callables earlier c.name) names n c.arguments)) given (value_given (call_value (callables earlier c.name) names n c.arguments)))
-          (either (first_fault (path_along m (call_block (callables earlier c.name) names n c.arguments)))
-          (first_fault (path_in (after_all m (call_block (callables earlier c.name) names n c.arguments)) (value_given (call_value (callables earlier c.name) names n c.arguments)))))
+      (either (first_fault (path_along m (call_block (callables earlier c.name) names n c.arguments)))
+      (first_fault (path_in (after_all m (call_block (callables earlier c.name) names n c.arguments)) (value_given (call_value (callables earlier c.name) names n c.arguments)))))
   call_gives {c = c} {given = given} is s m shows small =
       let k = call_means earlier scope names n ready is in
       let tree = call_block (callables earlier c.name) names n c.arguments in
