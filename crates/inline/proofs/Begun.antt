@@ -11,9 +11,7 @@ use Rattle.inline.specs.FlatTyping.{Types, with_type}
 use Rattle.inline.specs.Numbering.{Numbers, naming, begun, passed_variables, number_given, own_variable}
 use Rattle.language.specs.declared.signature.Form.{Form}
 use Rattle.language.specs.declared.signature.Form.TheVariants.{SingleWord, FixedArray, MutableArray}
-use Rattle.language.specs.declared.typing.Declared.TheVariants.{Variable}
 use Rattle.language.specs.declared.typing.ValueType.TheVariants.{Word, Array}
-use Rattle.language.specs.declared.typing.VariableType.{VariableType}
 use Rattle.language.specs.declared.typing.WordType.{WordType}
 use Rattle.language.specs.Meaning.{is_word}
 use Rattle.language.specs.Tree.{ExprTree, name, ParameterTree}
@@ -22,7 +20,7 @@ use Rattle.language.specs.Typing.{with_parameters, parameter_as, is_mutable, sam
 use Rattle.language.specs.WellTyped.{labelled, HasType, Suits, IsVariable, IsPassed, as_word, as_array, as_mutable_array, array_given, array_of, SharesNone, ArePassed, none_passed, one_passed, AreNew, one_is_new}
 use Rattle.names.specs.Scope.{found, declared}
 use Rattle.inline.proofs.Lookup.{found-new, found-other, found-kept}
-use Rattle.inline.proofs.Linked.{Linked, Serves, serves_alike, Known, entry, variable_as, linked_declared, known_array, same_variable, with_type-other}
+use Rattle.inline.proofs.Linked.{Linked, Serves, entry, linked_named, linked_beside, linked_declared, known_array}
 use Rattle.inline.proofs.Parameters.{parameter_same, typed_with, itself}
 
 -- An argument.
@@ -95,7 +93,8 @@ module _ (scope : Scope) (names : Numbers) (types : Types) (n : ℕ) (linked : L
   array_passed {p = p} (as_word form has suit) off = no_word p.form form off
   array_passed {p = p} (as_array {place = place} {text = text} {mutable = mutable} form known) off = by_name p FixedArray place text mutable form known refl (λ e. absurd (true≢false (sym e))) refl
   array_passed {p = p} (as_mutable_array {place = place} {text = text} form known) off = by_name p MutableArray place text true form known refl (λ e. refl) refl
-  -- Arguments apart.
+
+-- Arguments apart.
 
 -- no argument here has this number, unless neither of the two may be changed
 abbrev pub Unshared : Numbers → ℕ → Bool → List ParameterTree → List ExprTree → Type 0
@@ -153,64 +152,6 @@ module _ (scope : Scope) (names : Numbers) (types : Types) (n : ℕ) (linked : L
           let equal = sym a.here ∙ (at ∙ b.here) in
           let both = λ (same : a.text ≡ b.text). off_both (same_name (array_given q.form f) (array_given p.form e)) (is_mutable q.form) (is_mutable p.form) none.0 (same_names (array_given q.form f) (array_given p.form e) b.text a.text b.given a.given (sym same)) in
           ((λ (free : is_mutable p.form ≡ true). (both (linked.apart a.text b.text _ _ a.found b.found equal (a.enough free))).0 free), (λ (free : is_mutable q.form ≡ true). (both (sym (linked.apart b.text a.text _ _ b.found a.found (sym equal) (b.enough free)))).1 free))
-
--- One parameter more.
-
--- the caller's names beside a new number
-linked_beside : (scope : Scope) (names : Numbers) (types : Types) (n : ℕ) (d : FlatVariable) → Linked scope names types n → Linked scope names (with_type types n d) (n + 1)
-linked_beside scope names types n d linked = record {
-  known = λ text v is.
-      let k = linked.known text v is in
-      let low = linked.below text (entry k.number k.declaration) k.numbered in
-      record { number = k.number; declaration = k.declaration; numbered = k.numbered; is = k.is; typed = serves_alike (with_type-other types n k.number d (λ q. omega arith)) k.typed };
-  none = linked.none;
-  below = λ text x is. let low = linked.below text x is in omega arith;
-  apart = linked.apart;
-  fresh = λ x high. with_type-other types n x d (λ q. omega arith) ∙ linked.fresh x (omega arith);
-}
-
--- a name for a number that is there
-module _ (scope : Scope) (names : Numbers) (types : Types) (n : ℕ) (linked : Linked scope names types n) (text : List ℕ) (own : FlatVariable) (new : found scope text ≡ None) (number : ℕ) (low : number < n) (serves : Serves (types number) own)
-    (unlike : (other : List ℕ) (x : Numbered) → found names other ≡ Some x → x.number ≡ number → (x.declaration.mutable ≡ true → ⊥) × (own.mutable ≡ true → ⊥)) where
-  known_by : (other : List ℕ) (w : VariableType) (b : Bool) → bytes_eq other text ≡ b → found (declared scope text (Variable (variable_as own))) other ≡ Some (Variable w) → Known (naming names text number own) types other w
-  known_by other w true e is =
-      let same = same_variable (variable_as own) w (sym (found-new scope text (Variable (variable_as own)) other e new) ∙ is) in
-      record { number = number; declaration = own; numbered = found-new names text (entry number own) other e (linked.none text new); is = sym same; typed = serves }
-  known_by other w false e is =
-      let old = linked.known other w (sym (found-other scope text (Variable (variable_as own)) other e) ∙ is) in
-      record { number = old.number; declaration = old.declaration; numbered = found-other names text (entry number own) other e ∙ old.numbered; is = old.is; typed = old.typed }
-
-  none_by : (other : List ℕ) (b : Bool) → bytes_eq other text ≡ b → found (declared scope text (Variable (variable_as own))) other ≡ None → found (naming names text number own) other ≡ None
-  none_by other true e is = absurd (none-some (Variable (variable_as own)) (sym is ∙ found-new scope text (Variable (variable_as own)) other e new))
-  none_by other false e is = found-other names text (entry number own) other e ∙ linked.none other (sym (found-other scope text (Variable (variable_as own)) other e) ∙ is)
-
-  newest : (other : List ℕ) (x : Numbered) → bytes_eq other text ≡ true → found (naming names text number own) other ≡ Some x → entry number own ≡ x
-  newest other x e is = same_Some (entry number own) x (sym (found-new names text (entry number own) other e (linked.none text new)) ∙ is)
-
-  older : (other : List ℕ) (x : Numbered) → bytes_eq other text ≡ false → found (naming names text number own) other ≡ Some x → found names other ≡ Some x
-  older other x e is = sym (found-other names text (entry number own) other e) ∙ is
-
-  below_by : (other : List ℕ) (x : Numbered) (b : Bool) → bytes_eq other text ≡ b → found (naming names text number own) other ≡ Some x → x.number < n
-  below_by other x true e is = subst (λ (z : Numbered). z.number < n) (newest other x e is) low
-  below_by other x false e is = linked.below other x (older other x e is)
-
-  apart_by : (a b : List ℕ) (x y : Numbered) (s t : Bool) → bytes_eq a text ≡ s → bytes_eq b text ≡ t → found (naming names text number own) a ≡ Some x → found (naming names text number own) b ≡ Some y → x.number ≡ y.number → x.declaration.mutable ≡ true → a ≡ b
-  apart_by a b x y true true d e is is' equal free = (bytes_decides a text).0 d ∙ sym ((bytes_decides b text).0 e)
-  apart_by a b x y true false d e is is' equal free =
-      let same = newest a x d is in
-      absurd ((unlike b y (older b y e is') (sym equal ∙ sym (ap (λ (z : Numbered). z.number) same))).1 (ap (λ (z : Numbered). z.declaration.mutable) same ∙ free))
-  apart_by a b x y false true d e is is' equal free =
-      absurd ((unlike a x (older a x d is) (equal ∙ sym (ap (λ (z : Numbered). z.number) (newest b y e is')))).0 free)
-  apart_by a b x y false false d e is is' equal free = linked.apart a b x y (older a x d is) (older b y e is') equal free
-
-  linked_shared : Linked (declared scope text (Variable (variable_as own))) (naming names text number own) types n
-  linked_shared = record {
-    known = λ other w. known_by other w (bytes_eq other text) refl;
-    none = λ other. none_by other (bytes_eq other text) refl;
-    below = λ other x. below_by other x (bytes_eq other text) refl;
-    apart = λ a b x y. apart_by a b x y (bytes_eq a text) (bytes_eq b text) refl refl;
-    fresh = linked.fresh;
-  }
 
 -- All parameters.
 
@@ -276,7 +217,7 @@ module _ (scope : Scope) (names : Numbers) where
           let new = within.none p.name here in
           let low = subst (λ k. k < n) (sym a.here) a.low in
           let next = subst (λ v. Linked (declared inner p.name v) own' types n) (parameter_same p)
-          (linked_shared inner own types n within p.name d here number low (subst (λ k. Serves (types k) d) (sym a.here) a.serves) (λ other x known. apart.0 other x known form)) in
+          (linked_named inner own types n within p.name here number d low (subst (λ k. Serves (types k) d) (sym a.here) a.serves) (λ other x known. apart.0 other x known form)) in
           let rest = more own' types n linked next (distinct_more names own p.name number d new ps es (unshared_array scope names types n linked p e a shares are) apart.1) in
           let end = begun names own' n ps es in
           subst (λ b. Enters inner names (p ∷ ps) (e ∷ es) (if b then begun names (naming own p.name n d) (n + 1) ps es else end) (typed_with types n (if b then d ∷ passed_variables ps es else passed_variables ps es)) (n + length (if b then d ∷ passed_variables ps es else passed_variables ps es)))

@@ -1,5 +1,5 @@
 -- Names, their types and their numbers, as they go together.
-use Rattle.std.proofs.Common.{◌≡◌, ℕ, ◌+◌, ◌<◌, ◌≤◌, Bool, true, false, if◌then◌else◌, List, Option, Some, None, unwrap_or, refl, sym, ap, ap₂, ◌∙◌, true≢false, subst, arith, eq-eqb, ne_eqb}
+use Rattle.std.proofs.Common.{◌≡◌, ℕ, ◌+◌, ◌<◌, ◌≤◌, Bool, true, false, if◌then◌else◌, List, Option, Some, None, unwrap_or, refl, sym, ap, ap₂, ◌∙◌, subst, arith, eq-eqb, ne_eqb}
 use Rattle.std.proofs.lemmas.Option.{none-some, same_Some}
 use Rattle.std.specs.Str.{bytes_eq}
 use lib.Pointwise.{bytes_decides}
@@ -91,7 +91,7 @@ same_variable v w e = cc
 -- A name for a number that is declared: for a new one, or for a caller's array.
 
 module _ (scope : Scope) (names : Numbers) (types : Types) (n : ℕ) (linked : Linked scope names types n) (text : List ℕ) (new : found scope text ≡ None) (number : ℕ) (own : FlatVariable)
-    (low : number < n) (typed : Serves (types number) own) (clear : (b : List ℕ) (y : Numbered) → found names b ≡ Some y → y.number ≡ number → (own.mutable ≡ false) × (y.declaration.mutable ≡ false)) where
+    (low : number < n) (typed : Serves (types number) own) (clear : (other : List ℕ) (x : Numbered) → found names other ≡ Some x → x.number ≡ number → (x.declaration.mutable ≡ true → ⊥) × (own.mutable ≡ true → ⊥)) where
   after_scope : Scope
   after_scope = declared scope text (Variable (variable_as own))
 
@@ -140,12 +140,10 @@ module _ (scope : Scope) (names : Numbers) (types : Types) (n : ℕ) (linked : L
   apart_by a b x y true true d e is is' equal free = (bytes_decides a text).0 d ∙ sym ((bytes_decides b text).0 e)
   apart_by a b x y true false d e is is' equal free =
       let same = this_one a x d is in
-      let fixed = (clear b y (old_one b y e is') (sym equal ∙ ap (λ (z : Numbered). z.number) (sym same))).0 in
-      absurd (true≢false (sym free ∙ (ap (λ (z : Numbered). z.declaration.mutable) (sym same) ∙ fixed)))
+      absurd ((clear b y (old_one b y e is') (sym equal ∙ ap (λ (z : Numbered). z.number) (sym same))).1 (ap (λ (z : Numbered). z.declaration.mutable) same ∙ free))
   apart_by a b x y false true d e is is' equal free =
       let same = this_one b y e is' in
-      let fixed = (clear a x (old_one a x d is) (equal ∙ ap (λ (z : Numbered). z.number) (sym same))).1 in
-      absurd (true≢false (sym free ∙ fixed))
+      absurd ((clear a x (old_one a x d is) (equal ∙ ap (λ (z : Numbered). z.number) (sym same))).0 free)
   apart_by a b x y false false d e is is' equal free = linked.apart a b x y (old_one a x d is) (old_one b y e is') equal free
 
   pub linked_named : Linked (declared scope text (Variable (variable_as own))) (naming names text number own) types n

@@ -1,20 +1,20 @@
 -- A statement about each procedure that may be called, by induction over the text.
-use Rattle.std.proofs.Common.{◌≡◌, ◌≢◌, ℕ, zero, suc, ◌+◌, ◌<◌, Bool, true, false, if◌then◌else◌, List, [], ◌∷◌, ◌++◌, length, Option, Some, None, is_some, refl, sym, ap, ◌∙◌, subst, arith, slice_get, length-append}
+use Rattle.std.proofs.Common.{◌≡◌, ◌≢◌, ℕ, zero, suc, ◌<◌, Bool, true, false, if◌then◌else◌, List, [], ◌∷◌, ◌++◌, length, Some, None, is_some, refl, sym, ap, ◌∙◌, subst, arith, slice_get, length-append}
 use Rattle.std.proofs.lemmas.List.{nil_from_length}
 use Rattle.std.proofs.lemmas.Option.{none-some, same_Some}
 use Rattle.std.specs.List.{AllByRecursion}
 use Rattle.std.specs.Str.{bytes_eq}
 use lib.Pointwise.{bytes_decides}
+use Rattle.language.specs.declared.signature.Label.{Label}
 use Rattle.language.specs.declared.typing.Callee.{Callee}
-use Rattle.language.specs.declared.typing.Declared.{Declared}
 use Rattle.language.specs.declared.typing.Declared.TheVariants.{Procedure, Variable}
 use Rattle.language.specs.declared.typing.VariableType.{VariableType}
 use Rattle.language.specs.Meaning.{exported, named}
-use Rattle.language.specs.Tree.{ParameterTree, ProcedureTree, ProgramTree, StatementTree, declaration, array, assignment, element_assignment, call, conditional, loop}
+use Rattle.language.specs.Tree.{ParameterTree, ProcedureTree, ProgramTree, StatementTree}
 use Rattle.names.specs.Scope.{found, declared}
 use Rattle.language.specs.Types.{Scope}
-use Rattle.language.specs.Typing.{assigns_public, declared_as, declared_array, parameter_as, scope_after, violations, with_parameters, with_procedure}
-use Rattle.language.specs.WellTyped.{IsProcedure, AreProcedures, no_procedure, one_procedure}
+use Rattle.language.specs.Typing.{assigns_public, scope_after, violations, with_parameters, with_procedure}
+use Rattle.language.specs.WellTyped.{IsWellTyped, declares, declares_array, assigns, assigns_element, calls, chooses, repeats, AreNew, no_parameter, one_is_new, IsProcedure, AreProcedures, no_procedure, one_procedure}
 use Rattle.inline.proofs.KnownLemmas.{named-kept, named-missed, named-new}
 use Rattle.inline.proofs.Lookup.{found-new, found-other}
 use Rattle.inline.proofs.Parameters.{NoVariables}
@@ -192,3 +192,16 @@ module _ (earlier : List ProcedureTree) (at : Scope) where
       by_name : (b : Bool) → bytes_eq text name ≡ b → found at text ≡ Some (Procedure c)
       by_name true e = absurd (no_callee c v (sym is ∙ found-new scope name (Variable v) text e new))
       by_name false e = within text c p (sym (found-other scope name (Variable v) text e) ∙ is) get
+
+  pub within_after : {scope : Scope} {control : Label} {s : StatementTree} → IsWellTyped earlier scope control s → IsWithin earlier at scope → IsWithin earlier at (scope_after scope s)
+  within_after (declares {scope = scope} {text = text} new has suit flow) within = within_declared scope text _ new within
+  within_after (declares_array {scope = scope} {text = text} new suit count flow) within = within_declared scope text _ new within
+  within_after (assigns is has suit flow) within = within
+  within_after (assigns_element is has value suit flow) within = within
+  within_after (calls is) within = within
+  within_after (chooses has one other) within = within
+  within_after (repeats low high new inner) within = within
+
+  pub within_parameters : {scope : Scope} {ps : List ParameterTree} → AreNew scope ps → IsWithin earlier at scope → IsWithin earlier at (with_parameters scope ps)
+  within_parameters no_parameter within = within
+  within_parameters (one_is_new {scope = scope} {p = p} here there) within = within_parameters there (within_declared scope p.name _ here within)
