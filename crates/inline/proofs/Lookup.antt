@@ -1,5 +1,6 @@
 -- What a name stands for after a declaration.
-use Rattle.std.proofs.Common.{◌≡◌, ℕ, Bool, true, false, cond, List, [], ◌∷◌, ◌++◌, Option, Some, None, is_some, refl, sym, ap, ◌∙◌, true≢false}
+use Rattle.std.proofs.Common.{◌≡◌, ℕ, Bool, true, false, cond, List, [], ◌∷◌, ◌++◌, Option, Some, None, is_some, ◌⊎◌, inl, inr, refl, sym, ap, ◌∙◌, true≢false}
+use Rattle.std.proofs.lemmas.Option.{same_Some}
 use Rattle.std.specs.Map.{lookup}
 use Rattle.std.specs.Str.{bytes_eq}
 use lib.Pointwise.{bytes_decides}
@@ -63,6 +64,15 @@ module _ {V : Type 0} (scope : List (List ℕ × V)) (name : List ℕ) (what : V
   -- what was there stays there
   pub found-kept : (v : V) → found scope text ≡ Some v → found (declared scope name what) text ≡ Some v
   found-kept v there = found_declared ∙ ap (λ o. first_of_two o (cond (bytes_eq text name) (Some what) None)) there
+
+-- what is found after a declaration was there, or is what was declared
+pub found-split : {V : Type 0} (scope : List (List ℕ × V)) (name : List ℕ) (what : V) (text : List ℕ) (v : V) → found (declared scope name what) text ≡ Some v → (found scope text ≡ Some v) ⊎ ((bytes_eq text name ≡ true) × (what ≡ v))
+found-split {V = V} scope name what text v is = by_old (found scope text) refl (bytes_eq text name) refl (sym (found_declared scope name what text) ∙ is)
+  where
+    by_old : (o : Option V) → found scope text ≡ o → (b : Bool) → bytes_eq text name ≡ b → first_of_two o (cond b (Some what) None) ≡ Some v → (o ≡ Some v) ⊎ ((b ≡ true) × (what ≡ v))
+    by_old (Some w) there b e h = inl h
+    by_old None there true e h = inr (refl, same_Some what v h)
+    by_old None there false e h = inl h
 
 -- what isn't there is nothing
 pub nothing : {A : Type 0} (o : Option A) → is_some o ≡ false → o ≡ None

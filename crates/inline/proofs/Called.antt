@@ -1,0 +1,123 @@
+-- What is known of procedures that may be called, and of the names where they are.
+use Rattle.std.proofs.Common.{◌≡◌, ℕ, suc, ◌+◌, ◌<◌, ◌≤◌, true, List, [], ◌∷◌, ◌++◌, length, Option, Some, None, slice_get, ◌⊎◌, inl, inr, arith, length-append}
+use Rattle.std.specs.Str.{bytes_eq}
+use Rattle.inline.specs.declared.flat.FlatVariable.{FlatVariable}
+use Rattle.inline.specs.declared.numbering.Numbered.{Numbered}
+use Rattle.inline.specs.Flat.{TermTree, word_as, array_as}
+use Rattle.inline.specs.FlatMeaning.{Values, value_in, after_all, path_along, path_of_result}
+use Rattle.inline.specs.FlatTyping.{Types, with_type}
+use Rattle.inline.specs.Numbering.{Numbers, callables, naming, block, names_after, names_after_all, value_of, right_end, right_variables, element_variables, call_variables, call_result, dropped_variables, declared_in, declared_in_all, numbers_taken, numbers_taken_all}
+use Rattle.inline.specs.Path.{either, first_fault}
+use Rattle.language.specs.declared.typing.Callee.{Callee}
+use Rattle.language.specs.declared.typing.Declared.TheVariants.{Procedure, Variable}
+use Rattle.language.specs.declared.signature.Label.{Label}
+use Rattle.language.specs.declared.typing.VariableType.{VariableType}
+use Rattle.language.specs.declared.typing.WordType.{WordType}
+use Rattle.language.specs.Meaning.{named, Bodies, Returned}
+use Rattle.language.specs.State.{State, Word}
+use Rattle.language.specs.Tree.{StatementTree, BlockTree, ProcedureTree}
+use Rattle.language.specs.Types.{Scope}
+use Rattle.language.specs.Typing.{with_parameters, scope_after, scope_after_all}
+use Rattle.language.specs.WellTyped.{labelled, AreNew, IsWellTyped, declares, declares_array, assigns, assigns_element, calls, chooses, repeats, AreWellTyped, no_statement, one_more}
+use Rattle.names.specs.Scope.{found, declared}
+use Rattle.inline.proofs.Comes.{Comes}
+use Rattle.inline.proofs.Linked.{Linked, later, linked_declared, variable_as}
+use Rattle.inline.proofs.Lookup.{found-split}
+use Rattle.inline.proofs.Parameters.{NoVariables}
+use Rattle.inline.proofs.Terms.{Shows, word_at}
+
+-- a result that is the flat one's value, where there is one
+pub data HasResult (m : Values) : Option WordType → Option TermTree → Option Word → Type 0 where
+  nothing_given : HasResult m None None None
+  a_word : {word : WordType} {value : TermTree} {w : Word} → w ≡ word_at word.kind (value_in m value) → HasResult m (Some word) (Some value) (Some w)
+
+-- what a body or a call came to is what the flat one came to
+pub record Agrees (names : Numbers) (m : Values) (result : Option WordType) (value : Option TermTree) (r : Returned) : Type 0 where
+  pub word : HasResult m result value r.word
+  pub shows : Shows names r.state m
+
+-- A number that a body changes nowhere, where n is the next number: it is none of its own, and none of a mutable name.
+pub record Spares (names : Numbers) (n x : ℕ) : Type 0 where
+  pub below : x < n
+  pub spared : (text : List ℕ) (y : Numbered) → found names text ≡ Some y → y.declaration.mutable ≡ true → y.number ≡ x → ⊥
+
+-- a body in these names, in a state that they show
+abbrev pub BodyComes : List ProcedureTree → ProcedureTree → Numbers → ℕ → State → Values → Type 0
+BodyComes before p names n s m =
+    let known = callables before in
+    let body = block known names n p.body in
+    let value = value_of (names_after_all known names n p.body) p.returned in
+    let end = after_all m body in
+    Comes (Bodies before p s) (Agrees names end p.result value) (either (first_fault (path_along m body)) (first_fault (path_of_result end value)))
+
+-- a procedure behind those that it may call means the same once its names are numbers
+pub record Behaves (before : List ProcedureTree) (p : ProcedureTree) : Type 0 where
+  pub scope : Scope
+  pub procedures : NoVariables scope
+  pub parameters : AreNew scope p.parameters
+  pub returns : p.result ≡ None → p.returned ≡ None
+  pub comes : (names : Numbers) (types : Types) (n : ℕ) (s : State) (m : Values) → Linked (with_parameters scope p.parameters) names types n → Shows names s m → BodyComes before p names n s m
+  pub keeps : (names : Numbers) (types : Types) (n : ℕ) → Linked (with_parameters scope p.parameters) names types n → (x : ℕ) → Spares names n x → (m : Values)
+      → after_all m (block (callables before) names n p.body) x ≡ m x
+
+-- a name stands for a procedure that does
+pub record Meant (earlier : List ProcedureTree) (text : List ℕ) (p : ProcedureTree) : Type 0 where
+  pub before : List ProcedureTree
+  pub named : named [] earlier text ≡ Some (before, p)
+  pub behaves : Behaves before p
+
+-- so does each that may be called
+abbrev pub CallsAreKept : List ProcedureTree → Scope → Type 0
+CallsAreKept earlier scope = (text : List ℕ) (c : Callee) (p : ProcedureTree) → found scope text ≡ Some (Procedure c) → slice_get earlier c.number ≡ Some p → Meant earlier text p
+
+-- where a statement begins: its names go together with numbers, of which the next is n, and with types
+pub record Ready (earlier : List ProcedureTree) (scope : Scope) (names : Numbers) (n : ℕ) : Type 0 where
+  pub types : Types
+  pub linked : Linked scope names types n
+  pub calls : CallsAreKept earlier scope
+
+pub ready_later : {earlier : List ProcedureTree} {scope : Scope} {names : Numbers} (n m : ℕ) → n ≤ m → Ready earlier scope names n → Ready earlier scope names m
+ready_later {scope = scope} {names = names} n m more ready = record { types = ready.types; linked = later scope names ready.types n m more ready.linked; calls = ready.calls }
+
+-- after a declaration
+pub same_calls : (earlier : List ProcedureTree) (scope : Scope) (text : List ℕ) (v : VariableType) → CallsAreKept earlier scope → CallsAreKept earlier (declared scope text (Variable v))
+same_calls earlier scope text v old_calls other c p is there = by_name (found-split scope text (Variable v) other (Procedure c) is)
+  where
+    no_procedure : (v : VariableType) (c : Callee) → Variable v ≡ Procedure c → ⊥
+    no_procedure v c h = cc
+
+    by_name : (found scope other ≡ Some (Procedure c)) ⊎ ((bytes_eq other text ≡ true) × (Variable v ≡ Procedure c)) → Meant earlier other p
+    by_name (inl old) = old_calls other c p old there
+    by_name (inr new) = absurd (no_procedure v c new.1)
+
+pub ready_declared : {earlier : List ProcedureTree} {scope : Scope} {names : Numbers} (n : ℕ) → Ready earlier scope names n → (text : List ℕ) (own : FlatVariable) → found scope text ≡ None
+    → Ready earlier (declared scope text (Variable (variable_as own))) (naming names text n own) (n + 1)
+ready_declared {earlier = earlier} {scope = scope} {names = names} n ready text own new = record {
+  types = with_type ready.types n own;
+  linked = linked_declared scope names ready.types n ready.linked text own new;
+  calls = same_calls earlier scope text (variable_as own) ready.calls;
+}
+
+module _ (earlier : List ProcedureTree) where
+  pub ready_after : {scope : Scope} {control : Label} {s : StatementTree} → IsWellTyped earlier scope control s → (names : Numbers) (n : ℕ) → Ready earlier scope names n
+      → Ready earlier (scope_after scope s) (names_after (callables earlier) names n s) (n + numbers_taken (callables earlier) s)
+  ready_after (declares {scope = scope} {label = label} {mutable = mutable} {kind = kind} {text = text} {right = right} new has suit flow) names n ready =
+      let k = right_end (callables earlier) n right in
+      let own = word_as (labelled kind label) mutable in
+      let count = length-append (right_variables (callables earlier) right) (own ∷ []) in
+      ready_later (k + 1) (n + length (right_variables (callables earlier) right ++ own ∷ [])) (omega (arith, count)) (ready_declared k (ready_later n k (omega arith) ready) text own new)
+  ready_after (declares_array {scope = scope} {label = label} {mutable = mutable} {kind = kind} {size = size} {text = text} new all count flow) names n ready = ready_declared n ready text (array_as (labelled kind label) mutable size) new
+  ready_after (assigns {right = right} is has suit flow) names n ready = ready_later n (n + length (right_variables (callables earlier) right)) (omega arith) ready
+  ready_after (assigns_element {right = right} is has value suit flow) names n ready = ready_later n (n + length (element_variables (callables earlier) right)) (omega arith) ready
+  ready_after (calls {c = c} is) names n ready = ready_later n (n + length (call_variables (callables earlier c.name) c.arguments ++ dropped_variables (call_result (callables earlier c.name)))) (omega arith) ready
+  ready_after (chooses {accepted = accepted} {otherwise = otherwise} has one other) names n ready = ready_later n (n + length (declared_in_all (callables earlier) accepted ++ declared_in_all (callables earlier) otherwise)) (omega arith) ready
+  ready_after (repeats {body = body} low high new inner) names n ready = ready_later n (n + suc (numbers_taken_all (callables earlier) body)) (omega arith) ready
+
+  pub ready_after_all : {scope : Scope} {control : Label} {b : BlockTree} → AreWellTyped earlier scope control b → (names : Numbers) (n : ℕ) → Ready earlier scope names n
+      → Ready earlier (scope_after_all scope b) (names_after_all (callables earlier) names n b) (n + numbers_taken_all (callables earlier) b)
+  ready_after_all no_statement names n ready = ready_later n (n + 0) (omega arith) ready
+  ready_after_all (one_more {statement = s} {rest = rest} here there) names n ready =
+      let k = n + numbers_taken (callables earlier) s in
+      let count = length-append (declared_in (callables earlier) s) (declared_in_all (callables earlier) rest) in
+      ready_later (k + numbers_taken_all (callables earlier) rest) (n + length (declared_in (callables earlier) s ++ declared_in_all (callables earlier) rest)) (omega (arith, count))
+      (ready_after_all there (names_after (callables earlier) names n s) k (ready_after here names n ready))

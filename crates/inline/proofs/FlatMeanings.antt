@@ -1,0 +1,135 @@
+-- A program that violates no rule comes to what the flat program comes to.
+use Rattle.std.proofs.Common.{◌≡◌, ℕ, ◌+◌, List, [], ◌∷◌, ◌++◌, length, map, Option, None, Some, refl, sym, ap, ap₂, ◌∙◌, subst}
+use Rattle.std.specs.List.{AllByRecursion}
+use Rattle.std.specs.Option.{option_map}
+use Rattle.word.specs.declared.place.Place.{Place}
+use Rattle.arguments.specs.Within.{AreWithin}
+use Rattle.inline.specs.Flat.{TermTree}
+use Rattle.inline.specs.FlatMeaning.{Values, given, value_in, path_along, path_of_result, after_all, outcome_of, ending_by, ending_of}
+use Rattle.inline.specs.FlatTyping.{Types, parameter_types}
+use Rattle.inline.specs.Numbering.{Numbers, param_of, callables, parameter_names, names_after_all, value_of, flattened, block, term, declared_in_all, numbers_taken_all}
+use Rattle.inline.specs.Path.{first_fault}
+use Rattle.language.specs.declared.typing.WordType.{WordType}
+use Rattle.language.specs.declared.values.Arg.{Arg}
+use Rattle.language.specs.Grammatical.{IsGrammatical, IsSmallReturn}
+use Rattle.language.specs.Meaning.{Bodies, statements_fault, returns, returns_nothing, return_faults, Gives, ends_well, meets_fault, RunsAll, exported, final_arrays, gives, holding}
+use Rattle.language.specs.Results.{Results}
+use Rattle.language.specs.State.{State, Word}
+use Rattle.language.specs.Tree.{ParameterTree, ProcedureTree, ProgramTree, ReturnTree}
+use Rattle.language.specs.Types.{Scope}
+use Rattle.language.specs.Typing.{body_scope, parameter_as, scope_after_all, violations, with_parameters, with_procedure}
+use Rattle.language.specs.WellTyped as rules
+use Rattle.names.specs.Scope.{declared}
+use Rattle.inline.proofs.Called.{Agrees, HasResult, nothing_given, a_word, Behaves, BodyComes, CallsAreKept, Ready, same_calls, ready_after_all}
+use Rattle.inline.proofs.Comes.{Comes, well, fails, then_comes, also, across}
+use Rattle.inline.proofs.FlatEnds.{same_ends}
+use Rattle.inline.proofs.Kept.{block_keeps}
+use Rattle.inline.proofs.Linked.{Linked}
+use Rattle.inline.proofs.Parameters.{shows_arguments, arrays_same, all_own, where_begun, linked_parameters}
+use Rattle.inline.proofs.Procedures.{Stand, own_typing, variables_within, earlier_within}
+use Rattle.inline.proofs.States.{shows_before}
+use Rattle.inline.proofs.Terms.{Shows, means}
+
+-- Procedures.
+
+-- the statement that each procedure meets, in the scope of those before it
+abbrev IsKept : List ProcedureTree → Scope → ProcedureTree → Type 0
+IsKept before scope p = Behaves before p
+
+within_parameters : (earlier : List ProcedureTree) (ps : List ParameterTree) (scope : Scope) → CallsAreKept earlier scope → CallsAreKept earlier (with_parameters scope ps)
+within_parameters earlier [] scope calls = calls
+within_parameters earlier (p ∷ ps) scope calls = within_parameters earlier ps (declared scope p.name (parameter_as p)) (same_calls earlier scope p.name _ calls)
+
+-- a result, where there is one
+no_result : {scope : Scope} {result : Option WordType} {o : Option ReturnTree} → rules.Returns scope result o → result ≡ None → o ≡ None
+no_result rules.nothing_returned none = refl
+no_result (rules.value_returned has suit) none = absurd cc
+
+kind_suits : {given wanted : WordType} → rules.Suits given wanted → given.kind ≡ wanted.kind
+kind_suits (rules.suits flow) = refl
+
+-- the end of a body, with its result
+result_comes : (before : List ProcedureTree) (p : ProcedureTree) (start end : State) (scope : Scope) (names : Numbers) (types : Types) (n : ℕ) (m : Values) → Linked scope names types n → Shows names end m
+    → RunsAll before start p.body (gives end) → {result : Option WordType} {o : Option ReturnTree} → rules.Returns scope result o → p.returned ≡ o → IsSmallReturn o
+    → Comes (Bodies before p start) (Agrees names m result (value_of names o)) (first_fault (path_of_result m (value_of names o)))
+result_comes before p start end scope names types n m linked shows run rules.nothing_returned is small =
+    well (record { word = None; state = end }) (returns_nothing before p start end run is) (record { word = nothing_given; shows = shows })
+result_comes before p start end scope names types n m linked shows run (rules.value_returned {r = r} has suit) is small =
+    let v = value_in m (term names r.value) in
+    also ((means scope names types n linked has small).value end m shows)
+    (λ w gives same. (
+      record { word = Some w; state = end },
+      returns before p start end r w run is gives,
+      record { word = a_word (same ∙ ap (λ k. record { kind = k; value = v }) (kind_suits suit)); shows = shows },
+    ))
+    (λ at fails. return_faults before p start end r at run is fails)
+
+module _ (before : List ProcedureTree) (scope : Scope) (p : ProcedureTree) (stand : Stand IsKept before scope) (typed : rules.IsProcedure before scope p) (plain : IsGrammatical p) where
+  calls_within : CallsAreKept before (with_procedure scope (length before) p)
+  calls_within text c q is there =
+      let known = stand.callable text c q (earlier_within IsKept before scope stand p typed.is_new text c q is there) there in
+      record { before = known.before; named = known.is; behaves = known.good }
+
+  module _ (names : Numbers) (types : Types) (n : ℕ) (linked : Linked (body_scope scope (length before) p) names types n) where
+    begins : Ready before (body_scope scope (length before) p) names n
+    begins = record { types = types; linked = linked; calls = within_parameters before p.parameters (with_procedure scope (length before) p) calls_within }
+
+    body_comes : (s : State) (m : Values) → Shows names s m → BodyComes before p names n s m
+    body_comes s m shows =
+        let known = callables before in
+        let body = block known names n p.body in
+        let last = names_after_all known names n p.body in
+        let end = after_all m body in
+        let ready = ready_after_all before typed.body names n begins in
+        then_comes (same_ends before typed.body names n begins plain.body s m shows)
+        (λ t run good.
+        also (result_comes before p s t (scope_after_all (body_scope scope (length before) p) p.body) last ready.types (n + numbers_taken_all known p.body) end ready.linked good run typed.returns refl plain.returned)
+        (λ r is agrees. (r, is, record { word = agrees.word; shows = shows_before known p.body names n r.state end agrees.shows }))
+        (λ at is. is))
+        (λ at run. statements_fault before p s at run)
+
+  behaves : Behaves before p
+  behaves = record {
+    scope = with_procedure scope (length before) p;
+    procedures = variables_within IsKept before scope stand p typed.is_new;
+    parameters = typed.parameters;
+    returns = no_result typed.returns;
+    comes = λ names types n s m linked. body_comes names types n linked s m;
+    keeps = λ names types n linked. block_keeps before typed.body names n (begins names types n linked);
+  }
+
+-- The program.
+
+-- a word as a result
+word_same : {m : Values} {result : Option WordType} {value : Option TermTree} {word : Option Word} → HasResult m result value word → option_map (λ (w : Word). w.value) word ≡ option_map (value_in m) value
+word_same nothing_given = refl
+word_same (a_word same) = ap (λ (w : Word). Some w.value) same
+
+-- the end of the whole
+ended : (program : ProgramTree) (args : List Arg) (before : List ProcedureTree) (p : ProcedureTree) (outcome : Results) (fault : Option Place) → exported [] program.procedures ≡ Some (before, p)
+    → Comes (Bodies before p (holding p.parameters args)) (λ r. record { returned = option_map (λ (w : Word). w.value) r.word; arrays = final_arrays r.state p.parameters } ≡ outcome) fault
+    → Gives program args (ending_by fault outcome)
+ended program args before p outcome fault is (well r body same) = subst (λ x. Gives program args (gives x)) same (ends_well before p r.word r.state is body)
+ended program args before p outcome fault is (fails at body) = meets_fault before p at is body
+
+pub flat_keeps_meaning : (program : ProgramTree) (before : List ProcedureTree) (p : ProcedureTree) (args : List Arg) → length (violations program) ≡ 0 → exported [] program.procedures ≡ Some (before, p)
+    → AllByRecursion IsGrammatical before → IsGrammatical p → AreWithin (map param_of p.parameters) args → Gives program args (ending_of (flattened before p) args)
+flat_keeps_meaning program before p args h is grammatical plain within =
+    let e = own_typing IsKept IsGrammatical behaves program before p h is grammatical in
+    let known = callables before in
+    let scope = with_procedure e.scope (length before) p in
+    let variables = variables_within IsKept before e.scope e.stand p e.typed.is_new in
+    let n = length p.parameters in
+    let names = parameter_names p in
+    let body = block known names n p.body in
+    let start = holding p.parameters args in
+    let from = given (all_own p.parameters ++ declared_in_all known p.body) args in
+    let m = after_all from body in
+    let value = value_of (names_after_all known names n p.body) p.returned in
+    let linked = linked_parameters scope variables p.parameters e.typed.parameters in
+    let named = (where_begun scope variables p.parameters e.typed.parameters).named in
+    ended program args before p (outcome_of (flattened before p) args) (first_fault (path_along from body ++ path_of_result m value)) is
+    (subst (Comes (Bodies before p start) (λ r. _ ≡ outcome_of (flattened before p) args)) (sym (across (path_along from body) (path_of_result m value)))
+    (also (body_comes before e.scope p e.stand e.typed plain names (parameter_types (map param_of p.parameters)) n linked start from (shows_arguments p.parameters (declared_in_all known p.body) args within))
+    (λ r bodies agrees. (r, bodies, ap₂ (λ o arrays. record { returned = o; arrays = arrays }) (word_same agrees.word) (arrays_same p.parameters names 0 r.state m named agrees.shows)))
+    (λ at bodies. bodies)))

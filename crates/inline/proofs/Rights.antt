@@ -1,0 +1,87 @@
+-- A right side comes to the same, and changes only what may be changed.
+use Rattle.std.proofs.Common.{◌≡◌, ℕ, List, Option, Some, None, refl, sym, ap, ◌∙◌, subst}
+use Rattle.inline.specs.Flat as flat
+use Rattle.inline.specs.Flat.{TermTree, chain}
+use Rattle.inline.specs.FlatMeaning.{Values, value_in, path_in, after_all, path_along, path_of_result}
+use Rattle.inline.specs.Numbering.{Numbers, callables, single, call_block, call_value, call_result, value_given, right_block, right}
+use Rattle.inline.specs.Path.{either, first_fault}
+use Rattle.language.specs.declared.signature.Label.{Label}
+use Rattle.language.specs.declared.typing.ValueType.TheVariants.{Word}
+use Rattle.language.specs.declared.typing.WordType.{WordType}
+use Rattle.language.specs.Grammatical.{IsSmallRight}
+use Rattle.language.specs.Meaning.{Rights, of_call, of_expr, expr_faults, Returned, word_given, gives, faults}
+use Rattle.language.specs.State.{State}
+use Rattle.language.specs.State as state
+use Rattle.language.specs.Tree.{RightTree, called, CallTree, ProcedureTree}
+use Rattle.language.specs.Types.{Scope}
+use Rattle.language.specs.Typing.{result_value}
+use Rattle.language.specs.WellTyped as rules
+use Rattle.inline.proofs.Called.{HasResult, a_word, Spares, Ready}
+use Rattle.inline.proofs.Calls.{call_means}
+use Rattle.inline.proofs.Chains.{after_chain, fault_chain}
+use Rattle.inline.proofs.Comes.{Comes, also, either-none}
+use Rattle.inline.proofs.Terms.{Shows, word_at, means}
+
+-- the state and the word that a right side gives
+pub record IsGiven (names : Numbers) (m : Values) (given : WordType) (value : TermTree) (r : Returned) : Type 0 where
+  pub word : word_given r.word ≡ word_at given.kind (value_in m value)
+  pub shows : Shows names r.state m
+
+-- a word that is asked for
+pub path_given : (m : Values) (value : Option TermTree) → path_of_result m value ≡ path_in m (value_given value)
+path_given m None = refl
+path_given m (Some value) = refl
+
+pub word_result : (o : Option WordType) (given : WordType) → result_value o ≡ Word given → o ≡ Some given
+word_result None given h = absurd cc
+word_result (Some word) given h = cc
+
+pub given_word : {m : Values} {given : WordType} {value : Option TermTree} {w : Option state.Word} → HasResult m (Some given) value w → word_given w ≡ word_at given.kind (value_in m (value_given value))
+given_word (a_word same) = same
+
+module _ (earlier : List ProcedureTree) (scope : Scope) (names : Numbers) (n : ℕ) (ready : Ready earlier scope names n) where
+  -- a call that gives a word
+  pub call_gives : {control : Label} {c : CallTree} {given : WordType} → rules.IsCall earlier scope control c (Word given) → (s : State) (m : Values) → Shows names s m → IsSmallRight (called c)
+      → Comes (Rights earlier s (called c)) (IsGiven names (after_all m (call_block (callables earlier c.name) names n c.arguments)) given (value_given (call_value (callables earlier c.name) names n c.arguments)))
+      (either (first_fault (path_along m (call_block (callables earlier c.name) names n c.arguments)))
+      (first_fault (path_in (after_all m (call_block (callables earlier c.name) names n c.arguments)) (value_given (call_value (callables earlier c.name) names n c.arguments)))))
+  call_gives {c = c} {given = given} is s m shows small =
+      let k = call_means earlier scope names n ready is in
+      let tree = call_block (callables earlier c.name) names n c.arguments in
+      let value = call_value (callables earlier c.name) names n c.arguments in
+      let end = after_all m tree in
+      let result = word_result (call_result (callables earlier c.name)) given k.result in
+      subst (λ p. Comes (Rights earlier s (called c)) (IsGiven names end given (value_given value)) (either (first_fault (path_along m tree)) (first_fault p))) (path_given end value)
+      (also (k.comes s m shows small)
+      (λ r is agrees. (r, of_call earlier s c (gives r) is, record { word = given_word (subst (λ o. HasResult end o value r.word) result agrees.word); shows = agrees.shows }))
+      (λ at is. of_call earlier s c (faults at) is))
+
+  -- what is known of a right side
+  pub record RightMeans (value : RightTree) (given : WordType) : Type 0 where
+    pub comes : (s : State) (m : Values) → Shows names s m → IsSmallRight value →
+        (let tree = right_block (callables earlier) names n value in
+        let end = after_all m tree in
+        let taken = right (callables earlier) names n value in
+        Comes (Rights earlier s value) (IsGiven names end given taken) (either (first_fault (path_along m tree)) (first_fault (path_in end taken))))
+    pub keeps : (x : ℕ) → Spares names n x → (m : Values) → after_all m (right_block (callables earlier) names n value) x ≡ m x
+
+  pub right_means : {control : Label} {value : RightTree} {given : WordType} → rules.Gives earlier scope control value (Word given) → RightMeans value given
+  right_means {given = given} (rules.of_value {e = e} has) = record {
+    comes = λ s m shows small.
+        also ((means scope names ready.types n ready.linked has small).value s m shows)
+        (λ w is same. (record { word = Some w; state = s }, of_expr earlier s e w is, record { word = same; shows = shows }))
+        (λ at is. expr_faults earlier s e at is);
+    keeps = λ x spares m. refl;
+  }
+  right_means {given = given} (rules.of_call {c = c} is) =
+      let tree = call_block (callables earlier c.name) names n c.arguments in
+      let value = value_given (call_value (callables earlier c.name) names n c.arguments) in
+      record {
+        comes = λ s m shows small.
+            subst (λ (end : Values). Comes (Rights earlier s (called c)) (IsGiven names end given value) (either (first_fault (path_along m (chain tree (single flat.skip)))) (first_fault (path_in end value))))
+            (sym (after_chain tree (single flat.skip) m))
+            (subst (λ f. Comes (Rights earlier s (called c)) (IsGiven names (after_all m tree) given value) (either f (first_fault (path_in (after_all m tree) value))))
+            (sym (either-none (first_fault (path_along m tree))) ∙ sym (fault_chain tree (single flat.skip) m))
+            (call_gives is s m shows small));
+        keeps = λ x spares m. ap (λ (end : Values). end x) (after_chain tree (single flat.skip) m) ∙ (call_means earlier scope names n ready is).keeps x spares m;
+      }
