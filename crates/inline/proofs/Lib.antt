@@ -6,3 +6,6 @@ pub mod Parameters
 pub mod TypesKept
 pub mod Fitting
 pub mod FittingBodies
+mod SizeLemmas
+mod CountLemmas
+mod LimitLemmas
