@@ -130,7 +130,8 @@ pub one_measured : (procedures : List Procedure) (i : ℕ) (p : Procedure) (tabl
     Knows later (drop (i + 1) procedures) all
 one_measured procedures i p table later m all within is knows one more =
     let known = knows.0 in
-    let next = drop_more procedures i p within ∙ ap (λ x. x ∷ drop (i + 1) procedures) (sym is) in
-    (with_known known p.name.now (extent_of known (procedure_tree p)),
-    (λ text. ap (λ t. extents_in t text) more ∙ one_more table known p.name.now m (extent_of known (procedure_tree p)) knows.1 (one ∙ extent_same (extents_in table) known knows.1 (procedure_tree p)) text),
-    sym (ap (λ rest. known_from extent_of known (map procedure_tree rest)) next) ∙ knows.2)
+    let next = drop_more procedures i p within ∙ ap (λ x. x ∷ drop (i + 1) procedures) (sym is) in (
+      with_known known p.name.now (extent_of known (procedure_tree p)),
+      (λ text. ap (λ t. extents_in t text) more ∙ one_more table known p.name.now m (extent_of known (procedure_tree p)) knows.1 (one ∙ extent_same (extents_in table) known knows.1 (procedure_tree p)) text),
+      sym (ap (λ rest. known_from extent_of known (map procedure_tree rest)) next) ∙ knows.2,
+    )

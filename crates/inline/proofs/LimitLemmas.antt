@@ -1,5 +1,5 @@
 -- Counts pass the limits that the extents do which they are counts of.
-use Rattle.std.proofs.Common.{◌≡◌, ℕ, ◌<◌, ◌≤◌, ◌||◌, inr, Bool, nat_lt, List, [], ◌++◌, length, Option, Some, Result, Ok, Err, IfOk, IfErr, refl, sym, ap, ap₂, subst, ◌∙◌, arith}
+use Rattle.std.proofs.Common.{◌≡◌, ℕ, ◌<◌, ◌≤◌, ◌||◌, inr, Bool, nat_lt, List, [], ◌++◌, length, Some, Result, Ok, Err, IfOk, IfErr, refl, sym, ap, ap₂, subst, ◌∙◌, arith}
 use Rattle.std.proofs.lemmas.Bool.Decides.{nat_tests}
 use Rattle.word.specs.declared.place.Place.{Place}
 use Rattle.language.specs.declared.limits.TheConstants.{MOST_NODES, MOST_DECLARED_BYTES, MOST_BODIES}
@@ -30,7 +30,7 @@ module _ (counts extents : Extents) (p : ProcedureTree) (same : AreCountsOf coun
       ap₂ (by_tests p.place) (ap₂ ◌||◌ nodes bodies) bytes
 
   -- so what is said of the counts is said of the extents
-  pub nodes_told : (r : Result ℕ Refusal) → IfOk r (λ nodes. nodes ≡ nodes_of counts p) → IfOk r (λ nodes. nodes ≤ 6000) → IfOk r (λ nodes. nodes ≡ nodes_of extents p)
+  pub nodes_told : (r : Result ℕ Refusal) → IfOk r (λ nodes. nodes ≡ nodes_of counts p) → IfOk r (λ nodes. nodes ≤ MOST_NODES) → IfOk r (λ nodes. nodes ≡ nodes_of extents p)
   nodes_told (Ok n) is few = omega (arith, is, few, nodes_same counts extents same p)
   nodes_told (Err e) is few = tt
 

@@ -1,5 +1,5 @@
 -- Procedures as they were measured, by their names. A count of what may be called stops at the greatest number.
-use Rattle.std.specs.Prelude.{◌≡◌, ℕ, ◌||◌, ◌++◌, List, map, min, nat_lt, Option}
+use Rattle.std.specs.Prelude.{◌≡◌, ℕ, ◌||◌, ◌++◌, List, map, min, nat_lt}
 use Rattle.std.specs.Option.{option_map}
 use Rattle.inline.specs.declared.measured.Measured.{Measured}
 use Rattle.language.specs.declared.limits.TheConstants.{MOST_NODES, MOST_DECLARED_BYTES, MOST_BODIES}
@@ -22,7 +22,7 @@ extent_of_measured m = record {
 abbrev pub extents_in : List (List ℕ × Measured) → Extents
 extents_in table text = option_map extent_of_measured (found table text)
 
--- what is counted of so many
+-- what is counted of so many things: at most the greatest number of 32 bits
 abbrev pub counted : ℕ → ℕ
 counted n = min n 4294967295
 

@@ -1,6 +1,6 @@
 // How many bodies are open in code at once. A count stops at the greatest number.
 
-ghost use Rattle.std.specs.Prelude.{◌≡◌, ◌+◌, max};
+ghost use Rattle.std.specs.Prelude.{◌≡◌, max};
 ghost use Rattle.std.specs.Option.{option_map};
 ghost use Rattle.inline.specs.Measured.{counted, extent_of_measured, extents_in};
 ghost use Rattle.language.specs.Size.{bodies_of_called, right_bodies, statement_bodies, block_bodies, bodies_of};
@@ -61,10 +61,7 @@ fn bodies_in_block(earlier: &Names<'_, Measured<'_, '_>>, block: &[Statement<'_>
 }
 
 /// How many bodies are open in a procedure at once, its own among them.
-pub fn bodies_in_procedure(
-    earlier: &Names<'_, Measured<'_, '_>>,
-    procedure: &Procedure<'_>,
-) -> u32
+pub fn bodies_in_procedure(earlier: &Names<'_, Measured<'_, '_>>, procedure: &Procedure<'_>) -> u32
     ensures { result ≡ counted (bodies_of (extents_in earlier.now) (procedure_tree procedure.now)) }
 {
     bodies_in_block(earlier, &procedure.body).saturating_add(1)

@@ -1,10 +1,10 @@
 // How many nodes code has, as the room that it leaves.
 
-ghost use Rattle.std.specs.Prelude.{◌≡◌, ◌+◌, ◌-◌, ◌≤◌, length, map, if◌then◌else◌};
+ghost use Rattle.std.specs.Prelude.{◌+◌, ◌-◌, ◌≤◌, map, if◌then◌else◌};
 ghost use Rattle.std.specs.Option.{SomeIff, option_map};
 ghost use Rattle.inline.specs.Measured.{extent_of_measured, extents_in};
 ghost use Rattle.language.specs.Meaning.{is_word, word_arguments};
-ghost use Rattle.language.specs.Size.{nodes_in, nodes_in_all, nodes_passed, called_nodes, call_nodes, right_nodes, return_nodes, statement_nodes, block_nodes, nodes_of};
+ghost use Rattle.language.specs.Size.{nodes_in, nodes_in_all, nodes_passed, called_nodes, call_nodes, right_nodes, statement_nodes, block_nodes, nodes_of};
 ghost use Rattle.language.specs.Tree.{block_tree, call_tree, expr_tree, parameter_tree, procedure_tree, right_tree, statement_tree};
 
 use crate::measured::Measured;
@@ -74,11 +74,7 @@ fn nodes_after_passed(
 }
 
 /// How much room for nodes a call of such a procedure leaves, where it fits.
-fn nodes_after_called(
-    called: Option<Measured<'_, '_>>,
-    call: &Call<'_>,
-    room: u32,
-) -> Option<u32>
+fn nodes_after_called(called: Option<Measured<'_, '_>>, call: &Call<'_>, room: u32) -> Option<u32>
     ensures { SomeIff result (called_nodes (option_map extent_of_measured called.entry) (call_tree call.now) ≤ room)
         (room - called_nodes (option_map extent_of_measured called.entry) (call_tree call.now)) }
 {

@@ -1,6 +1,6 @@
 // How many words, of 4 bytes each, code declares, as the room that they leave.
 
-ghost use Rattle.std.specs.Prelude.{◌≡◌, ◌+◌, ◌-◌, ◌≤◌, map};
+ghost use Rattle.std.specs.Prelude.{◌≡◌, ◌-◌, ◌≤◌, map};
 ghost use Rattle.std.specs.Option.{SomeIff, option_map};
 ghost use Rattle.inline.specs.Measured.{extent_of_measured, extents_in};
 ghost use Rattle.language.specs.Size.{words_of_called, right_words, parameter_words, passed_words, statement_words, block_words};
