@@ -27,3 +27,6 @@ pub mod FlatMeanings
 pub mod TypesKept
 pub mod Fitting
 pub mod FittingBodies
+mod SizeLemmas
+mod CountLemmas
+mod LimitLemmas

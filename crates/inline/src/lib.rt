@@ -2,11 +2,16 @@
 // source means, with the same types and labels. Stands on the syntax tree and its typing.
 #![tactic(auto)]
 
+mod bodies;
 mod flat;
 mod laws;
 mod limits;
+mod measured;
+mod nodes;
 mod numbering;
 mod program;
+mod sizes;
+mod words;
 
 pub use flat::{FlatStatement, FlatVariable, Term};
 pub use laws::{
