@@ -1,8 +1,8 @@
 -- Straight code keeps the bounds of the body that it is made for.
-use Rattle.std.proofs.Common.{◌≡◌, ℕ, ◌+◌, ◌*◌, ◌≤◌, List, [], ◌∷◌, Option, None, Some, max, slice_index, refl, ap, arith}
-use Rattle.std.proofs.Math.Nat.{max-le}
+use Rattle.std.proofs.Common.{◌≡◌, ℕ, ◌+◌, ◌*◌, ◌≤◌, List, [], ◌∷◌, Option, None, Some, max, slice_index, refl, arith}
+use Rattle.std.proofs.Math.Nat.{max-le, mul-le-mul_left}
 use Rattle.inline.specs.declared.flat.FlatVariable.{FlatVariable}
-use Rattle.inline.specs.Flat.{TermTree, FlatTree, declare, array, assign, put, branch, loop, FlatBlock, nothing, first, FlatProgram}
+use Rattle.inline.specs.Flat.{TermTree, FlatTree, declare, array, assign, put, hold, skip, branch, loop, FlatBlock, nothing, first, FlatProgram}
 use Rattle.inline.specs.Flat as flat
 use Rattle.inline.specs.FlatSize.{IsSized, term_nodes, tree_nodes, body_nodes}
 use Rattle.inline.specs.FlatTyping.{Types, types_after, with_type, IsTyped, AreTyped, IsTypedProgram}
@@ -42,25 +42,28 @@ nodes_put : (within : Option ℕ) (place : Place) (x size : ℕ) (index value : 
 nodes_put None place x size index value = refl
 nodes_put (Some control) place x size index value = refl
 
+-- a held index is set, and what does nothing is gone
 mutual
-  same_nodes : (within : Option ℕ) (control : ℕ) (s : FlatTree) → block_nodes (removed within control s) ≡ tree_nodes s
-  same_nodes within control (declare x word mutable value) = omega arith
-  same_nodes within control (array x word mutable size []) = omega arith
-  same_nodes within control (array x word mutable size (e ∷ es)) = omega arith
-  same_nodes within control (assign x value) = omega (arith, nodes_within within x value)
-  same_nodes within control (put place x size index value) = omega (arith, nodes_put within place x size index value)
-  same_nodes within control (branch Secret condition accepted otherwise) =
+  few_nodes : (within : Option ℕ) (control : ℕ) (s : FlatTree) → block_nodes (removed within control s) ≤ tree_nodes s
+  few_nodes within control (declare x word mutable value) = omega arith
+  few_nodes within control (array x word mutable size []) = omega arith
+  few_nodes within control (array x word mutable size (e ∷ es)) = omega arith
+  few_nodes within control (assign x value) = omega (arith, nodes_within within x value)
+  few_nodes within control (put place x size index value) = omega (arith, nodes_put within place x size index value)
+  few_nodes within control (hold x place size index) = omega arith
+  few_nodes within control skip = omega arith
+  few_nodes within control (branch Secret condition accepted otherwise) =
       let xs = removed_all (Some control) (control + 2) accepted in
       let ys = removed_all (Some (control + 1)) (control + 2) otherwise in
-      omega (arith, nodes-chain xs ys, same_nodes_all (Some control) (control + 2) accepted, same_nodes_all (Some (control + 1)) (control + 2) otherwise)
-  same_nodes within control (branch Public condition accepted otherwise) =
-      omega (arith, same_nodes_all within control accepted, same_nodes_all within control otherwise)
-  same_nodes within control (loop x low high body) = omega (arith, same_nodes_all within control body)
+      omega (arith, nodes-chain xs ys, few_nodes_all (Some control) (control + 2) accepted, few_nodes_all (Some (control + 1)) (control + 2) otherwise)
+  few_nodes within control (branch Public condition accepted otherwise) =
+      omega (arith, few_nodes_all within control accepted, few_nodes_all within control otherwise)
+  few_nodes within control (loop x low high body) = omega (arith, few_nodes_all within control body)
 
-  same_nodes_all : (within : Option ℕ) (control : ℕ) (b : FlatBlock) → block_nodes (removed_all within control b) ≡ body_nodes b
-  same_nodes_all within control nothing = refl
-  same_nodes_all within control (first s rest) =
-      omega (arith, nodes-chain (removed within control s) (removed_all within control rest), same_nodes within control s, same_nodes_all within control rest)
+  few_nodes_all : (within : Option ℕ) (control : ℕ) (b : FlatBlock) → block_nodes (removed_all within control b) ≤ body_nodes b
+  few_nodes_all within control nothing = omega arith
+  few_nodes_all within control (first s rest) =
+      omega (arith, nodes-chain (removed within control s) (removed_all within control rest), few_nodes within control s, few_nodes_all within control rest)
 
 -- Work.
 
@@ -80,35 +83,37 @@ module _ (most : List ℕ) where
 
   module _ (declared : List FlatVariable) where
     mutual
-      same_work : (types : Types) (label : Label) (s : FlatTree) → IsTyped declared types label s → (within : Option ℕ) (control : ℕ)
-          → block_work most (removed within control s) ≡ tree_work most s
-      same_work types label (declare x word mutable value) typed within control = omega arith
-      same_work types label (array x word mutable size []) typed within control = omega arith
-      same_work types label (array x word mutable size (e ∷ es)) typed within control = omega (arith, typed.2)
-      same_work types label (assign x value) typed within control = omega (arith, work_within within x value)
-      same_work types label (put place x size index value) typed within control = omega (arith, work_put within place x size index value)
-      same_work types label (branch Secret condition accepted otherwise) typed within control =
+      no_more_work : (types : Types) (label : Label) (s : FlatTree) → IsTyped declared types label s → (within : Option ℕ) (control : ℕ)
+          → block_work most (removed within control s) ≤ tree_work most s
+      no_more_work types label (declare x word mutable value) typed within control = omega arith
+      no_more_work types label (array x word mutable size []) typed within control = omega arith
+      no_more_work types label (array x word mutable size (e ∷ es)) typed within control = omega (arith, typed.2)
+      no_more_work types label (assign x value) typed within control = omega (arith, work_within within x value)
+      no_more_work types label (put place x size index value) typed within control = omega (arith, work_put within place x size index value)
+      no_more_work types label (hold x place size index) typed within control = omega arith
+      no_more_work types label skip typed within control = omega arith
+      no_more_work types label (branch Secret condition accepted otherwise) typed within control =
           let xs = removed_all (Some control) (control + 2) accepted in
           let ys = removed_all (Some (control + 1)) (control + 2) otherwise in
-          let one = same_work_all types Secret accepted typed.1 (Some control) (control + 2) in
-          let other = same_work_all types Secret otherwise typed.2 (Some (control + 1)) (control + 2) in
+          let one = no_more_work_all types Secret accepted typed.1 (Some control) (control + 2) in
+          let other = no_more_work_all types Secret otherwise typed.2 (Some (control + 1)) (control + 2) in
           omega (arith, work-chain xs ys, one, other)
-      same_work types label (branch Public condition accepted otherwise) typed within control =
-          let one = same_work_all types label accepted typed.1 within control in
-          let other = same_work_all types label otherwise typed.2 within control in
+      no_more_work types label (branch Public condition accepted otherwise) typed within control =
+          let one = no_more_work_all types label accepted typed.1 within control in
+          let other = no_more_work_all types label otherwise typed.2 within control in
           omega (arith, one, other)
-      same_work types label (loop x low high body) typed within control =
-          let inner = same_work_all (with_type types x _) label body typed.3 within control in
-          let turns : (slice_index most x + 1) * (1 + block_work most (removed_all within control body)) ≡ (slice_index most x + 1) * (1 + body_work most body) =
-          ap (λ work. (slice_index most x + 1) * (1 + work)) inner in
+      no_more_work types label (loop x low high body) typed within control =
+          let inner = no_more_work_all (with_type types x _) label body typed.3 within control in
+          let turns : (slice_index most x + 1) * (1 + block_work most (removed_all within control body)) ≤ (slice_index most x + 1) * (1 + body_work most body) =
+          mul-le-mul_left (slice_index most x + 1) (omega (arith, inner)) in
           omega (arith, turns)
 
-      pub same_work_all : (types : Types) (label : Label) (b : FlatBlock) → AreTyped declared types label b → (within : Option ℕ) (control : ℕ)
-          → block_work most (removed_all within control b) ≡ body_work most b
-      same_work_all types label nothing typed within control = refl
-      same_work_all types label (first s rest) typed within control =
-          let one = same_work types label s typed.0 within control in
-          let more = same_work_all (types_after types s) label rest typed.1 within control in
+      pub no_more_work_all : (types : Types) (label : Label) (b : FlatBlock) → AreTyped declared types label b → (within : Option ℕ) (control : ℕ)
+          → block_work most (removed_all within control b) ≤ body_work most b
+      no_more_work_all types label nothing typed within control = omega arith
+      no_more_work_all types label (first s rest) typed within control =
+          let one = no_more_work types label s typed.0 within control in
+          let more = no_more_work_all (types_after types s) label rest typed.1 within control in
           omega (arith, work-chain (removed within control s) (removed_all within control rest), one, more)
 
 -- Control values.
@@ -127,6 +132,8 @@ mutual
   controls_taken within control (array x word mutable size values) = omega arith
   controls_taken within control (assign x value) = omega arith
   controls_taken within control (put place x size index value) = omega arith
+  controls_taken within control (hold x place size index) = omega arith
+  controls_taken within control skip = omega arith
   controls_taken within control (branch Secret condition accepted otherwise) =
       let xs = removed_all (Some control) (control + 2) accepted in
       let ys = removed_all (Some (control + 1)) (control + 2) otherwise in
@@ -156,6 +163,8 @@ mutual
   few (array x word mutable size values) = omega arith
   few (assign x value) = omega arith
   few (put place x size index value) = omega arith
+  few (hold x place size index) = omega arith
+  few skip = omega arith
   few (branch Secret condition accepted otherwise) =
       let one = few_all accepted in
       let other = few_all otherwise in
@@ -180,9 +189,9 @@ pub bounded : (p : FlatProgram) → IsTypedProgram p → IsSized p → (ranged p
 bounded p typed sized fits = record {
   lengths = sized.lengths;
   declared = sized.declared;
-  counted = omega (arith, same_nodes_all None 0 p.body, sized.counted);
+  counted = omega (arith, few_nodes_all None 0 p.body, sized.counted);
   nodes = sized.nodes;
-  worked = omega (arith, same_work_all (ranged p).turns p.declared _ Public p.body typed.body None 0);
+  worked = omega (arith, no_more_work_all (ranged p).turns p.declared _ Public p.body typed.body None 0);
   work_fits = fits;
   controls = controls_taken_all None 0 p.body;
 }

@@ -2,11 +2,11 @@
 -- some loose run. Of a branch on a secret one loose run takes the first arm, and another one the second.
 use Rattle.std.proofs.Common.{◌≡◌, ℕ, zero, suc, ◌+◌, ◌-◌, ◌==◌, Bool, true, false, cond, List, [], ◌∷◌, ◌++◌, Option, None, Some, refl, sym, ap₂, ◌∙◌, subst, arith}
 use Rattle.inline.specs.declared.flat.FlatVariable.{FlatVariable}
-use Rattle.inline.specs.Flat.{TermTree, FlatTree, declare, array, assign, put, branch, loop, FlatBlock, nothing, first, word_as}
+use Rattle.inline.specs.Flat.{TermTree, FlatTree, declare, array, assign, put, hold, skip, branch, loop, FlatBlock, nothing, first, word_as}
 use Rattle.inline.specs.FlatMeaning.{Values, with_value, value_in, path_in, path_of_turns}
 use Rattle.inline.specs.FlatTyping.{Types, with_type, types_of, types_after, IsTyped, AreTyped, HasType, IsPut, counter_type}
 use Rattle.inline.specs.Path.{Path, AreFine, bounded, indexed}
-use Rattle.intervals.specs.Loose.{Leads, declares, declares_array, assigns, puts, repeats, Turns, a_turn, LeadAll, goes_on}
+use Rattle.intervals.specs.Loose.{Leads, declares, declares_array, assigns, puts, holds, repeats, Turns, a_turn, LeadAll, goes_on}
 use Rattle.language.specs.WellTyped.{labelled}
 use Rattle.language.specs.declared.signature.Kind.TheVariants.{Boolean}
 use Rattle.language.specs.declared.signature.Label.{Label}
@@ -128,6 +128,9 @@ module _ (declared : List FlatVariable) (most : List ℕ) where
         fine_alone most _ (fine_put types label s m agree place x size index value typed safe)
     fine types label (put place x size index value) typed among (Some c) control under s m agree safe =
         fine_alone most _ (fine_put types label s m agree place x size index value typed safe)
+    fine types label (hold x place size index) typed among within control under s m agree safe =
+        fine_alone most _ (fine_term types s m agree index _ typed.1 (fine_front most (path_in m index) _ (safe _ _ (holds (comes declared m index)))))
+    fine types label skip typed among within control under s m agree safe = tt
     fine types label (branch Secret condition accepted otherwise) typed among within control under s m agree safe =
         let taken : StraightState = after s (take_within within control condition) in
         let code : StraightBlock = removed_all (Some control) (control + 2) accepted in

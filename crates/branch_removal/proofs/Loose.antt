@@ -1,11 +1,11 @@
 -- A loose run goes beside the straight run: it agrees with it in what is public. So there is a loose run from any state.
 use Rattle.std.proofs.Common.{◌≡◌, ℕ, zero, suc, ◌+◌, ◌-◌, ◌<◌, ◌==◌, Bool, true, false, cond, if◌then◌else◌, List, [], ◌∷◌, ◌++◌, map, replicate, Option, None, Some, slice_set, refl, sym, ap, ap₂, ◌∙◌, subst, arith}
 use Rattle.inline.specs.declared.flat.FlatVariable.{FlatVariable}
-use Rattle.inline.specs.Flat.{TermTree, number, truth, variable, prefix, binary, rotate, convert, select, element, FlatTree, declare, array, assign, put, branch, loop, FlatBlock, nothing, first, word_as, array_as}
+use Rattle.inline.specs.Flat.{TermTree, number, truth, variable, prefix, binary, rotate, convert, select, element, FlatTree, declare, array, assign, put, hold, skip, branch, loop, FlatBlock, nothing, first, word_as, array_as}
 use Rattle.inline.specs.FlatMeaning.{Values, with_value, value_in, path_in, path_in_all, turns, path_of_result}
 use Rattle.inline.specs.FlatTyping.{Types, with_type, types_of, types_after, types_after_all, IsTyped, AreTyped, HasType, counter_type}
 use Rattle.inline.specs.Path.{Path, indexed}
-use Rattle.intervals.specs.Loose.{Comes, to_number, to_truth, to_variable, to_prefix, to_binary, to_rotation, to_conversion, to_selection, to_element, to_anything, ComeAll, none_left, one_more, Leads, declares, declares_array, assigns, puts, chooses, repeats, Turns, no_turn, a_turn, LeadAll, ends, goes_on, Returns, nothing_returned, returned}
+use Rattle.intervals.specs.Loose.{Comes, to_number, to_truth, to_variable, to_prefix, to_binary, to_rotation, to_conversion, to_selection, to_element, to_anything, ComeAll, none_left, one_more, Leads, declares, declares_array, assigns, puts, holds, skips, chooses, repeats, Turns, no_turn, a_turn, LeadAll, ends, goes_on, Returns, nothing_returned, returned}
 use Rattle.language.specs.WellTyped.{labelled}
 use Rattle.language.specs.declared.signature.Kind.TheVariants.{Boolean}
 use Rattle.language.specs.declared.signature.Label.{Label}
@@ -194,6 +194,14 @@ module _ (declared : List FlatVariable) where
       leads = puts (comes m index) (comes m value);
       agree = set_beside types label c x _ _ _ typed.known typed.hidden under s m agree;
     }
+    follow types label (hold x place size index) typed among within control under s m agree = record {
+      end = with_value m x (value_in m index ∷ []);
+      path = path_in m index ++ indexed place size (value_in m index) ∷ [];
+      leads = holds (comes m index);
+      agree = declared_in_both what_is_public types s.variables m x _ _ (word_as counter_type false)
+          (λ public. ap (λ (v : ℕ). v ∷ []) (public_value types s.variables m agree typed.1 refl)) agree;
+    }
+    follow types label skip typed among within control under s m agree = record { end = m; path = []; leads = skips; agree = agree }
     follow types label (branch Secret condition accepted otherwise) typed among within control under s m agree =
         let taken : StraightState = after s (take_within within control condition) in
         let code : StraightBlock = removed_all (Some control) (control + 2) accepted in

@@ -1,7 +1,7 @@
 -- Runs of straight code one after the other, turns of loops, and the control values that statements leave alone.
 use Rattle.std.proofs.Common.{◌≡◌, ℕ, zero, suc, ◌+◌, ◌-◌, ◌<◌, ◌==◌, Bool, true, false, cond, List, [], ◌∷◌, ◌++◌, Option, None, Some, slice_set, refl, sym, ap, ap₂, ◌∙◌, append_assoc, subst, arith}
 use Rattle.std.proofs.lemmas.Bool.{cond-false, cond-true, ne_eqb, eq-eqb}
-use Rattle.inline.specs.Flat.{FlatTree, declare, array, assign, put, branch, loop, FlatBlock, nothing, first}
+use Rattle.inline.specs.Flat.{FlatTree, declare, array, assign, put, hold, skip, branch, loop, FlatBlock, nothing, first}
 use Rattle.inline.specs.FlatMeaning.{turns, path_of_turns}
 use Rattle.inline.specs.Path.{Path}
 use Rattle.language.specs.declared.signature.Label.TheVariants.{Public, Secret}
@@ -93,6 +93,8 @@ mutual
   controls_stay None control (put place x size index value) s c below = refl
   controls_stay (Some k) control (put place x size index value) s c below =
       ap (λ (controls : ℕ → Bool). controls c) (under_controls (s.controls k) s x (slice_set (s.variables x) (value_at s index) (value_at s value)))
+  controls_stay within control (hold x place size index) s c below = refl
+  controls_stay within control skip s c below = refl
   controls_stay within control (branch Secret condition accepted otherwise) s c below =
       let taken : StraightState = after s (take_within within control condition) in
       let code : StraightBlock = removed_all (Some control) (control + 2) accepted in

@@ -2,7 +2,7 @@
 use Rattle.std.proofs.Common.{◌≡◌, ℕ, ◌+◌, ◌-◌, ◌<◌, Bool, true, false, ◌&&◌, ◌==◌, cond, List, [], ◌∷◌, Option, None, Some, slice_set, refl, sym, ap, ap₂, ◌∙◌, subst, arith}
 use Rattle.std.proofs.lemmas.Bool.{cond-true, and_from, and_right, not_from_true, not_from_false}
 use Rattle.inline.specs.declared.flat.FlatVariable.{FlatVariable}
-use Rattle.inline.specs.Flat.{TermTree, FlatTree, declare, array, assign, put, branch, loop, FlatBlock, nothing, first, word_as, array_as}
+use Rattle.inline.specs.Flat.{TermTree, FlatTree, declare, array, assign, put, hold, skip, branch, loop, FlatBlock, nothing, first, word_as, array_as}
 use Rattle.inline.specs.FlatMeaning.{Values, with_value, value_in}
 use Rattle.inline.specs.FlatMeaning as flat
 use Rattle.inline.specs.FlatTyping.{Types, with_type, IsTyped, AreTyped, types_after, types_after_all, counter_type}
@@ -81,6 +81,10 @@ module _ (declared : List FlatVariable) where
         subst (λ (t : StraightState). Agree everything types t.variables (flat.after m (put place x size index value)))
         (sym (cond-true (s.controls c) (with_variable s x (slice_set (s.variables x) (value_at s index) (value_at s value))) s on))
         (same_put types label place x size index value typed s m agree)
+    same types label (hold x place size index) typed within control below s m on agree =
+        declared_in_both everything types s.variables m x (value_at s index ∷ []) (value_in m index ∷ []) (word_as counter_type false)
+        (λ seen. ap (λ (v : ℕ). v ∷ []) (one_value types s.variables m agree typed.1)) agree
+    same types label skip typed within control below s m on agree = agree
     same types label (branch Secret condition accepted otherwise) typed within control below s m on agree =
         let taken : StraightState = after s (take_within within control condition) in
         let code : StraightBlock = removed_all (Some control) (control + 2) accepted in

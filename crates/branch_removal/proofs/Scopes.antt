@@ -3,7 +3,7 @@ use Rattle.std.proofs.Common.{◌≡◌, ℕ, ◌==◌, Bool, true, false, cond,
 use Rattle.std.proofs.lemmas.Bool.{eqb-true, false_from_ne_true, cond-false}
 use Rattle.std.proofs.lemmas.Option.{none-some}
 use Rattle.inline.specs.declared.flat.FlatVariable.{FlatVariable}
-use Rattle.inline.specs.Flat.{TermTree, FlatTree, declare, array, assign, put, branch, loop, FlatBlock, nothing, first}
+use Rattle.inline.specs.Flat.{TermTree, FlatTree, declare, array, assign, put, hold, skip, branch, loop, FlatBlock, nothing, first}
 use Rattle.inline.specs.FlatTyping.{Types, with_type, types_of, HasType, of_number, of_truth, of_variable, of_prefix, of_binary, of_rotation, of_conversion, of_selection, of_element, Suits, AllSuit, IsResult, IsTyped, AreTyped, types_after, types_after_all}
 use Rattle.branch_removal.specs.StraightTyping.{types_but}
 use Rattle.language.specs.declared.signature.Label.{Label}
@@ -27,6 +27,8 @@ module _ (declared : List FlatVariable) where
     stays types label (array x word mutable size values) typed y d known = stays_beside types x _ typed.0.new y d known
     stays types label (assign x value) typed y d known = known
     stays types label (put place x size index value) typed y d known = known
+    stays types label (hold x place size index) typed y d known = stays_beside types x _ typed.0.new y d known
+    stays types label skip typed y d known = known
     stays types label (branch own condition accepted otherwise) typed y d known = known
     stays types label (loop x low high body) typed y d known = known
 
@@ -83,6 +85,8 @@ module _ (declared : List FlatVariable) where
     among_after types label (array x word mutable size values) typed among = among_beside declared types x _ typed.0.listed among
     among_after types label (assign x value) typed among = among
     among_after types label (put place x size index value) typed among = among
+    among_after types label (hold x place size index) typed among = among_beside declared types x _ typed.0.listed among
+    among_after types label skip typed among = among
     among_after types label (branch own condition accepted otherwise) typed among = among
     among_after types label (loop x low high body) typed among = among
 

@@ -3,7 +3,7 @@ use Rattle.std.proofs.Common.{◌≡◌, ℕ, ◌+◌, ◌≤◌, false, List, [
 use Rattle.std.proofs.lemmas.Option.{same_Some}
 use Rattle.std.proofs.Math.Nat.{le-max_left, le-max_right}
 use Rattle.inline.specs.declared.flat.FlatVariable.{FlatVariable}
-use Rattle.inline.specs.Flat.{TermTree, FlatTree, declare, array, assign, put, branch, loop, FlatBlock, nothing, first, word_as, array_as}
+use Rattle.inline.specs.Flat.{TermTree, FlatTree, declare, array, assign, put, hold, skip, branch, loop, FlatBlock, nothing, first, word_as, array_as}
 use Rattle.inline.specs.FlatTyping.{Types, with_type, types_of, types_after, counter_type}
 use Rattle.inline.specs.FlatTyping as flat
 use Rattle.language.specs.declared.signature.Label.{Label}
@@ -67,6 +67,8 @@ module _ (declared : List FlatVariable) where
     hidden types label (assign x value) typed among (Some c) control under = (assigned_secret types x _ among typed.known (typed.hidden under), tt)
     hidden types label (put place x size index value) typed among None control under = (tt, tt)
     hidden types label (put place x size index value) typed among (Some c) control under = (assigned_secret types x _ among typed.known (typed.hidden under), tt)
+    hidden types label (hold x place size index) typed among within control under = (tt, tt)
+    hidden types label skip typed among within control under = tt
     hidden types label (branch Secret condition accepted otherwise) typed among within control under = (
       tt,
       hidden-chain (removed_all (Some control) (control + 2) accepted) (removed_all (Some (control + 1)) (control + 2) otherwise)
@@ -141,6 +143,16 @@ module _ (declared : List FlatVariable) (controls : ℕ) where
       ),
       tt,
     )
+    typed types label (hold x place size index) is among within control inside free = (
+      record {
+        word = counter_type;
+        mutable = false;
+        known = is.0.listed;
+        suits = record { word = counter_type; has_type = has_type_among types (types_of declared) among is.1; kind = refl; label = λ public. refl };
+      },
+      tt,
+    )
+    typed types label skip is among within control inside free = tt
     typed types label (branch Secret condition accepted otherwise) is among within control inside free =
         let left = le-max_left (controls_in_all accepted) (controls_in_all otherwise) in
         let right = le-max_right (controls_in_all accepted) (controls_in_all otherwise) in (

@@ -4,7 +4,7 @@ use Rattle.std.proofs.Common.{◌≡◌, ℕ, ◌+◌, ◌-◌, ◌<◌, ◌==�
 use Rattle.std.proofs.lemmas.Bool.{cond-false, false_from_ne_true, eqb-true, and_left}
 use Rattle.std.proofs.lemmas.Option.{same_Some}
 use Rattle.inline.specs.declared.flat.FlatVariable.{FlatVariable}
-use Rattle.inline.specs.Flat.{TermTree, FlatTree, declare, array, assign, put, branch, loop, FlatBlock, nothing, first, word_as}
+use Rattle.inline.specs.Flat.{TermTree, FlatTree, declare, array, assign, put, hold, skip, branch, loop, FlatBlock, nothing, first, word_as}
 use Rattle.inline.specs.FlatTyping.{Types, with_type, IsTyped, AreTyped, types_after, counter_type}
 use Rattle.language.specs.declared.signature.Label.{Label}
 use Rattle.language.specs.declared.signature.Label.TheVariants.{Public, Secret}
@@ -87,6 +87,9 @@ module _ (declared : List FlatVariable) (sees : Sees) where
         set_quietly sees types label None control s x (slice_set (s.variables x) (value_at s index) (value_at s value)) _ typed.known typed.hidden quiet y d known seen
     unchanged types label (put place x size index value) typed (Some c) control s quiet y d known seen =
         set_quietly sees types label (Some c) control s x (slice_set (s.variables x) (value_at s index) (value_at s value)) _ typed.known typed.hidden quiet y d known seen
+    unchanged types label (hold x place size index) typed within control s quiet y d known seen =
+        cond-false (y == x) (value_at s index ∷ []) (s.variables y) (apart types x y d typed.0.new known)
+    unchanged types label skip typed within control s quiet y d known seen = refl
     unchanged types label (branch Secret condition accepted otherwise) typed within control s quiet y d known seen =
         let taken : StraightState = after s (take_within within control condition) in
         let code : StraightBlock = removed_all (Some control) (control + 2) accepted in

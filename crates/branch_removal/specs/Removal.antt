@@ -3,7 +3,7 @@
 use Rattle.std.specs.Prelude.{ℕ, ◌+◌, List, [], ◌∷◌, Option, None, Some, max}
 use Rattle.branch_removal.specs.Straight.{StraightTree, set, clear, fill, put, take, set_under, put_under, repeats, StraightBlock, nothing, first, chain, StraightProgram}
 use Rattle.branch_removal.specs.Straight as straight
-use Rattle.inline.specs.Flat.{TermTree, FlatTree, declare, array, assign, branch, loop, FlatBlock, FlatProgram}
+use Rattle.inline.specs.Flat.{TermTree, FlatTree, declare, array, assign, hold, skip, branch, loop, FlatBlock, FlatProgram}
 use Rattle.inline.specs.Flat as flat
 use Rattle.intervals.specs.Ranged.{RangedProgram}
 use Rattle.language.specs.declared.signature.Label.{Label}
@@ -34,12 +34,14 @@ made x size (e ∷ es) = fill x (e ∷ es)
 
 abbrev mutual
   -- a statement within an enclosing control value; its own control values are from `control` on.
-  -- What it declares is set in any case, counters are too.
+  -- What it declares is set in any case, counters and indices that are held are too.
   pub removed : Option ℕ → ℕ → FlatTree → StraightBlock
   removed within control (declare x word mutable value) = single (set x value)
   removed within control (array x word mutable size values) = single (made x size values)
   removed within control (assign x value) = single (set_within within x value)
   removed within control (flat.put place x size index value) = single (put_within within place x size index value)
+  removed within control (hold x place size index) = single (set x index)
+  removed within control skip = nothing
   removed within control (branch Secret condition accepted otherwise) =
       first (take_within within control condition)
       (chain (removed_all (Some control) (control + 2) accepted) (removed_all (Some (control + 1)) (control + 2) otherwise))
@@ -63,6 +65,8 @@ abbrev mutual
   controls_in (array x word mutable size values) = 0
   controls_in (assign x value) = 0
   controls_in (flat.put place x size index value) = 0
+  controls_in (hold x place size index) = 0
+  controls_in skip = 0
   controls_in (branch label condition accepted otherwise) = own_controls label + max (controls_in_all accepted) (controls_in_all otherwise)
   controls_in (loop x low high body) = controls_in_all body
 

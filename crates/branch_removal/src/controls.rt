@@ -25,7 +25,9 @@ fn controls_in(statement: &FlatStatement) -> u32
         FlatStatement::Declare(_, _, _, _)
         | FlatStatement::DeclareArray(_, _, _, _, _)
         | FlatStatement::Assign(_, _)
-        | FlatStatement::AssignElement(_, _, _, _, _) => 0,
+        | FlatStatement::AssignElement(_, _, _, _, _)
+        | FlatStatement::Hold(_, _, _, _)
+        | FlatStatement::Skip => 0,
         FlatStatement::Branch(label, _, accepted, otherwise) => {
             own_controls(*label) + controls_in_all(accepted).max(controls_in_all(otherwise))
         }

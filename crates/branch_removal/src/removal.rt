@@ -79,6 +79,10 @@ fn push_removed<'f>(
         FlatStatement::AssignElement(place, variable, size, index, value) => {
             code.push(put_within(within, *place, *variable, *size, index, value))?;
         }
+        FlatStatement::Hold(variable, _, _, index) => {
+            code.push(StraightStatement::Set(*variable, index))?;
+        }
+        FlatStatement::Skip => {}
         FlatStatement::Branch(label, condition, accepted, otherwise) => match label {
             Label::Secret => {
                 code.push(StraightStatement::Take(control, within, condition))?;

@@ -3,7 +3,7 @@ use Rattle.std.proofs.Common.{◌≡◌, ℕ, false, ◌+◌, ◌<◌, ◌≤◌
 use Rattle.std.proofs.lemmas.List.{length-set, get_or-set_same, get_or-set_other}
 use Rattle.std.proofs.lemmas.Option.{slice_get_within}
 use Rattle.inline.specs.declared.flat.FlatVariable.{FlatVariable}
-use Rattle.inline.specs.Flat.{FlatTree, declare, array, assign, put, branch, loop, FlatBlock, nothing, first, word_as}
+use Rattle.inline.specs.Flat.{FlatTree, declare, array, assign, put, hold, skip, branch, loop, FlatBlock, nothing, first, word_as}
 use Rattle.inline.specs.FlatTyping.{Types, with_type, counter_type, IsTyped, AreTyped, IsNumbered, AreNumbered, declarations_in, declarations_in_all, types_after}
 use Rattle.intervals.specs.Intervals.{Bounds, interval}
 use Rattle.intervals.specs.Narrowing.{where_true, where_false}
@@ -27,6 +27,8 @@ module _ (declared : List FlatVariable) where
     long (array x word mutable size values) bounds turns = refl
     long (assign x value) bounds turns = refl
     long (put place x size index value) bounds turns = refl
+    long (hold x place size index) bounds turns = refl
+    long skip bounds turns = refl
     long (branch label condition accepted otherwise) bounds turns =
         long_all otherwise (where_false declared bounds label condition) (counted_all declared (where_true declared bounds label condition) turns accepted) ∙ long_all accepted (where_true declared bounds label condition) turns
     long (loop x low high body) bounds turns =
@@ -44,6 +46,8 @@ module _ (declared : List FlatVariable) where
     stays (array x word mutable size values) n bounds turns numbered y less = refl
     stays (assign x value) n bounds turns numbered y less = refl
     stays (put place x size index value) n bounds turns numbered y less = refl
+    stays (hold x place size index) n bounds turns numbered y less = refl
+    stays skip n bounds turns numbered y less = refl
     stays (branch label condition accepted otherwise) n bounds turns numbered y less =
         stay otherwise (n + declarations_in_all accepted) (where_false declared bounds label condition) (counted_all declared (where_true declared bounds label condition) turns accepted) numbered.1 y (omega (arith, less))
         ∙ stay accepted n (where_true declared bounds label condition) turns numbered.0 y less
@@ -70,6 +74,8 @@ module _ (declared : List FlatVariable) where
       enough (array x word mutable size values) types control n bounds turns typed numbered count own = tt
       enough (assign x value) types control n bounds turns typed numbered count own = tt
       enough (put place x size index value) types control n bounds turns typed numbered count own = tt
+      enough (hold x place size index) types control n bounds turns typed numbered count own = tt
+      enough skip types control n bounds turns typed numbered count own = tt
       enough (branch label condition accepted otherwise) types control n bounds turns typed numbered count own =
           let one = where_true declared bounds label condition in
           let other = where_false declared bounds label condition in

@@ -1,7 +1,7 @@
 -- Intervals, narrowing, turns and work by small examples: each is computed.
 use Rattle.std.proofs.Common.{◌≡◌, ℕ, List, [], ◌∷◌, length, false, true, None, Some, refl}
 use Rattle.inline.specs.declared.flat.FlatVariable.{FlatVariable}
-use Rattle.inline.specs.Flat.{TermTree, number, truth, variable, binary, rotate, convert, select, element, nothing, first, declare, loop, FlatProgram, word_as, array_as}
+use Rattle.inline.specs.Flat.{TermTree, number, truth, variable, binary, rotate, convert, select, element, nothing, first, declare, put, hold, skip, loop, FlatBlock, FlatProgram, word_as, array_as}
 use Rattle.intervals.specs.declared.interval.Interval.{Interval}
 use Rattle.intervals.specs.Intervals.{Bounds, between, interval, operated_interval, prefix_interval, converted_interval}
 use Rattle.intervals.specs.Narrowing.{where_false, where_true}
@@ -245,3 +245,60 @@ no_turn_inside = refl
 
 no_turn_outside : length (range_violations (reads 4 0)) ≡ 1
 no_turn_outside = refl
+
+-- Calls, as they stand in a body.
+
+-- a body whose variables are an array of 4 elements and three words
+abbrev with_calls : FlatBlock → FlatProgram
+with_calls body = record {
+  place = origin;
+  parameters = [];
+  returned = None;
+  nodes = 0;
+  declared =
+      array_as (labelled Uint8 Public) true 4 ∷ word_as (labelled Uint32 Public) false ∷ word_as (labelled Uint32 Public) false
+      ∷ word_as (labelled Uint8 Public) false ∷ [];
+  body = body;
+  value = None;
+}
+
+-- a called body reads an element at its parameter, which is the counter of a loop around the call
+abbrev passes : ℕ → FlatProgram
+passes high =
+    with_calls (first (loop 1 (number 0 Uint32) (number high Uint32)
+    (first skip (first (declare 2 (labelled Uint32 Public) false (variable 1))
+    (first skip (first (declare 3 (labelled Uint8 Public) false (element origin 0 4 (variable 2))) nothing))))) nothing)
+
+passed_inside : length (range_violations (passes 4)) ≡ 0
+passed_inside = refl
+
+passed_outside : length (range_violations (passes 5)) ≡ 1
+passed_outside = refl
+
+-- its result, one more than its parameter, is the index of an element
+abbrev gives_back : ℕ → FlatProgram
+gives_back argument =
+    with_calls (first skip (first (declare 1 (labelled Uint32 Public) false (number argument Uint32))
+    (first skip (first (declare 2 (labelled Uint32 Public) false (binary origin Add W32 (variable 1) (number 1 Uint32)))
+    (first (declare 3 (labelled Uint8 Public) false (element origin 0 4 (variable 2))) nothing)))))
+
+given_inside : length (range_violations (gives_back 2)) ≡ 0
+given_inside = refl
+
+given_outside : length (range_violations (gives_back 3)) ≡ 1
+given_outside = refl
+
+-- an index is held until an element is assigned to
+abbrev holds : ℕ → FlatProgram
+holds index = with_calls (first (hold 1 origin 4 (number index Uint32)) (first (put origin 0 4 (variable 1) (number 7 Uint8)) nothing))
+
+held_inside : length (range_violations (holds 3)) ≡ 0
+held_inside = refl
+
+-- it is out of range where it is held, and again where it is used
+held_outside : length (range_violations (holds 4)) ≡ 2
+held_outside = refl
+
+-- the work of a call is that of its own node, the words passed and the called body
+work_of_calls : work_of (gives_back 2) ≡ 11
+work_of_calls = refl

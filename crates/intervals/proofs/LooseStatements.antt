@@ -1,24 +1,23 @@
 -- What is known after a statement holds there in a loose run, variables that are not `mut` keep their values, and the path has
 -- no fault where the statement has no violation.
-use Rattle.std.proofs.Common.{◌≡◌, ◌≢◌, ◌⊎◌, inl, inr, ℕ, suc, ◌+◌, ◌-◌, ◌<◌, ◌≤◌, ◌==◌, ◌||◌, nat_lt, Bool, true, false, not, if◌then◌else◌, List, [], ◌∷◌, ◌++◌, length, All, Some, slice_set, slice_index, refl, sym, ap, ◌∙◌, subst, arith, eqb-true, ◌^◌}
+use Rattle.std.proofs.Common.{◌≡◌, ◌≢◌, ◌⊎◌, inl, inr, ℕ, suc, ◌+◌, ◌-◌, ◌<◌, ◌≤◌, ◌==◌, ◌||◌, nat_lt, Bool, true, false, not, if◌then◌else◌, List, [], ◌∷◌, ◌++◌, length, All, Some, slice_set, slice_index, refl, sym, ap, ◌∙◌, subst, arith, eqb-true, ne_eqb, eq-eqb, ◌^◌}
 use Rattle.std.proofs.lemmas.Bool.Decides.{nat_tests}
 use Rattle.std.proofs.lemmas.List.{length-set, length-replicate}
 use Rattle.std.proofs.lemmas.List.Elements.{All-nil, All-cons, All-set, All-replicate}
 use Rattle.std.proofs.lemmas.Option.{same_Some}
 use Rattle.inline.specs.declared.flat.FlatVariable.{FlatVariable}
 use Rattle.inline.specs.Fitting.{IsWithinKind, IsHeld}
-use Rattle.inline.specs.Flat.{TermTree, FlatTree, declare, array, assign, put, branch, loop, FlatBlock, nothing, first, word_as, array_as}
+use Rattle.inline.specs.Flat.{TermTree, FlatTree, declare, array, assign, put, hold, skip, branch, loop, FlatBlock, nothing, first, word_as, array_as}
 use Rattle.inline.specs.FlatMeaning.{Values, with_value}
 use Rattle.inline.specs.FlatTyping.{Types, types_of, with_type, Suits, AllSuit, HasCount, IsNew, IsTyped, AreTyped, counter_type, types_after, types_after_all}
 use Rattle.inline.specs.Path.{Path, AreFine, bounded, indexed}
 use Rattle.inline.proofs.Fitting.{some_bit}
 use Rattle.inline.proofs.FittingBodies.{fits_assigned, fits_declared, one_held}
 use Rattle.inline.proofs.Linked.{with_type-same, with_type-other}
-use Rattle.inline.proofs.States.{with_value-same, with_value-other}
 use Rattle.inline.proofs.TypesKept.{new_number, type_kept, types_kept}
 use Rattle.intervals.specs.declared.interval.Interval.{Interval}
 use Rattle.intervals.specs.Intervals.{Bounds, known, with_bound, between, interval}
-use Rattle.intervals.specs.Loose.{Comes, ComeAll, none_left, one_more, made, Leads, declares, declares_array, assigns, puts, chooses, repeats, Turns, no_turn, a_turn, LeadAll, ends, goes_on}
+use Rattle.intervals.specs.Loose.{Comes, ComeAll, none_left, one_more, made, Leads, declares, declares_array, assigns, puts, holds as holding, skips, chooses, repeats, Turns, no_turn, a_turn, LeadAll, ends, goes_on}
 use Rattle.intervals.specs.Narrowing.{where_true, where_false}
 use Rattle.intervals.specs.Ranges.{bounds_after, bounds_after_all, counter_interval, in_loop, index_violations, is_steady, most_turns, term_violations, terms_violations, violations, violations_all}
 use Rattle.intervals.proofs.LooseIntervals.{IsIn}
@@ -29,6 +28,13 @@ use Rattle.language.specs.Types.{is_secret, joined}
 use Rattle.language.specs.declared.signature.Label.{Label}
 use Rattle.language.specs.declared.signature.Label.TheVariants.{Public, Secret}
 use Rattle.language.specs.declared.typing.WordType.{WordType}
+
+-- what a variable holds once it is set, and what another one does
+with_value-same : (m : Values) (x : ℕ) (v : List ℕ) → with_value m x v x ≡ v
+with_value-same m x v = ap (λ b. if b then v else m x) (eq-eqb x x refl)
+
+with_value-other : (m : Values) (x y : ℕ) (v : List ℕ) → (y ≡ x → ⊥) → with_value m x v y ≡ m y
+with_value-other m x y v other = ap (λ b. if b then v else m y) (ne_eqb y x other)
 
 -- one of two, each by what the test is
 by_cases : (P : Bool → Type 0) (b : Bool) → (b ≡ true → P true) → (b ≡ false → P false) → P b
@@ -69,6 +75,8 @@ module _ (declared : List FlatVariable) (turns : List ℕ) where
     AreCounted bounds (array x word mutable size values) = Unit {0}
     AreCounted bounds (assign x value) = Unit {0}
     AreCounted bounds (put place x size index value) = Unit {0}
+    AreCounted bounds (hold x place size index) = Unit {0}
+    AreCounted bounds skip = Unit {0}
     AreCounted bounds (branch label condition accepted otherwise) =
         AllCounted (where_true declared bounds label condition) accepted × AllCounted (where_false declared bounds label condition) otherwise
     AreCounted bounds (loop x low high body) =
@@ -237,6 +245,15 @@ module _ (declared : List FlatVariable) (turns : List ℕ) where
           fine = fine_both turns p (indexed place size i ∷ q) (loose_fine declared types bounds m holds turns c typed.index_type at.0)
               (loose_below declared types bounds m holds turns place size c typed.index_type at.1, loose_fine declared types bounds m holds turns d typed.suits.has_type parts.1);
         }
+    loose_done {types = types} {bounds = bounds} control {m = m} (holding {x = x} {place = place} {size = size} {index = index} {i = i} {path = p} c) typed known none counted =
+        let held = one_held counter_type false i (loose_fits declared types bounds m known c typed.1) in
+        let parts = none_in (term_violations declared bounds index) (index_violations place size (interval declared bounds index)) none in
+        record {
+          holds = known_holds types bounds m known x (word_as counter_type false) (i ∷ []) typed.0 held counter_type (interval declared bounds index) refl refl (loose_in declared types bounds m known c typed.1 refl);
+          same = new_same types bounds m known x (word_as counter_type false) (i ∷ []) typed.0 held;
+          fine = fine_both turns p (indexed place size i ∷ []) (loose_fine declared types bounds m known turns c typed.1 parts.0) (loose_below declared types bounds m known turns place size c typed.1 parts.1, tt);
+        }
+    loose_done control skips typed known none counted = record { holds = known; same = λ y word is. refl; fine = tt }
     loose_done {types = types} {bounds = bounds} control {m = m} {t = t} (chooses {label = label} {condition = condition} {accepted = accepted} {otherwise = otherwise} {c = z} {p = p} {q = q} c arm) typed holds none counted =
         let one = where_true declared bounds label condition in
         let other = where_false declared bounds label condition in

@@ -1,9 +1,9 @@
 -- A strict run is a loose run: it comes to what the body means.
 use Rattle.std.proofs.Common.{ℕ, zero, suc, ◌+◌, ◌-◌, ◌==◌, Bool, true, false, if◌then◌else◌, List, [], ◌∷◌, map, Option, Some, None, refl}
-use Rattle.inline.specs.Flat.{TermTree, number, truth, variable, prefix, binary, rotate, convert, select, element, FlatTree, declare, array, assign, put, branch, loop, FlatBlock, nothing, first, FlatProgram}
+use Rattle.inline.specs.Flat.{TermTree, number, truth, variable, prefix, binary, rotate, convert, select, element, FlatTree, declare, array, assign, put, hold, skip, branch, loop, FlatBlock, nothing, first, FlatProgram}
 use Rattle.inline.specs.FlatMeaning.{Values, with_value, value_in, path_in, path_in_all, turns, path_of_turns, after, after_all, path_at, path_along, path_of_result, path_of, given, end_of}
 use Rattle.inline.specs.FlatTyping.{Types, types_of}
-use Rattle.intervals.specs.Loose.{Comes, to_number, to_truth, to_variable, to_prefix, to_binary, to_rotation, to_conversion, to_selection, to_element, ComeAll, none_left, one_more, Leads, declares, declares_array, assigns, puts, chooses, repeats, Turns, no_turn, a_turn, LeadAll, ends, goes_on, Returns, nothing_returned, returned, IsLooseRun}
+use Rattle.intervals.specs.Loose.{Comes, to_number, to_truth, to_variable, to_prefix, to_binary, to_rotation, to_conversion, to_selection, to_element, ComeAll, none_left, one_more, Leads, declares, declares_array, assigns, puts, holds, skips, chooses, repeats, Turns, no_turn, a_turn, LeadAll, ends, goes_on, Returns, nothing_returned, returned, IsLooseRun}
 use Rattle.language.specs.declared.values.Arg.{Arg}
 
 module _ (types : Types) where
@@ -45,6 +45,8 @@ module _ (types : Types) where
     leads (array x word mutable size (e ∷ es)) m = declares_array (one_more (comes m e) (come_all m es))
     leads (assign x value) m = assigns (comes m value)
     leads (put place x size index value) m = puts (comes m index) (comes m value)
+    leads (hold x place size index) m = holds (comes m index)
+    leads skip m = skips
     leads (branch label condition accepted otherwise) m =
         chooses (comes m condition) (either (value_in m condition == 0) m accepted otherwise (lead_all accepted m) (lead_all otherwise m))
     leads (loop x low high body) m = repeats (comes m low) (comes m high) (turns_lead x body (λ t. lead_all body t) (value_in m high - value_in m low) (value_in m low) m)

@@ -3,7 +3,7 @@
 use Rattle.std.specs.Prelude.{◌≡◌, ℕ, zero, suc, ◌+◌, ◌-◌, ◌==◌, List, [], ◌∷◌, ◌++◌, Option, None, Some, if◌then◌else◌, slice_index, slice_set, replicate, Bool}
 use Rattle.arguments.specs.Within.{AreWithin}
 use Rattle.inline.specs.Fitting.{IsWithinKind}
-use Rattle.inline.specs.Flat.{TermTree, number, truth, variable, prefix, binary, rotate, convert, select, element, FlatTree, declare, array, assign, put, branch, loop, FlatBlock, nothing, first, FlatProgram}
+use Rattle.inline.specs.Flat.{TermTree, number, truth, variable, prefix, binary, rotate, convert, select, element, FlatTree, declare, array, assign, put, hold, skip, branch, loop, FlatBlock, nothing, first, FlatProgram}
 use Rattle.inline.specs.FlatMeaning.{Values, with_value, division, given}
 use Rattle.inline.specs.FlatTyping.{Types, types_of, HasType}
 use Rattle.inline.specs.Path.{Path, bounded, indexed, AreFine}
@@ -82,6 +82,10 @@ mutual
         → Comes types m index i p
         → Comes types m value v q
         → Leads types m (put place x size index value) (with_value m x (slice_set (m x) i v)) (p ++ indexed place size i ∷ q)
+    holds : {m : Values} {x : ℕ} {place : Place} {size : ℕ} {index : TermTree} {i : ℕ} {path : Path}
+        → Comes types m index i path
+        → Leads types m (hold x place size index) (with_value m x (i ∷ [])) (path ++ indexed place size i ∷ [])
+    skips : {m : Values} → Leads types m skip m []
     chooses : {m t : Values} {label : Label} {condition : TermTree} {accepted otherwise : FlatBlock} {c : ℕ} {p q : Path}
         → Comes types m condition c p
         → LeadAll types m (if c == 0 then otherwise else accepted) t q

@@ -2,7 +2,7 @@
 -- reaches it or not. And how many turns are counted for each loop.
 use Rattle.std.specs.Prelude.{ℕ, ◌-◌, ◌==◌, ◌&&◌, ◌||◌, Bool, not, nat_lt, nat_le, List, [], ◌∷◌, ◌++◌, length, map, replicate, Option, None, Some, if◌then◌else◌, slice_set}
 use Rattle.inline.specs.declared.flat.FlatVariable.{FlatVariable}
-use Rattle.inline.specs.Flat.{TermTree, number, truth, variable, prefix, binary, rotate, convert, select, element, FlatTree, declare, array, assign, put, branch, loop, FlatBlock, nothing, first, FlatProgram}
+use Rattle.inline.specs.Flat.{TermTree, number, truth, variable, prefix, binary, rotate, convert, select, element, FlatTree, declare, array, assign, put, hold, skip, branch, loop, FlatBlock, nothing, first, FlatProgram}
 use Rattle.intervals.specs.declared.interval.Interval.{Interval}
 use Rattle.intervals.specs.Intervals.{Bounds, with_bound, between, interval, full_of}
 use Rattle.intervals.specs.Narrowing.{where_true, where_false}
@@ -62,6 +62,8 @@ module _ (declared : List FlatVariable) where
   bounds_after bounds (array x word mutable size values) = bounds
   bounds_after bounds (assign x value) = bounds
   bounds_after bounds (put place x size index value) = bounds
+  bounds_after bounds (hold x place size index) = with_bound bounds x (interval declared bounds index)
+  bounds_after bounds skip = bounds
   bounds_after bounds (branch label condition accepted otherwise) = bounds
   bounds_after bounds (loop x low high body) = bounds
 
@@ -81,6 +83,8 @@ module _ (declared : List FlatVariable) where
     violations bounds (assign x value) = term_violations declared bounds value
     violations bounds (put place x size index value) =
         term_violations declared bounds index ++ index_violations place size (interval declared bounds index) ++ term_violations declared bounds value
+    violations bounds (hold x place size index) = term_violations declared bounds index ++ index_violations place size (interval declared bounds index)
+    violations bounds skip = []
     violations bounds (branch label condition accepted otherwise) =
         term_violations declared bounds condition
         ++ violations_all (where_true declared bounds label condition) accepted
@@ -99,6 +103,8 @@ module _ (declared : List FlatVariable) where
     counted bounds turns (array x word mutable size values) = turns
     counted bounds turns (assign x value) = turns
     counted bounds turns (put place x size index value) = turns
+    counted bounds turns (hold x place size index) = turns
+    counted bounds turns skip = turns
     counted bounds turns (branch label condition accepted otherwise) =
         counted_all (where_false declared bounds label condition) (counted_all (where_true declared bounds label condition) turns accepted) otherwise
     counted bounds turns (loop x low high body) =

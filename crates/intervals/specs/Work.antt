@@ -1,6 +1,6 @@
 -- Work: how many nodes a run evaluates at most, and the limit on it.
 use Rattle.std.specs.Prelude.{◌≡◌, ◌⊎◌, ℕ, ◌+◌, ◌*◌, nat_lt, List, length, Option, slice_index}
-use Rattle.inline.specs.Flat.{FlatTree, declare, array, assign, put, branch, loop, FlatBlock, nothing, first, FlatProgram}
+use Rattle.inline.specs.Flat.{FlatTree, declare, array, assign, put, hold, skip, branch, loop, FlatBlock, nothing, first, FlatProgram}
 use Rattle.inline.specs.FlatSize.{term_nodes, terms_nodes, value_nodes}
 use Rattle.intervals.specs.Ranged.{RangedProgram}
 use Rattle.intervals.specs.Ranges.{range_violations, turns_of}
@@ -19,6 +19,8 @@ abbrev mutual
   tree_work turns (array x word mutable size values) = 1 + size + terms_nodes values
   tree_work turns (assign x value) = 1 + term_nodes value
   tree_work turns (put place x size index value) = 1 + (1 + term_nodes index) + term_nodes value
+  tree_work turns (hold x place size index) = 1 + term_nodes index
+  tree_work turns skip = 1
   tree_work turns (branch label condition accepted otherwise) = 1 + term_nodes condition + body_work turns accepted + body_work turns otherwise
   tree_work turns (loop x low high body) = term_nodes low + term_nodes high + (slice_index turns x + 1) * (1 + body_work turns body)
 

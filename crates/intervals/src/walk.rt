@@ -101,6 +101,12 @@ fn statement(
             note_term(&mut walk.first, declared, bounds, value);
             Ok(())
         }
+        FlatStatement::Hold(x, place, size, index) => {
+            let held = note_term(&mut walk.first, declared, bounds, index);
+            note_index(&mut walk.first, *place, *size, held);
+            walk.known.set(*x, held)
+        }
+        FlatStatement::Skip => Ok(()),
         FlatStatement::Branch(label, condition, accepted, otherwise) => {
             note_term(&mut walk.first, declared, bounds, condition);
             accepted_arm(declared, walk, accepted.as_slice(), *label, condition)?;

@@ -56,6 +56,8 @@ fn work_after(turns: &[u32], statement: &FlatStatement, room: u64) -> Option<u64
         FlatStatement::AssignElement(_, _, _, index, value) => {
             nodes_after(value, nodes_after(index, room.checked_sub(2)?)?)
         }
+        FlatStatement::Hold(_, _, _, index) => nodes_after(index, room.checked_sub(1)?),
+        FlatStatement::Skip => room.checked_sub(1),
         FlatStatement::Branch(_, condition, accepted, otherwise) => {
             let room = nodes_after(condition, room.checked_sub(1)?)?;
             let room = work_after_all(turns, accepted.as_slice(), room)?;

@@ -1,7 +1,7 @@
 use Rattle.std.proofs.Common.{◌≡◌, ◌+◌, ◌∷◌, drop, map, rules, arith, refl, sym, ap, ◌∙◌}
 use Rattle.std.proofs.lemmas.List.{at_drop_all, drop_more}
-use Rattle.inline.specs.Flat.{flat_block, term_tree}
-use Rattle.branch_removal.specs.Removal.{made, own_controls, removed_all}
+use Rattle.inline.specs.Flat.{flat_block, flat_tree, term_tree}
+use Rattle.branch_removal.specs.Removal.{made, own_controls, removed, removed_all}
 use Rattle.branch_removal.specs.Straight.{chain, straight_block}
 use Rattle.branch_removal.proofs.Statements.{accepted_fewer, accepted_smaller, otherwise_fewer, otherwise_smaller, controls_of_loop, body_smaller, smaller_here, chain-nothing, passed, fewer_here, fewer_behind, code_of_one, code_of_secret, code_of_public, code_of_loop, pushed, pushed_branch, pushed_loop}
 use Rattle.branch_removal.proofs.removal.+removal.Goals as goal
@@ -52,6 +52,15 @@ push_removed-returns-in_ok-push-in-Assign t c =
 pub push_removed-returns-in_ok-push-in-AssignElement : goal.push_removed-returns-in_ok-push-in-AssignElement
 push_removed-returns-in_ok-push-in-AssignElement t c =
     code_of_one c.args.statement.now _ c.args.within c.args.control _ c.in-AssignElement.is refl c.args.code.now.items c.push-in-AssignElement.new.self.items _ c.in_ok-push-in-AssignElement.ensures.items c.put_within.ensures
+
+pub push_removed-returns-in_ok-push-in-Hold : goal.push_removed-returns-in_ok-push-in-Hold
+push_removed-returns-in_ok-push-in-Hold t c =
+    code_of_one c.args.statement.now _ c.args.within c.args.control _ c.in-Hold.is refl c.args.code.now.items c.push-in-Hold.new.self.items _ c.in_ok-push-in-Hold.ensures.items refl
+
+pub push_removed-returns-in-Skip : goal.push_removed-returns-in-Skip
+push_removed-returns-in-Skip t c =
+    sym (chain-nothing (straight_block c.args.code.now.items))
+    ∙ ap (λ s. chain (straight_block c.args.code.now.items) (removed c.args.within c.args.control (flat_tree s))) (sym c.in-Skip.is)
 
 pub push_removed-returns-in_ok-push_removed_all-in-Secret-2 : goal.push_removed-returns-in_ok-push_removed_all-in-Secret-2
 push_removed-returns-in_ok-push_removed_all-in-Secret-2 t c =
