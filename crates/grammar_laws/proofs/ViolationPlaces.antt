@@ -1,16 +1,16 @@
 -- A rule is violated at a head of the tree, or at the place where a text begins.
-use Rattle.std.proofs.Common.{◌≡◌, ℕ, ◌+◌, List, [], ◌∷◌, ◌++◌, length, Option, None, Some, is_some, nat_lt, refl, arith}
+use Rattle.std.proofs.Common.{◌≡◌, ℕ, ◌+◌, List, [], ◌∷◌, ◌++◌, ◌||◌, length, Option, None, Some, is_some, nat_lt, refl, arith}
 use Rattle.word.specs.Places.{origin}
 use Rattle.word.specs.declared.place.Place.{Place}
 use Rattle.language.specs.declared.rule.Rule.{Rule}
 use Rattle.language.specs.declared.rule.Rule.TheVariants.{InlinedSize, DeclaredBytes, NameDeclaredTwice, NotExactlyOneExport}
 use Rattle.language.specs.declared.signature.Label.{Label}
 use Rattle.language.specs.declared.signature.Label.TheVariants.{Public}
-use Rattle.language.specs.declared.limits.TheConstants.{MOST_NODES, MOST_DECLARED_BYTES}
+use Rattle.language.specs.declared.limits.TheConstants.{MOST_BODIES, MOST_NODES, MOST_DECLARED_BYTES}
 use Rattle.language.specs.declared.typing.Violation.{Violation}
 use Rattle.language.specs.declared.typing.WordType.{WordType}
 use Rattle.language.specs.ExprTyping.{binary_rules, convert_rules, element_rules, element_type, expr_violations, exprs_violations, name_rules, name_type, number_rules, prefix_rules, rotate_rules, select_rules, type_of, types_of}
-use Rattle.language.specs.Size.{declared_bytes, nodes_of, size_violations}
+use Rattle.language.specs.Size.{bodies_of, declared_bytes, extents_of, nodes_of, size_violations}
 use Rattle.language.specs.Tree.{ExprTree, number, truth, name, prefix, binary, rotate, convert, select, element, CallTree, RightTree, called, computed, StatementTree, declaration, array, assignment, element_assignment, call, conditional, loop, BlockTree, nothing, first, ParameterTree, ReturnTree, ProcedureTree, ProgramTree, written}
 use Rattle.language.specs.Types.{Scope, at, declared, found, of_all, of_one, of_three, of_two, variable, when}
 use Rattle.language.specs.Typing.{array_rules, assignment_rules, block_violations, body_scope, bounds_rules, call_rules, call_violations, condition_rules, control_under, counter_as, declaration_rules, element_assignment_rules, export_place, export_violations, exports, parameter_as, parameter_violations, procedure_rules, procedure_violations, procedures_violations, return_rules, return_violations, right_type, right_violations, scope_after, scope_after_all, statement_violations, too_many, violations, with_procedure}
@@ -139,5 +139,8 @@ module _ (w : Place → ℕ) where
   violations_light program h at_origin =
       both (one_export (exports program.procedures) at_origin (exports_light program.procedures h)) (procedures [] [] program.procedures h)
 
-  pub sizes_light : (p : ProcedureTree) → in_procedure w p ≡ 0 → AreAtLight (size_violations p)
-  sizes_light p h = at_place p.place (omega (arith, h)) (when (nat_lt MOST_NODES (nodes_of p)) InlinedSize ++ when (nat_lt MOST_DECLARED_BYTES (declared_bytes p)) DeclaredBytes)
+  pub sizes_light : (before : List ProcedureTree) (p : ProcedureTree) → in_procedure w p ≡ 0 → AreAtLight (size_violations before p)
+  sizes_light before p h =
+      at_place p.place (omega (arith, h))
+      (when (nat_lt MOST_NODES (nodes_of (extents_of before) p) || nat_lt MOST_BODIES (bodies_of (extents_of before) p)) InlinedSize
+      ++ when (nat_lt MOST_DECLARED_BYTES (declared_bytes (extents_of before) p)) DeclaredBytes)

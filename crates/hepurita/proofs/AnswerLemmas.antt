@@ -46,8 +46,8 @@ OneForEach = (params : List Param) (args : List Arg) → AreWithin params args �
 -- ---- the image of an accepted text
 
 -- it is the export, compiled, and may lie at the standard bases
-pub record Fits (program : ProgramTree) (export : ProcedureTree) (image : Fields) : Type 0 where
-  pub compiled : IsCompiled program export image
+pub record Fits (program : ProgramTree) (before : List ProcedureTree) (export : ProcedureTree) (image : Fields) : Type 0 where
+  pub compiled : IsCompiled program before export image
   pub bases : AreBases image code_base frame_base
 
 same_fields : (bytes : List ℕ) (f g : Fields) → Spells bytes f → Spells bytes g → f ≡ g
@@ -55,15 +55,19 @@ same_fields bytes f g one other =
     let both = sym one ∙ other in
     cc
 
-pub fits : OneAnswer → (text bytes : List ℕ) (program : ProgramTree) (export : ProcedureTree) (image : Fields) → Builds text bytes program export image → Fits program export image
-fits one text bytes program export image is =
+pub fits : OneAnswer → (text bytes : List ℕ) (program : ProgramTree) (before : List ProcedureTree) (export : ProcedureTree) (image : Fields) → Builds text bytes program before export image → Fits program before export image
+fits one text bytes program before export image is =
     let built = is.built in
-    let same = one_export one text built.program program built.export export built.judged is.judged in
+    let same = one_export one text built.program program built.before before built.export export built.judged is.judged in
     let images : built.image ≡ image = same_fields bytes built.image image built.spelled is.spelled in
-    let compiled : IsCompiled program export image = subst (λ (f : Fields). IsCompiled program export f) images (subst (λ (p : ProcedureTree). IsCompiled program p built.image) same.1 (subst (λ (p : ProgramTree). IsCompiled p built.export built.image) same.0 built.compiled)) in
+    let compiled : IsCompiled program before export image =
+        subst (λ (f : Fields). IsCompiled program before export f) images
+        (subst (λ (p : ProcedureTree). IsCompiled program before p built.image) same.2
+        (subst (λ (front : List ProcedureTree). IsCompiled program front built.export built.image) same.1
+        (subst (λ (p : ProgramTree). IsCompiled p built.before built.export built.image) same.0 built.compiled))) in
     record { compiled = compiled; bases = subst (λ (f : Fields). AreBases f code_base frame_base) images (built.bases 0 (omega arith)) }
 
-module _ (program : ProgramTree) (export : ProcedureTree) (image : Fields) (is : Fits program export image) where
+module _ (program : ProgramTree) (before : List ProcedureTree) (export : ProcedureTree) (image : Fields) (is : Fits program before export image) where
   -- the run on arguments
   pub run_on : (args : List Arg) → AreWithin (params_of image) args → RunsTo program image code_base frame_base args
   run_on args within = is.compiled.results code_base frame_base args is.bases within

@@ -1,21 +1,21 @@
 -- The standard bases serve each compiled image, and so do those of several side by side.
-use Rattle.std.proofs.Common.{ℕ, ◌+◌, ◌*◌, ◌<◌, ◌≤◌, arith}
+use Rattle.std.proofs.Common.{ℕ, ◌+◌, ◌*◌, ◌<◌, ◌≤◌, List, arith}
 use Rattle.codegen.specs.Bases.{AreBases}
 use Rattle.hepurita.specs.Bases.{code_base, frame_base, most_images, code_distance, frame_distance}
 use Rattle.hepurita.specs.Compiled.{IsCompiled}
 use Rattle.hepurita.specs.Built.{JudgesProgram, accepts}
 use Rattle.hepurita.proofs.JudgementLemmas.{few_nodes, small_of}
 use Rattle.image.specs.Fields.{Fields}
-use Rattle.language.specs.Size.{nodes_of}
+use Rattle.language.specs.Size.{extents_of, nodes_of}
 use Rattle.language.specs.Tree.{ProcedureTree, ProgramTree}
 use Rattle.language.specs.declared.limits.TheConstants.{MOST_NODES}
 
-pub standard_bases : (program : ProgramTree) (p : ProcedureTree) (image : Fields) (k : ℕ) → IsCompiled program p image → nodes_of p ≤ MOST_NODES → k < most_images → AreBases image (code_base + code_distance * k) (frame_base + frame_distance * k)
-standard_bases program p image k is small below =
+pub standard_bases : (program : ProgramTree) (before : List ProcedureTree) (p : ProcedureTree) (image : Fields) (k : ℕ) → IsCompiled program before p image → nodes_of (extents_of before) p ≤ MOST_NODES → k < most_images → AreBases image (code_base + code_distance * k) (frame_base + frame_distance * k)
+standard_bases program before p image k is small below =
     let words = is.word_count in
     let size = is.frame_size in
     record { code_aligned = omega arith; frame_aligned = omega arith; code_ends = omega (arith, words, small, below); frame_ends = omega (arith, size, below) }
 
 -- so they serve the image of an accepted program's export
-pub bases_of : (program : ProgramTree) (export : ProcedureTree) (image : Fields) → JudgesProgram program (accepts program export) → IsCompiled program export image → (k : ℕ) → k < most_images → AreBases image (code_base + code_distance * k) (frame_base + frame_distance * k)
-bases_of program export image judged compiled k below = standard_bases program export image k compiled (few_nodes program export (small_of program program export judged)) below
+pub bases_of : (program : ProgramTree) (before : List ProcedureTree) (export : ProcedureTree) (image : Fields) → JudgesProgram program (accepts program before export) → IsCompiled program before export image → (k : ℕ) → k < most_images → AreBases image (code_base + code_distance * k) (frame_base + frame_distance * k)
+bases_of program before export image judged compiled k below = standard_bases program before export image k compiled (few_nodes program before export (small_of program program before export judged)) below

@@ -1,48 +1,60 @@
 -- Refusals of the passes as judgements on programs and texts.
-use Rattle.std.proofs.Common.{◌≡◌, inl, inr, ℕ, List, length, Some, Result, Ok, Err, IfOk, sym, subst}
-use Rattle.coverage.specs.Earliest.{IsEarliest}
-use Rattle.coverage.specs.NotCompiled.{uncompiled, IsCompiledYet}
+use Rattle.std.proofs.Common.{◌≡◌, inl, inr, ℕ, List, [], length, Some, sym, subst}
 use Rattle.inline.specs.Flat.{FlatProgram}
 use Rattle.inline.specs.Numbering.{flattened}
 use Rattle.intervals.specs.Work.{IsRefusedByRanges}
 use Rattle.word.specs.declared.place.Place.{Place}
 use Rattle.language.specs.declared.refusal.Refusal.{Refusal}
 use Rattle.language.specs.declared.rule.Rule.{Rule}
-use Rattle.language.specs.declared.rule.Rule.TheVariants.{NotCompiledYet}
+use Rattle.language.specs.Meaning.{exported}
 use Rattle.language.specs.FirstViolation.{IsRefusedFor}
 use Rattle.syntax.specs.Reading.{Reads, accepted, IsRefusedAs}
 use Rattle.language.specs.Size.{size_violations}
 use Rattle.language.specs.Tree.{ProcedureTree, ProgramTree}
 use Rattle.language.specs.Typing.{violations}
-use Rattle.hepurita.specs.Built.{IsWellFormed, IsSmall, JudgesProgram, Judges, accepts, refuses, not_compiled_yet, ill_typed, too_large, out_of_range, too_much_work, fine, unreadable, readable, IsRefusal}
-
--- a refusal of what is not compiled yet
-pub refusal_of_coverage : (program : ProgramTree) (place : Place) (r : Refusal) → IsEarliest (uncompiled program) place → r.rule ≡ NotCompiledYet → r.place ≡ Some place → IsRefusal (JudgesProgram program) r
-refusal_of_coverage program place r earliest rule at =
-    inr (place, at, subst (λ (x : Rule). JudgesProgram program (refuses x place)) (sym rule) (not_compiled_yet earliest))
+use Rattle.hepurita.specs.Built.{IsWellFormed, IsSmall, JudgesProgram, Judges, accepts, refuses, ill_typed, too_large, out_of_range, too_much_work, fine, unreadable, readable, IsRefusal}
 
 -- a refusal by the rules on names, types and labels
-pub refusal_of_types : (program : ProgramTree) (r : Refusal) → IsCompiledYet program → IsRefusedFor (violations program) r.rule r.place → IsRefusal (JudgesProgram program) r
-refusal_of_types program r compiled (inl memory) = inl memory
-refusal_of_types program r compiled (inr (first, is, rule, place)) =
-    inr (first.place, place, subst (λ (x : Rule). JudgesProgram program (refuses x first.place)) (sym rule) (ill_typed compiled is))
+pub refusal_of_types : (program : ProgramTree) (r : Refusal) → IsRefusedFor (violations program) r.rule r.place → IsRefusal (JudgesProgram program) r
+refusal_of_types program r (inl memory) = inl memory
+refusal_of_types program r (inr (first, is, rule, place)) =
+    inr (first.place, place, subst (λ (x : Rule). JudgesProgram program (refuses x first.place)) (sym rule) (ill_typed is))
 
 -- a refusal by the limits on size
-pub refusal_of_sizes : (program : ProgramTree) (export : ProcedureTree) (r : Refusal) → IsWellFormed program export → IsRefusedFor (size_violations export) r.rule r.place → IsRefusal (JudgesProgram program) r
-refusal_of_sizes program export r is (inl memory) = inl memory
-refusal_of_sizes program export r is (inr (first, earliest, rule, place)) =
+pub refusal_of_sizes : (program : ProgramTree) (before : List ProcedureTree) (export : ProcedureTree) (r : Refusal) → IsWellFormed program before export → IsRefusedFor (size_violations before export) r.rule r.place → IsRefusal (JudgesProgram program) r
+refusal_of_sizes program before export r is (inl memory) = inl memory
+refusal_of_sizes program before export r is (inr (first, earliest, rule, place)) =
     inr (first.place, place, subst (λ (x : Rule). JudgesProgram program (refuses x first.place)) (sym rule) (too_large is earliest))
 
 -- the export as one body, where it passes no limit
-pub small_flat : (program : ProgramTree) (export : ProcedureTree) (r : Result FlatProgram Refusal) → IsWellFormed program export → IfOk r (λ flat. flat ≡ flattened export) → IfOk r (λ _. length (size_violations export) ≡ 0) → IfOk r (λ flat. (p : ProcedureTree) × IsSmall program p × (flat ≡ flattened p))
-small_flat program export (Ok flat) is made sized = (export, record { well_formed = is; sized = sized }, made)
-small_flat program export (Err refusal) is made sized = tt
+abbrev pub IsSmallFlat : ProgramTree → FlatProgram → Type 0
+IsSmallFlat program flat = (before : List ProcedureTree) × (export : ProcedureTree) × IsSmall program before export × (flat ≡ flattened before export)
+
+-- the same, without the rules on names, types and labels
+abbrev pub IsAllowedFlat : ProgramTree → FlatProgram → Type 0
+IsAllowedFlat program flat =
+    (before : List ProcedureTree) × (export : ProcedureTree) × (exported [] program.procedures ≡ Some (before, export))
+    × (length (size_violations before export) ≡ 0) × (flat ≡ flattened before export)
+
+pub small_flat : (program : ProgramTree) (flat : FlatProgram) → length (violations program) ≡ 0 → IsAllowedFlat program flat → IsSmallFlat program flat
+small_flat program flat typed (before, export, is, sized, made) =
+    (before, export, record { well_formed = record { typed = typed; is_export = is }; sized = sized }, made)
+
+-- what is refused for the export's size, or for want of memory
+abbrev pub IsLargeFor : ProgramTree → Refusal → Type 0
+IsLargeFor program r =
+    (before : List ProcedureTree) × (export : ProcedureTree) × (exported [] program.procedures ≡ Some (before, export))
+    × IsRefusedFor (size_violations before export) r.rule r.place
+
+pub refusal_of_export : (program : ProgramTree) (r : Refusal) → length (violations program) ≡ 0 → IsLargeFor program r → IsRefusal (JudgesProgram program) r
+refusal_of_export program r typed (before, export, is, refused) =
+    refusal_of_sizes program before export r (record { typed = typed; is_export = is }) refused
 
 -- a refusal by the ranges of indices and divisors, or by the limit on work
-pub refusal_of_ranges : (program : ProgramTree) (export : ProcedureTree) (flat : FlatProgram) (r : Refusal) → IsSmall program export → flat ≡ flattened export → IsRefusedByRanges flat r.rule r.place → IsRefusal (JudgesProgram program) r
-refusal_of_ranges program export flat r small same refused = by (subst (λ (f : FlatProgram). IsRefusedByRanges f r.rule r.place) same refused)
+pub refusal_of_ranges : (program : ProgramTree) (before : List ProcedureTree) (export : ProcedureTree) (flat : FlatProgram) (r : Refusal) → IsSmall program before export → flat ≡ flattened before export → IsRefusedByRanges flat r.rule r.place → IsRefusal (JudgesProgram program) r
+refusal_of_ranges program before export flat r small same refused = by (subst (λ (f : FlatProgram). IsRefusedByRanges f r.rule r.place) same refused)
   where
-    by : IsRefusedByRanges (flattened export) r.rule r.place → IsRefusal (JudgesProgram program) r
+    by : IsRefusedByRanges (flattened before export) r.rule r.place → IsRefusal (JudgesProgram program) r
     by (inl (inl memory)) = inl memory
     by (inl (inr (first, earliest, rule, place))) =
         inr (first.place, place, subst (λ (x : Rule). JudgesProgram program (refuses x first.place)) (sym rule) (out_of_range small earliest))

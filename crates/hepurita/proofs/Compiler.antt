@@ -26,10 +26,10 @@ use Rattle.language.specs.Tree.{ProcedureTree, ProgramTree}
 use Rattle.hepurita.specs.Compiled.{Means, RunsTo, IsCompiled}
 
 -- a procedure, the program's export, means what its body with numbered variables means
-abbrev pub MeansFlat : ProgramTree → ProcedureTree → Type 0
-MeansFlat program p = (args : List Arg) → AreWithin (map param_of p.parameters) args → Means program args (outcome_of_flat (flattened p) args)
+abbrev pub MeansFlat : ProgramTree → List ProcedureTree → ProcedureTree → Type 0
+MeansFlat program before p = (args : List Arg) → AreWithin (map param_of p.parameters) args → Means program args (outcome_of_flat (flattened before p) args)
 
-module _ (program : ProgramTree) (p : ProcedureTree) (straight : StraightProgram) (image : Fields) (means : MeansFlat program p) (removed : IsRemoved (ranged (flattened p)) straight) (generated : IsGenerated straight image) where
+module _ (program : ProgramTree) (before : List ProcedureTree) (p : ProcedureTree) (straight : StraightProgram) (image : Fields) (means : MeansFlat program before p) (removed : IsRemoved (ranged (flattened before p)) straight) (generated : IsGenerated straight image) where
   same_params : params_of image ≡ map param_of p.parameters
   same_params = generated.parameters ∙ removed.parameters
 
@@ -90,7 +90,7 @@ module _ (program : ProgramTree) (p : ProcedureTree) (straight : StraightProgram
       (subst (λ (returned : Option WordType). AgreeInPublic straight.parameters returned (outcome_of straight one) (outcome_of straight other)) removed.returned public)))
 
   -- the image is the procedure, compiled
-  pub compiled : IsCompiled program p image
+  pub compiled : IsCompiled program before p image
   compiled = record {
     params = same_params;
     result = generated.returned ∙ removed.returned;

@@ -1,62 +1,53 @@
 -- Each text has a judgement.
-use Rattle.std.proofs.Common.{◌≡◌, ℕ, List, [], length, Option, None, Some, fold, ⊎_elim, refl}
-use Rattle.coverage.specs.Earliest.{sooner}
-use Rattle.coverage.specs.NotCompiled.{IsCompiledYet, uncompiled}
-use Rattle.coverage.proofs.EarliestLemmas.{IsKept, earliest_kept}
+use Rattle.std.proofs.Common.{◌≡◌, ℕ, List, [], length, None, Some, ⊎_elim, refl}
 use Rattle.grammar_laws.proofs.Existence.{answer_to}
 use Rattle.inline.specs.Numbering.{flattened}
 use Rattle.intervals.specs.Ranges.{range_violations}
 use Rattle.intervals.specs.Work.{work_violations}
 use Rattle.labels.proofs.ExportLemmas.{Export, has_export}
 use Rattle.labels.proofs.SoonerLemmas.{first_of}
-use Rattle.word.specs.declared.place.Place.{Place}
-use Rattle.language.specs.declared.rule.Rule.TheVariants.{NotCompiledYet}
 use Rattle.language.specs.Meaning.{exported}
 use Rattle.language.specs.Size.{size_violations}
 use Rattle.language.specs.Tree.{ProcedureTree, ProgramTree}
 use Rattle.language.specs.Typing.{violations}
 use Rattle.syntax.specs.Reading.{Answer, Reads, accepted, refused}
-use Rattle.hepurita.specs.Built.{Judgement, IsWellFormed, IsSmall, Judges, JudgesProgram, accepts, refuses, not_compiled_yet, ill_typed, too_large, out_of_range, too_much_work, fine, unreadable, readable}
+use Rattle.hepurita.specs.Built.{Judgement, IsWellFormed, IsSmall, Judges, JudgesProgram, accepts, refuses, ill_typed, too_large, out_of_range, too_much_work, fine, unreadable, readable}
 
 module _ (program : ProgramTree) where
   abbrev Judged : Type 0
   Judged = (judgement : Judgement) × JudgesProgram program judgement
 
-  by_work : (export : ProcedureTree) → IsSmall program export → length (range_violations (flattened export)) ≡ 0 → Judged
-  by_work export small in_range =
+  by_work : (before : List ProcedureTree) (export : ProcedureTree) → IsSmall program before export → length (range_violations (flattened before export)) ≡ 0 → Judged
+  by_work before export small in_range =
       ⊎_elim
-      (λ in_time. (accepts program export, fine small in_range in_time))
+      (λ in_time. (accepts program before export, fine small in_range in_time))
       (λ first. (refuses first.0.rule first.0.place, too_much_work small in_range first.1))
-      (first_of (work_violations (flattened export)))
+      (first_of (work_violations (flattened before export)))
 
-  by_range : (export : ProcedureTree) → IsSmall program export → Judged
-  by_range export small =
+  by_range : (before : List ProcedureTree) (export : ProcedureTree) → IsSmall program before export → Judged
+  by_range before export small =
       ⊎_elim
-      (λ in_range. by_work export small in_range)
+      (λ in_range. by_work before export small in_range)
       (λ first. (refuses first.0.rule first.0.place, out_of_range small first.1))
-      (first_of (range_violations (flattened export)))
+      (first_of (range_violations (flattened before export)))
 
-  by_size : (export : ProcedureTree) → IsWellFormed program export → Judged
-  by_size export is =
+  by_size : (before : List ProcedureTree) (export : ProcedureTree) → IsWellFormed program before export → Judged
+  by_size before export is =
       ⊎_elim
-      (λ small. by_range export (record { well_formed = is; sized = small }))
+      (λ small. by_range before export (record { well_formed = is; sized = small }))
       (λ first. (refuses first.0.rule first.0.place, too_large is first.1))
-      (first_of (size_violations export))
+      (first_of (size_violations before export))
 
-  by_export : IsCompiledYet program → length (violations program) ≡ 0 → (found : Export) → exported [] program.procedures ≡ found → Judged
-  by_export compiled typed None is = absurd (has_export program typed is)
-  by_export compiled typed (Some (before, export)) is = by_size export (record { before = before; compiled = compiled; typed = typed; is_export = is })
-
-  by_place : (found : Option Place) → IsKept (uncompiled program) found → Judged
-  by_place (Some place) earliest = (refuses NotCompiledYet place, not_compiled_yet earliest)
-  by_place None compiled =
-      ⊎_elim
-      (λ typed. by_export compiled typed (exported [] program.procedures) refl)
-      (λ first. (refuses first.0.rule first.0.place, ill_typed compiled first.1))
-      (first_of (violations program))
+  by_export : length (violations program) ≡ 0 → (found : Export) → exported [] program.procedures ≡ found → Judged
+  by_export typed None is = absurd (has_export program typed is)
+  by_export typed (Some (before, export)) is = by_size before export (record { typed = typed; is_export = is })
 
   judged_program : Judged
-  judged_program = by_place (fold sooner None (uncompiled program)) (earliest_kept (uncompiled program) (fold sooner None (uncompiled program)) refl)
+  judged_program =
+      ⊎_elim
+      (λ typed. by_export typed (exported [] program.procedures) refl)
+      (λ first. (refuses first.0.rule first.0.place, ill_typed first.1))
+      (first_of (violations program))
 
 by_answer : (text : List ℕ) (answer : Answer) → Reads text answer → (judgement : Judgement) × Judges text judgement
 by_answer text (accepted program) reads = let judged = judged_program program in (judged.0, readable reads judged.1)

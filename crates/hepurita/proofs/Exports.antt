@@ -1,5 +1,6 @@
--- The exported procedure: it is one of the program's, and a program that violates no rule has one.
+-- The exported procedure and those before it are the program's.
 use Rattle.std.proofs.Common.{◌≡◌, suc, Bool, true, false, List, [], ◌∷◌, ◌++◌, Option, None, Some, is_some, cond, Contains, refl, ap, subst, arith}
+use Rattle.std.specs.List.{AllByRecursion}
 use Rattle.language.specs.Meaning.{exported}
 use Rattle.language.specs.Tree.{ProcedureTree}
 
@@ -12,14 +13,30 @@ abbrev pub export_or : ProcedureTree → Export → ProcedureTree
 export_or q None = q
 export_or q (Some both) = both.1
 
--- one of more procedures is one of these or of those
-later : (q : ProcedureTree) (ps : List ProcedureTree) (p : ProcedureTree) → Contains ps p → Contains (q ∷ ps) p
-later q ps p there = (suc there.0, omega (arith, there.1), there.2)
+-- the procedures before an export, or these
+abbrev pub front_or : List ProcedureTree → Export → List ProcedureTree
+front_or qs None = qs
+front_or qs (Some both) = both.0
 
-pub export_is_there : (before ps front : List ProcedureTree) (p : ProcedureTree) → exported before ps ≡ Some (front, p) → Contains ps p
-export_is_there before [] front p is = cc
-export_is_there before (q ∷ ps) front p is = by (is_some q.export) _ is (export_is_there (before ++ q ∷ []) ps front p)
-  where
-    by : (marked : Bool) (rest : Export) → cond {A = Export} marked (Some (before, q)) rest ≡ Some (front, p) → (rest ≡ Some (front, p) → Contains ps p) → Contains (q ∷ ps) p
-    by true rest found after = subst (Contains (q ∷ ps)) (ap (export_or q) found) (0, omega arith, refl)
-    by false rest found after = later q ps p (after found)
+-- what holds of each procedure of a program holds of its export, and of each before it
+module _ (P : ProcedureTree → Type 0) where
+  abbrev pub AreAll : List ProcedureTree → Type 0
+  AreAll ps = AllByRecursion P ps
+
+  behind : (before : List ProcedureTree) (q : ProcedureTree) → AreAll before → P q → AreAll (before ++ q ∷ [])
+  behind [] q h k = (k, tt)
+  behind (p ∷ before) q h k = (h.0, behind before q h.1 k)
+
+  both_parts : (before ps front : List ProcedureTree) (p : ProcedureTree) → exported before ps ≡ Some (front, p) → AreAll before → ((q : ProcedureTree) → Contains ps q → P q) → AreAll front × P p
+  both_parts before [] front p is h each = cc
+  both_parts before (q ∷ ps) front p is h each =
+      by (is_some q.export) _ is
+      (λ rest. both_parts (before ++ q ∷ []) ps front p rest (behind before q h (each q (0, omega arith, refl))) (λ r there. each r (suc there.0, omega (arith, there.1), there.2)))
+    where
+      by : (marked : Bool) (rest : Export) → cond {A = Export} marked (Some (before, q)) rest ≡ Some (front, p) → (rest ≡ Some (front, p) → AreAll front × P p) → AreAll front × P p
+      by true rest found after =
+          (subst AreAll (ap (front_or before) found) h, subst P (ap (export_or q) found) (each q (0, omega arith, refl)))
+      by false rest found after = after found
+
+  pub of_export : (ps front : List ProcedureTree) (p : ProcedureTree) → exported [] ps ≡ Some (front, p) → ((q : ProcedureTree) → Contains ps q → P q) → AreAll front × P p
+  of_export ps front p is each = both_parts [] ps front p is tt each

@@ -15,5 +15,5 @@ pub mod TheoremLemmas
 pub mod AnswerLemmas
 pub mod BaseLemmas
 pub mod Compiler
+pub mod LightBodies
 pub mod RangePlaces
-pub mod WithoutCalls

@@ -1,6 +1,7 @@
 -- An accepted text's image is the export, compiled; and what the passes ask of its export.
 use Rattle.std.proofs.Common.{◌≡◌, ℕ, ◌≤◌, Bool, true, false, nat_lt, List, [], length, Some, map, refl, sym, ap, subst, ◌∙◌, arith}
 use Rattle.std.proofs.lemmas.Bool.Decides.{nat_tests}
+use Rattle.std.specs.List.{AllByRecursion}
 use Rattle.arguments.specs.Within.{AreWithin}
 use Rattle.branch_removal.specs.Removed.{IsRemoved}
 use Rattle.branch_removal.specs.Straight.{StraightProgram}
@@ -33,26 +34,27 @@ use Rattle.syntax.specs.Reading.{Reads, accepted}
 use Rattle.language.specs.Tree.{ProcedureTree, ProgramTree}
 use Rattle.hepurita.specs.Built.{IsWellFormed, IsSmall, Judges, JudgesProgram, accepts, readable, fine}
 use Rattle.hepurita.proofs.Compiler.{compiled}
-use Rattle.hepurita.proofs.Exports.{export_is_there}
+use Rattle.hepurita.proofs.Exports.{of_export}
 use Rattle.hepurita.proofs.JudgementLemmas.{small_of, in_range_of}
-use Rattle.hepurita.proofs.WithoutCalls.{calls_nothing}
 
 -- ---- an accepted program's export
 
--- what the grammar gives of it
+-- what the grammar gives of it, and of those before it
 abbrev pub HasGrammaticalExport : ProgramTree → Type 0
-HasGrammaticalExport program = (before : List ProcedureTree) (p : ProcedureTree) → exported [] program.procedures ≡ Some (before, p) → IsGrammatical p
+HasGrammaticalExport program = (before : List ProcedureTree) (p : ProcedureTree) → exported [] program.procedures ≡ Some (before, p) → AllByRecursion IsGrammatical before × IsGrammatical p
 
-module _ (program : ProgramTree) (export : ProcedureTree) (plain : HasGrammaticalExport program) (small : IsSmall program export) where
-  pub flat_typed : IsTypedProgram (flattened export)
+module _ (program : ProgramTree) (before : List ProcedureTree) (export : ProcedureTree) (plain : HasGrammaticalExport program) (small : IsSmall program before export) where
+  pub flat_typed : IsTypedProgram (flattened before export)
   flat_typed =
       let is = small.well_formed in
-      flat_is_typed program is.before export is.typed is.is_export (calls_nothing program export is) (plain is.before export is.is_export)
+      let parts = plain before export is.is_export in
+      flat_is_typed program before export is.typed is.is_export parts.0 parts.1
 
-  pub flat_sized : IsSized (flattened export)
+  pub flat_sized : IsSized (flattened before export)
   flat_sized =
       let is = small.well_formed in
-      flat_is_sized export (calls_nothing program export is) (plain is.before export is.is_export) small.sized
+      let parts = plain before export is.is_export in
+      flat_is_sized program before export is.typed is.is_export parts.0 parts.1 small.sized
 
 -- a body without too much work is within the limit
 pub within_work : (flat : FlatProgram) (r : RangedProgram) → r ≡ ranged flat → length (work_violations flat) ≡ 0 → r.work ≤ MOST_WORK
@@ -63,28 +65,30 @@ within_work flat r is none = subst (λ (w : ℕ). w ≤ MOST_WORK) (sym (ap (λ 
     by false is h = grind (arith, nat_tests)
 
 -- the one meaning on arguments, of an export that is safe
-safe_means : (program : ProgramTree) (export : ProcedureTree) → HasGrammaticalExport program → IsSmall program export → IsSafe (flattened export) (turns_of (flattened export)) → (args : List Arg) → AreWithin (map param_of export.parameters) args → Means program args (outcome_of (flattened export) args)
-safe_means program export plain small safe args within =
+safe_means : (program : ProgramTree) (before : List ProcedureTree) (export : ProcedureTree) → HasGrammaticalExport program → IsSmall program before export → IsSafe (flattened before export) (turns_of (flattened before export)) → (args : List Arg) → AreWithin (map param_of export.parameters) args → Means program args (outcome_of (flattened before export) args)
+safe_means program before export plain small safe args within =
     let is = small.well_formed in
-    let meant = flat_keeps_meaning program is.before export args is.typed is.is_export (calls_nothing program export is) (plain is.before export is.is_export) within in
-    let given : Gives program args (gives (outcome_of (flattened export) args)) = subst (λ (e : Ending Results). Gives program args e) (safe_runs_meet_no_fault (flattened export) (turns_of (flattened export)) args safe within) meant in
-    record { given = given; alone = λ other is_other. sym (worked-out program args other is_other) ∙ worked-out program args (gives (outcome_of (flattened export) args)) given }
+    let parts = plain before export is.is_export in
+    let meant = flat_keeps_meaning program before export args is.typed is.is_export parts.0 parts.1 within in
+    let given : Gives program args (gives (outcome_of (flattened before export) args)) = subst (λ (e : Ending Results). Gives program args e) (safe_runs_meet_no_fault (flattened before export) (turns_of (flattened before export)) args safe within) meant in
+    record { given = given; alone = λ other is_other. sym (worked-out program args other is_other) ∙ worked-out program args (gives (outcome_of (flattened before export) args)) given }
 
 -- ---- an accepted text's image
 
-pub export_compiled : (program : ProgramTree) (export : ProcedureTree) (straight : StraightProgram) (image : Fields) → HasGrammaticalExport program → IsSmall program export → length (range_violations (flattened export)) ≡ 0 → IsRemoved (ranged (flattened export)) straight → IsGenerated straight image → IsCompiled program export image
-export_compiled program export straight image plain small in_range removed generated =
-    let safe = accepted_is_safe (flattened export) (flat_typed program export plain small) in_range in
-    compiled program export straight image (safe_means program export plain small safe) removed generated
+pub export_compiled : (program : ProgramTree) (before : List ProcedureTree) (export : ProcedureTree) (straight : StraightProgram) (image : Fields) → HasGrammaticalExport program → IsSmall program before export → length (range_violations (flattened before export)) ≡ 0 → IsRemoved (ranged (flattened before export)) straight → IsGenerated straight image → IsCompiled program before export image
+export_compiled program before export straight image plain small in_range removed generated =
+    let safe = accepted_is_safe (flattened before export) (flat_typed program before export plain small) in_range in
+    compiled program before export straight image (safe_means program before export plain small safe) removed generated
 
--- the export of a program that a text is, is grammatical
+-- the export of a program that a text is, is grammatical, and so are those before it
 pub grammatical_export : (text : List ℕ) (program : ProgramTree) → Reads text (accepted program) → HasGrammaticalExport program
-grammatical_export text program reads before p is = grammatical text program p reads (export_is_there [] program.procedures before p is)
+grammatical_export text program reads before p is =
+    of_export IsGrammatical program.procedures before p is (λ q there. grammatical text program q reads there)
 
-pub texts_compiled : (text : List ℕ) (program : ProgramTree) (export : ProcedureTree) (straight : StraightProgram) (image : Fields) → Reads text (accepted program) → JudgesProgram program (accepts program export) → IsRemoved (ranged (flattened export)) straight → IsGenerated straight image → IsCompiled program export image
-texts_compiled text program export straight image reads judged removed generated =
-    export_compiled program export straight image (grammatical_export text program reads) (small_of program program export judged) (in_range_of program program export judged) removed generated
+pub texts_compiled : (text : List ℕ) (program : ProgramTree) (before : List ProcedureTree) (export : ProcedureTree) (straight : StraightProgram) (image : Fields) → Reads text (accepted program) → JudgesProgram program (accepts program before export) → IsRemoved (ranged (flattened before export)) straight → IsGenerated straight image → IsCompiled program before export image
+texts_compiled text program before export straight image reads judged removed generated =
+    export_compiled program before export straight image (grammatical_export text program reads) (small_of program program before export judged) (in_range_of program program before export judged) removed generated
 
-pub judged_compiled : (text : List ℕ) (program : ProgramTree) (export : ProcedureTree) (straight : StraightProgram) (image : Fields) → Judges text (accepts program export) → IsRemoved (ranged (flattened export)) straight → IsGenerated straight image → IsCompiled program export image
-judged_compiled text program export straight image (readable reads (fine small in_range in_time)) removed generated =
-    export_compiled program export straight image (grammatical_export text program reads) small in_range removed generated
+pub judged_compiled : (text : List ℕ) (program : ProgramTree) (before : List ProcedureTree) (export : ProcedureTree) (straight : StraightProgram) (image : Fields) → Judges text (accepts program before export) → IsRemoved (ranged (flattened before export)) straight → IsGenerated straight image → IsCompiled program before export image
+judged_compiled text program before export straight image (readable reads (fine small in_range in_time)) removed generated =
+    export_compiled program before export straight image (grammatical_export text program reads) small in_range removed generated

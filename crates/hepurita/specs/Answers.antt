@@ -14,9 +14,9 @@ use Rattle.hepurita.specs.Built.{Judges, accepts, IsBuilt}
 use Rattle.hepurita.specs.Compiled.{Means}
 
 -- a text that is accepted with this export, and the image that its bytes spell
-pub record Builds (text bytes : List ℕ) (program : ProgramTree) (export : ProcedureTree) (image : Fields) : Type 0 where
+pub record Builds (text bytes : List ℕ) (program : ProgramTree) (before : List ProcedureTree) (export : ProcedureTree) (image : Fields) : Type 0 where
   pub built : IsBuilt text bytes
-  pub judged : Judges text (accepts program export)
+  pub judged : Judges text (accepts program before export)
   pub allowed : IsImage image
   pub spelled : Spells bytes image
 

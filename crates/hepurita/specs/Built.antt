@@ -1,7 +1,5 @@
 -- What the compiler answers to a text: the passes are asked in order, and each names its first violation.
 use Rattle.std.specs.Prelude.{◌≡◌, ◌⊎◌, ℕ, ◌+◌, ◌*◌, ◌<◌, List, [], length, Some}
-use Rattle.coverage.specs.Earliest.{IsEarliest}
-use Rattle.coverage.specs.NotCompiled.{uncompiled, IsCompiledYet}
 use Rattle.image.specs.Fields.{Fields, IsImage}
 use Rattle.image.specs.Reading.{Spells}
 use Rattle.codegen.specs.Bases.{AreBases}
@@ -13,7 +11,6 @@ use Rattle.intervals.specs.Work.{work_violations}
 use Rattle.word.specs.declared.place.Place.{Place}
 use Rattle.language.specs.declared.refusal.Refusal.{Refusal}
 use Rattle.language.specs.declared.rule.Rule.{Rule}
-use Rattle.language.specs.declared.rule.Rule.TheVariants.{NotCompiledYet}
 use Rattle.language.specs.declared.typing.Violation.{Violation}
 use Rattle.language.specs.FirstViolation.{IsFirst}
 use Rattle.language.specs.Meaning.{exported}
@@ -24,36 +21,32 @@ use Rattle.language.specs.Typing.{violations}
 use Rattle.language.specs.WantOfMemory.{IsWantOfMemory}
 
 pub data Judgement : Type 0 where
-  -- a program with this export
-  accepts : (program : ProgramTree) (export : ProcedureTree) → Judgement
+  -- a program with this export, and the procedures before it
+  accepts : (program : ProgramTree) (before : List ProcedureTree) (export : ProcedureTree) → Judgement
   refuses : (rule : Rule) (place : Place) → Judgement
 
--- a program with this export of which each node is compiled and that violates no rule on names, types and labels
-pub record IsWellFormed (program : ProgramTree) (export : ProcedureTree) : Type 0 where
-  pub before : List ProcedureTree
-  pub compiled : IsCompiledYet program
+-- a program with this export behind these procedures, that violates no rule on names, types and labels
+pub record IsWellFormed (program : ProgramTree) (before : List ProcedureTree) (export : ProcedureTree) : Type 0 where
   pub typed : length (violations program) ≡ 0
   pub is_export : exported [] program.procedures ≡ Some (before, export)
 
--- whose export passes no limit on size
-pub record IsSmall (program : ProgramTree) (export : ProcedureTree) : Type 0 where
-  pub well_formed : IsWellFormed program export
-  pub sized : length (size_violations export) ≡ 0
+-- whose export, with the bodies that it calls, passes no limit on size
+pub record IsSmall (program : ProgramTree) (before : List ProcedureTree) (export : ProcedureTree) : Type 0 where
+  pub well_formed : IsWellFormed program before export
+  pub sized : length (size_violations before export) ≡ 0
 
 -- the judgement on a program
 pub data JudgesProgram (program : ProgramTree) : Judgement → Type 0 where
-  -- it has a node that is not compiled yet
-  not_compiled_yet : {place : Place} → IsEarliest (uncompiled program) place → JudgesProgram program (refuses NotCompiledYet place)
   -- it violates a rule on names, types and labels
-  ill_typed : {first : Violation} → IsCompiledYet program → IsFirst (violations program) first → JudgesProgram program (refuses first.rule first.place)
+  ill_typed : {first : Violation} → IsFirst (violations program) first → JudgesProgram program (refuses first.rule first.place)
   -- its export passes a limit on size
-  too_large : {export : ProcedureTree} {first : Violation} → IsWellFormed program export → IsFirst (size_violations export) first → JudgesProgram program (refuses first.rule first.place)
+  too_large : {before : List ProcedureTree} {export : ProcedureTree} {first : Violation} → IsWellFormed program before export → IsFirst (size_violations before export) first → JudgesProgram program (refuses first.rule first.place)
   -- an index in it may be out of range, or a divisor 0
-  out_of_range : {export : ProcedureTree} {first : Violation} → IsSmall program export → IsFirst (range_violations (flattened export)) first → JudgesProgram program (refuses first.rule first.place)
+  out_of_range : {before : List ProcedureTree} {export : ProcedureTree} {first : Violation} → IsSmall program before export → IsFirst (range_violations (flattened before export)) first → JudgesProgram program (refuses first.rule first.place)
   -- it is too much work
-  too_much_work : {export : ProcedureTree} {first : Violation} → IsSmall program export → length (range_violations (flattened export)) ≡ 0 → IsFirst (work_violations (flattened export)) first → JudgesProgram program (refuses first.rule first.place)
+  too_much_work : {before : List ProcedureTree} {export : ProcedureTree} {first : Violation} → IsSmall program before export → length (range_violations (flattened before export)) ≡ 0 → IsFirst (work_violations (flattened before export)) first → JudgesProgram program (refuses first.rule first.place)
   -- nothing is violated
-  fine : {export : ProcedureTree} → IsSmall program export → length (range_violations (flattened export)) ≡ 0 → length (work_violations (flattened export)) ≡ 0 → JudgesProgram program (accepts program export)
+  fine : {before : List ProcedureTree} {export : ProcedureTree} → IsSmall program before export → length (range_violations (flattened before export)) ≡ 0 → length (work_violations (flattened before export)) ≡ 0 → JudgesProgram program (accepts program before export)
 
 -- the judgement on a text
 pub data Judges (text : List ℕ) : Judgement → Type 0 where
@@ -66,14 +59,16 @@ pub data Judges (text : List ℕ) : Judgement → Type 0 where
 abbrev pub IsRefusal : (Judgement → Type 0) → Refusal → Type 0
 IsRefusal J refusal = IsWantOfMemory refusal.rule refusal.place ⊎ ((place : Place) × (refusal.place ≡ Some place) × J (refuses refusal.rule place))
 
--- the bytes are the image of an accepted text: they spell fields, which are those of the exported procedure, compiled
+-- the bytes are the image of an accepted text: they spell fields, which are those of the exported procedure and what it calls,
+-- compiled
 pub record IsBuilt (text bytes : List ℕ) : Type 0 where
   pub program : ProgramTree
+  pub before : List ProcedureTree
   pub export : ProcedureTree
   pub image : Fields
-  pub judged : Judges text (accepts program export)
+  pub judged : Judges text (accepts program before export)
   pub allowed : IsImage image
   pub spelled : Spells bytes image
-  pub compiled : IsCompiled program export image
+  pub compiled : IsCompiled program before export image
   -- code and frame may lie at the standard bases, and those of several images side by side
   pub bases : (k : ℕ) → k < most_images → AreBases image (code_base + code_distance * k) (frame_base + frame_distance * k)

@@ -14,7 +14,7 @@ use Rattle.rv_machine.specs.declared.stops.Stop.TheVariants.{Ecall}
 use Rattle.language.specs.declared.values.Arg.{Arg}
 use Rattle.language.specs.Meaning.{Ending, Gives, gives}
 use Rattle.language.specs.Results.{Results}
-use Rattle.language.specs.Size.{nodes_of}
+use Rattle.language.specs.Size.{extents_of, nodes_of}
 use Rattle.language.specs.Tree.{ProcedureTree, ProgramTree}
 use Rattle.arguments.specs.Agreement.{Agree}
 use Rattle.codegen.specs.Bases.{AreBases, IsInside}
@@ -36,13 +36,13 @@ pub record RunsTo (program : ProgramTree) (image : Fields) (code frame : ℕ) (a
   pub within_frame : All (λ (o : Observation). IsInside frame image.frame_bytes o.event) seen
   pub outcome : Means program args (results_in frame image end.bytes)
 
--- the image is the program's exported procedure
-pub record IsCompiled (program : ProgramTree) (p : ProcedureTree) (image : Fields) : Type 0 where
+-- the image is the program's exported procedure, with the bodies of those before it where it calls them
+pub record IsCompiled (program : ProgramTree) (before : List ProcedureTree) (p : ProcedureTree) (image : Fields) : Type 0 where
   pub params : params_of image ≡ map param_of p.parameters
   pub result : option_map type_in image.returned ≡ p.result
-  pub max_steps : image.max_steps ≡ 32 * work_of (flattened p) + 64
+  pub max_steps : image.max_steps ≡ 32 * work_of (flattened before p) + 64
   pub frame_size : image.frame_bytes ≤ MOST_FRAME_BYTES
-  pub word_count : length image.words ≤ 32 * nodes_of p + 64
+  pub word_count : length image.words ≤ 32 * nodes_of (extents_of before) p + 64
   -- results: on all arguments within the parameter types
   pub results : (code frame : ℕ) (args : List Arg) → AreBases image code frame → AreWithin (params_of image) args → RunsTo program image code frame args
   -- equal leakage: two lists of arguments that agree show one and the same list of observations

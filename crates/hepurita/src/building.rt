@@ -1,6 +1,7 @@
 // A text, compiled to the bytes of an image.
 
 ghost use Rattle.std.specs.Prelude.{◌≡◌, ℕ, List, [], Some, IfOk, IfErr};
+ghost use Rattle.std.specs.List.{AllByRecursion};
 ghost use Rattle.branch_removal.specs.Removed.{IsRemoved};
 ghost use Rattle.branch_removal.specs.Straight.{StraightProgram};
 ghost use Rattle.codegen.specs.Followed.{IsGenerated};
@@ -25,8 +26,8 @@ use syntax::{one_answer_for_a_text, parse};
 
 /// The image of a program that violates no rule, or the first refusal.
 fn compile(alloc: Global, program: &Program<'_>) -> Result<Image, Refusal>
-    requires grammatical { (before : List ProcedureTree) (p : ProcedureTree) → exported [] (program_tree program.now).procedures ≡ Some (before, p) → IsGrammatical p }
-    ensures accepted { IfOk result (λ image. (export : ProcedureTree) × JudgesProgram (program_tree program.now) (accepts (program_tree program.now) export) × ((straight : StraightProgram) × IsRemoved (ranged (flattened export)) straight × IsGenerated straight image)) }
+    requires grammatical { (before : List ProcedureTree) (p : ProcedureTree) → exported [] (program_tree program.now).procedures ≡ Some (before, p) → AllByRecursion IsGrammatical before × IsGrammatical p }
+    ensures accepted { IfOk result (λ image. (before : List ProcedureTree) × (export : ProcedureTree) × JudgesProgram (program_tree program.now) (accepts (program_tree program.now) before export) × ((straight : StraightProgram) × IsRemoved (ranged (flattened before export)) straight × IsGenerated straight image)) }
     ensures allowed { IfOk result IsImage }
     ensures refused { IfErr result (IsRefusal (JudgesProgram (program_tree program.now))) }
 {
@@ -39,7 +40,7 @@ fn compile(alloc: Global, program: &Program<'_>) -> Result<Image, Refusal>
 }
 
 /// The bytes of the image of an accepted text, or the first refusal. Passes are asked in the order:
-/// the text itself; what is not compiled yet; names, types and labels; sizes; ranges; work.
+/// the text itself; names, types and labels; sizes; ranges; work.
 ///
 /// The image, run on any arguments within the parameter types, gives what the text means, within its
 /// stated steps and its frame; and on arguments that are equal where they are public an observer
@@ -55,7 +56,7 @@ pub fn build(alloc: Global, text: &str) -> Result<Vec<u8>, Refusal>
 
 /// A text is not both accepted and refused.
 pub fn accepted_or_refused()
-    ensures { (text : List ℕ) (program : ProgramTree) (export : ProcedureTree) (rule : Rule) (place : Place) → Judges text (accepts program export) → Judges text (refuses rule place) → ⊥ }
+    ensures { (text : List ℕ) (program : ProgramTree) (before : List ProcedureTree) (export : ProcedureTree) (rule : Rule) (place : Place) → Judges text (accepts program before export) → Judges text (refuses rule place) → ⊥ }
 {
     one_answer_for_a_text();
 }

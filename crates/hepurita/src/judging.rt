@@ -1,30 +1,25 @@
 // What a text is judged to be: what is refused first, and the program and parameters of an accepted text.
 
-ghost use Rattle.std.specs.Prelude.{◌≡◌, map, IfOk, IfErr};
+ghost use Rattle.std.specs.Prelude.{◌≡◌, List, map, IfOk, IfErr};
 ghost use Rattle.inline.specs.Numbering.{flattened, param_of};
 ghost use Rattle.language.specs.Tree.{ProcedureTree, program_tree};
 ghost use Rattle.hepurita.specs.Built.{IsSmall, Judges, JudgesProgram, IsRefusal, accepts};
 
-use coverage::first_uncompiled;
 use inline::{Flat, inline};
 use intervals::check_ranges;
 use labels::check;
-use language::{Param, Program, Refusal, Rule};
+use language::{Param, Program, Refusal};
 use std::alloc::Global;
 use syntax::parse;
 
-/// The export of a program that violates no rule on names, types and labels, as one body within the
-/// limits on size; or the first refusal. What is not compiled yet is asked first.
+/// The export of a program that violates no rule on names, types and labels, with the bodies that it
+/// calls as one body within the limits on size; or the first refusal.
 pub(crate) fn flat_of(alloc: Global, program: &Program<'_>) -> Result<Flat, Refusal>
-    ensures accepted { IfOk result (λ flat. (export : ProcedureTree) × IsSmall (program_tree program.now) export × (flat ≡ flattened export)) }
+    ensures accepted { IfOk result (λ flat. (before : List ProcedureTree) × (export : ProcedureTree) × IsSmall (program_tree program.now) before export × (flat ≡ flattened before export)) }
     ensures refused { IfErr result (IsRefusal (JudgesProgram (program_tree program.now))) }
 {
-    if let Some(place) = first_uncompiled(program) {
-        return Err(Refusal::at(Rule::NotCompiledYet, place));
-    }
     let checked = check(alloc, program)?;
-    let (_, export) = checked.export();
-    inline(alloc, export)
+    inline(alloc, &checked)
 }
 
 /// An accepted text's program, and the parameters of its export.
@@ -36,7 +31,7 @@ pub struct Accepted<'a> {
 
 /// The program of an accepted text, or the first refusal: the one that `build` names.
 pub fn judge<'a>(alloc: Global, text: &'a str) -> Result<Accepted<'a>, Refusal>
-    ensures accepted { IfOk result (λ accepted. (export : ProcedureTree) × Judges text.now (accepts (program_tree accepted.program) export) × (accepted.params.items ≡ map param_of export.parameters)) }
+    ensures accepted { IfOk result (λ accepted. (before : List ProcedureTree) × (export : ProcedureTree) × Judges text.now (accepts (program_tree accepted.program) before export) × (accepted.params.items ≡ map param_of export.parameters)) }
     ensures refused { IfErr result (IsRefusal (Judges text.now)) }
 {
     let program = parse(alloc, text)?;

@@ -13,7 +13,7 @@ ghost use Rattle.rv_machine.specs.declared.pairing.Pairing.{Pairing};
 ghost use Rattle.rv_machine.specs.declared.observation.Observation.{Observation};
 ghost use Rattle.arguments.specs.Agreement.{Agree};
 ghost use Rattle.arguments.specs.PublicResults.{AgreeInPublic};
-ghost use Rattle.language.specs.Size.{nodes_of};
+ghost use Rattle.language.specs.Size.{extents_of, nodes_of};
 ghost use Rattle.language.specs.declared.limits.TheConstants.{MOST_NODES};
 ghost use Rattle.hepurita.specs.Bases.{code_base, frame_base, most_images, code_distance, frame_distance};
 ghost use Rattle.hepurita.specs.Built.{JudgesProgram, accepts};
@@ -32,17 +32,17 @@ use arguments::faultless_arguments;
 use syntax::one_answer_for_a_text;
 
 /// What the passes promise, put together. Where a text is a program that is accepted with an export, the image for
-/// straight code for the export is that export, compiled.
+/// straight code for the export, with the bodies that it calls, is that export, compiled.
 pub fn texts_are_compiled()
-    ensures { (text : List ℕ) (program : ProgramTree) (export : ProcedureTree) (straight : StraightProgram) (image : Fields) → Reads text (accepted program)
-        → JudgesProgram program (accepts program export)
-        → IsRemoved (ranged (flattened export)) straight → IsGenerated straight image → IsCompiled program export image }
+    ensures { (text : List ℕ) (program : ProgramTree) (before : List ProcedureTree) (export : ProcedureTree) (straight : StraightProgram) (image : Fields) → Reads text (accepted program)
+        → JudgesProgram program (accepts program before export)
+        → IsRemoved (ranged (flattened before export)) straight → IsGenerated straight image → IsCompiled program before export image }
 {}
 
 /// Code and frame of a compiled image may lie at the standard bases, and those of eight images beside one
 /// another, the code 2^20 and the frames 2^16 bytes apart.
 pub fn bases_fit()
-    ensures { (program : ProgramTree) (p : ProcedureTree) (image : Fields) (k : ℕ) → IsCompiled program p image → nodes_of p ≤ MOST_NODES → k < most_images
+    ensures { (program : ProgramTree) (before : List ProcedureTree) (p : ProcedureTree) (image : Fields) (k : ℕ) → IsCompiled program before p image → nodes_of (extents_of before) p ≤ MOST_NODES → k < most_images
         → AreBases image (code_base + code_distance * k) (frame_base + frame_distance * k) }
 {}
 
@@ -52,17 +52,17 @@ pub fn bases_fit()
 /// recorder takes one and the same list, and the return and the `mut` arrays are equal where they are public. Other
 /// answers are want of memory and a recorder that refuses.
 pub fn images_do_what_texts_mean()
-    ensures outcome { (text bytes : List ℕ) (program : ProgramTree) (export : ProcedureTree) (image : Fields) (args : List Arg) (keeps : Bool) (list after : List Observation) (answer : Result Results RunFault)
-        → Builds text bytes program export image → AreWithin (params_of image) args
+    ensures outcome { (text bytes : List ℕ) (program : ProgramTree) (before : List ProcedureTree) (export : ProcedureTree) (image : Fields) (args : List Arg) (keeps : Bool) (list after : List Observation) (answer : Result Results RunFault)
+        → Builds text bytes program before export image → AreWithin (params_of image) args
         → Executed image args keeps list answer after → IsTheOutcome program args answer }
-    ensures same { (text bytes : List ℕ) (program : ProgramTree) (export : ProcedureTree) (image : Fields) (one other : List Arg) (answer : Result Pairing RunFault)
-        → Builds text bytes program export image → Agree (params_of image) one other
+    ensures same { (text bytes : List ℕ) (program : ProgramTree) (before : List ProcedureTree) (export : ProcedureTree) (image : Fields) (one other : List Arg) (answer : Result Pairing RunFault)
+        → Builds text bytes program before export image → Agree (params_of image) one other
         → Paired image one other answer → IsSame answer }
-    ensures shown { (text bytes : List ℕ) (program : ProgramTree) (export : ProcedureTree) (image : Fields) (one other : List Arg) (keeps : Bool) (list after after' : List Observation) (a b : Results)
-        → Builds text bytes program export image → Agree (params_of image) one other
+    ensures shown { (text bytes : List ℕ) (program : ProgramTree) (before : List ProcedureTree) (export : ProcedureTree) (image : Fields) (one other : List Arg) (keeps : Bool) (list after after' : List Observation) (a b : Results)
+        → Builds text bytes program before export image → Agree (params_of image) one other
         → Executed image one keeps list (Ok a) after → Executed image other keeps list (Ok b) after' → after ≡ after' }
-    ensures public { (text bytes : List ℕ) (program : ProgramTree) (export : ProcedureTree) (image : Fields) (one other : List Arg) (keeps : Bool) (list after after' : List Observation) (a b : Results)
-        → Builds text bytes program export image → Agree (params_of image) one other
+    ensures public { (text bytes : List ℕ) (program : ProgramTree) (before : List ProcedureTree) (export : ProcedureTree) (image : Fields) (one other : List Arg) (keeps : Bool) (list after after' : List Observation) (a b : Results)
+        → Builds text bytes program before export image → Agree (params_of image) one other
         → Executed image one keeps list (Ok a) after → Executed image other keeps list (Ok b) after' → AgreeInPublic (params_of image) export.result a b }
 {
     one_answer_for_a_text();

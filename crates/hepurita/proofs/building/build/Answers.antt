@@ -1,12 +1,9 @@
-use Rattle.std.proofs.Common.{[]}
 use Rattle.std.proofs.lemmas.Result.{err_from_is_err_and, IfOk-weaker}
 use Rattle.language.specs.Tree.{program_tree}
-use Rattle.syntax.proofs.GrammarLemmas as grammar
 use Rattle.hepurita.specs.Built.{readable}
 use Rattle.hepurita.proofs.BuiltLemmas.{refusal_of_text, refusal_of_program}
-use Rattle.hepurita.proofs.Exports.{export_is_there}
 use Rattle.hepurita.proofs.BaseLemmas.{bases_of}
-use Rattle.hepurita.proofs.TheoremLemmas.{judged_compiled}
+use Rattle.hepurita.proofs.TheoremLemmas.{grammatical_export, judged_compiled}
 use Rattle.hepurita.proofs.building.build.Goals as goal
 
 pub returns-in_err-program-clause-refused : goal.returns-in_err-program-clause-refused
@@ -17,7 +14,7 @@ returns-in_err-program-clause-refused c =
 pub compile-requires : goal.compile-requires
 compile-requires c =
     let program = program_tree c.in_ok-program.program in
-    record { grammatical = λ before p is. grammar.grammatical c.args.text.now program p c.in_ok-program.ensures.accepted (export_is_there [] program.procedures before p is) }
+    record { grammatical = grammatical_export c.args.text.now program c.in_ok-program.ensures.accepted }
 
 pub returns-in_err-image-clause-refused : goal.returns-in_err-image-clause-refused
 returns-in_err-image-clause-refused c =
@@ -28,6 +25,6 @@ pub returns-clause-accepted : goal.returns-clause-accepted
 returns-clause-accepted c =
     let program = program_tree c.in_ok-program.program in
     let made = c.in_ok-image.ensures.accepted in
-    let judged = readable c.in_ok-program.ensures.accepted made.1 in
-    let compiled = judged_compiled c.args.text.now program made.0 made.2.0 c.in_ok-image.image judged made.2.1 made.2.2 in
-    IfOk-weaker c.write.result _ _ (λ bytes h. record { program = program; export = made.0; image = c.in_ok-image.image; judged = judged; allowed = c.in_ok-image.ensures.allowed; spelled = h; compiled = compiled; bases = bases_of program made.0 c.in_ok-image.image made.1 compiled }) c.write.ensures.spelled
+    let judged = readable c.in_ok-program.ensures.accepted made.2 in
+    let compiled = judged_compiled c.args.text.now program made.0 made.1 made.3.0 c.in_ok-image.image judged made.3.1 made.3.2 in
+    IfOk-weaker c.write.result _ _ (λ bytes h. record { program = program; before = made.0; export = made.1; image = c.in_ok-image.image; judged = judged; allowed = c.in_ok-image.ensures.allowed; spelled = h; compiled = compiled; bases = bases_of program made.0 made.1 c.in_ok-image.image made.2 compiled }) c.write.ensures.spelled

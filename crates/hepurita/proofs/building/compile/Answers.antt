@@ -20,15 +20,15 @@ pub returns-in_err-ranged-clause-refused : goal.returns-in_err-ranged-clause-ref
 returns-in_err-ranged-clause-refused c =
     let p = err_from_is_err_and c.from_residual-in_err-ranged.result c.from_residual-in_err-ranged.ensures.1 in
     let made = c.in_ok-flat.ensures.accepted in
-    rw (p.1, p.2) (refusal_of_ranges (program_tree c.args.program.now) made.0 c.in_ok-flat.flat c.in_err-ranged.field-0.0 made.1 made.2 c.in_err-ranged.ensures.refused)
+    rw (p.1, p.2) (refusal_of_ranges (program_tree c.args.program.now) made.0 made.1 c.in_ok-flat.flat c.in_err-ranged.field-0.0 made.2 made.3 c.in_err-ranged.ensures.refused)
 
 pub remove-requires : goal.remove-requires
 remove-requires c =
     let program = program_tree c.args.program.now in
     let made = c.in_ok-flat.ensures.accepted in
     let is = c.in_ok-ranged.ensures.accepted in
-    let typed : IsTypedProgram c.in_ok-flat.flat = subst IsTypedProgram (sym made.2) (flat_typed program made.0 c.requires.grammatical made.1) in
-    let sized : IsSized c.in_ok-flat.flat = subst IsSized (sym made.2) (flat_sized program made.0 c.requires.grammatical made.1) in
+    let typed : IsTypedProgram c.in_ok-flat.flat = subst IsTypedProgram (sym made.3) (flat_typed program made.0 made.1 c.requires.grammatical made.2) in
+    let sized : IsSized c.in_ok-flat.flat = subst IsSized (sym made.3) (flat_sized program made.0 made.1 c.requires.grammatical made.2) in
     let safe = accepted_is_safe c.in_ok-flat.flat typed c.in_ok-ranged.ensures.in_range in
     record {
       typed = subst (λ (r : RangedProgram). IsTypedProgram r.flat) (sym is) typed;
@@ -44,7 +44,7 @@ generate-requires c = record { typed = c.in_ok-straight.ensures.typed; bounded =
 pub returns-clause-accepted : goal.returns-clause-accepted
 returns-clause-accepted c =
     let made = c.in_ok-flat.ensures.accepted in
-    let is = c.in_ok-ranged.ensures.accepted ∙ ap ranged made.2 in
-    let in_range = subst (λ (f : FlatProgram). length (range_violations f) ≡ 0) made.2 c.in_ok-ranged.ensures.in_range in
-    let in_time = subst (λ (f : FlatProgram). length (work_violations f) ≡ 0) made.2 c.in_ok-ranged.ensures.worked in
-    (made.0, fine made.1 in_range in_time, (c.in_ok-straight.straight, subst (λ (r : RangedProgram). IsRemoved r c.in_ok-straight.straight) is c.in_ok-straight.ensures, c.in_ok-image.ensures))
+    let is = c.in_ok-ranged.ensures.accepted ∙ ap ranged made.3 in
+    let in_range = subst (λ (f : FlatProgram). length (range_violations f) ≡ 0) made.3 c.in_ok-ranged.ensures.in_range in
+    let in_time = subst (λ (f : FlatProgram). length (work_violations f) ≡ 0) made.3 c.in_ok-ranged.ensures.worked in
+    (made.0, made.1, fine made.2 in_range in_time, (c.in_ok-straight.straight, subst (λ (r : RangedProgram). IsRemoved r c.in_ok-straight.straight) is c.in_ok-straight.ensures, c.in_ok-image.ensures))
