@@ -17,7 +17,7 @@ use Rattle.language.specs.declared.signature.Label.{Label}
 use Rattle.language.specs.declared.typing.ArrayType.{ArrayType}
 use Rattle.language.specs.declared.typing.ValueType.TheVariants.{Array}
 use Rattle.language.specs.declared.typing.WordType.{WordType}
-use Rattle.language.specs.Grammatical.{AreAllSmall, AreSmallValues, IsPlain, ArePlain}
+use Rattle.language.specs.Grammatical.{AreAllSmall, IsPlain, ArePlain}
 use Rattle.language.specs.Meaning.{Ending, Evaluates, EvaluatesAll, by_operands, operand_faults, none_left, one_more, this_faults, gives, faults, element_held, made_array, counting, with_some, with_element, word_given, of_expr, expr_faults, Runs, RunsAll, Turns, no_turn, turn_faults, a_turn, declares, declaration_faults, declares_array, first_value_faults, assigns, assignment_faults, target_faults, right_faults, assigns_element, calls, call_faults, condition_faults, accepts, declines, bounds_fault, loops, ends, stops, goes_on}
 use Rattle.language.specs.State.{State, Value, single, with_value}
 use Rattle.language.specs.State as state
@@ -29,6 +29,7 @@ use Rattle.inline.proofs.Called.{Spares, Ready, ready_later, ready_declared, rea
 use Rattle.inline.proofs.Calls.{call_means}
 use Rattle.inline.proofs.Chains.{after_chain, fault_chain, fault_single}
 use Rattle.inline.proofs.Comes.{Comes, well, fails, then_comes, also, either-none, across, across₃}
+use Rattle.inline.proofs.FlatTypes.{small_values}
 use Rattle.inline.proofs.Kept.{dropped_keeps}
 use Rattle.inline.proofs.Linked.{Linked, entry, known_word, known_array}
 use Rattle.inline.proofs.Lookup.{found-kept}
@@ -118,10 +119,6 @@ at_end {Is = Is} b last m Good comes =
 -- one statement
 alone : {Is : Ending State → Type 0} {Good : State → Type 0} (only : FlatTree) (m : Values) → Comes Is Good (first_fault (path_at m only)) → Comes Is Good (first_fault (path_along m (single_block only)))
 alone {Is = Is} {Good = Good} only m comes = subst (Comes Is Good) (sym (fault_single only m)) comes
-
-pub small_values : (values : Option (List ExprTree)) → AreSmallValues values → AreAllSmall (written values)
-small_values None small = tt
-small_values (Some es) small = small
 
 -- a mark that is met twice
 met_twice : (a k c q : Option Place) → either (either a (either k None)) (either c (either k q)) ≡ either a (either k (either c q))

@@ -1,12 +1,13 @@
 // The laws, which hold of the definitions alone.
 
-ghost use Rattle.std.specs.Prelude.{◌≡◌, [], List, Some, length, map};
 ghost use Rattle.std.specs.List.{AllByRecursion};
+ghost use Rattle.std.specs.Prelude.{◌≡◌, [], List, Some, length, map};
 ghost use Rattle.arguments.specs.Within.{AreWithin};
 ghost use Rattle.inline.specs.declared.flat.FlatVariable.{FlatVariable};
 ghost use Rattle.inline.specs.Fitting.{Fits, IsWithinKind};
 ghost use Rattle.inline.specs.Flat.{FlatBlock, FlatProgram, FlatTree, TermTree};
 ghost use Rattle.inline.specs.FlatMeaning.{Values, after, after_all, end_of, ending_of, given, value_in};
+ghost use Rattle.inline.specs.FlatSize.{IsSized};
 ghost use Rattle.inline.specs.FlatTyping.{AreTyped, HasType, IsTyped, IsTypedProgram, Suits, Types, end_types, parameter_types, types_after, types_after_all};
 ghost use Rattle.inline.specs.Numbering.{flattened, param_of};
 ghost use Rattle.language.specs.declared.signature.Label.{Label};
@@ -14,8 +15,23 @@ ghost use Rattle.language.specs.declared.typing.WordType.{WordType};
 ghost use Rattle.language.specs.declared.values.Arg.{Arg};
 ghost use Rattle.language.specs.Grammatical.{IsGrammatical};
 ghost use Rattle.language.specs.Meaning.{Gives, exported};
+ghost use Rattle.language.specs.Size.{size_violations};
 ghost use Rattle.language.specs.Tree.{ProcedureTree, ProgramTree};
 ghost use Rattle.language.specs.Typing.{violations};
+
+/// The export of a program that violates no rule is well typed once its names are numbers, with the bodies that it calls in it.
+pub fn flat_is_typed()
+    ensures { (program : ProgramTree) (before : List ProcedureTree) (p : ProcedureTree) → length (violations program) ≡ 0
+        → exported [] program.procedures ≡ Some (before, p) → AllByRecursion IsGrammatical before → IsGrammatical p
+        → IsTypedProgram (flattened before p) }
+{}
+
+/// And it keeps the limits on size, where the procedure passes none.
+pub fn flat_is_sized()
+    ensures { (program : ProgramTree) (before : List ProcedureTree) (p : ProcedureTree) → length (violations program) ≡ 0
+        → exported [] program.procedures ≡ Some (before, p) → AllByRecursion IsGrammatical before → IsGrammatical p
+        → length (size_violations before p) ≡ 0 → IsSized (flattened before p) }
+{}
 
 /// The program comes to what it came to: on arguments within the parameter types it has the flat program's
 /// outcome, or meets the first fault on that one's path.

@@ -9,6 +9,8 @@ mod numbering;
 mod program;
 
 pub use flat::{FlatStatement, FlatVariable, Term};
-pub use laws::{flat_keeps_meaning, flat_values_fit, typed_values_fit};
+pub use laws::{
+    flat_is_sized, flat_is_typed, flat_keeps_meaning, flat_values_fit, typed_values_fit,
+};
 pub use limits::MOST_VARIABLE_BYTES;
 pub use program::Flat;

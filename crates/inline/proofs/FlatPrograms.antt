@@ -1,0 +1,102 @@
+-- The export of a program that violates no rule is a well-typed flat program.
+use Rattle.std.proofs.Common.{◌≡◌, ℕ, ◌+◌, false, List, [], ◌∷◌, ◌++◌, length, map, take, Option, Some, refl, sym, ap, ◌∙◌, subst, arith}
+use Rattle.std.proofs.Math.Seq.{take-append_seam}
+use Rattle.std.proofs.lemmas.List.{length-map}
+use Rattle.std.specs.List.{AllByRecursion}
+use Rattle.inline.specs.declared.flat.FlatVariable.{FlatVariable}
+use Rattle.inline.specs.FlatTyping.{Types, IsTypedProgram, AreNumbered, AreTyped, IsResult, parameter_types, types_after_all}
+use Rattle.inline.specs.Numbering.{Numbers, param_of, parameter_names, flattened, callables, block, declared_in_all, numbers_taken_all, names_after_all, value_of}
+use Rattle.language.specs.declared.signature.Label.{Label}
+use Rattle.language.specs.declared.signature.Label.TheVariants.{Public, Secret}
+use Rattle.language.specs.declared.typing.WordType.{WordType}
+use Rattle.language.specs.Grammatical.{IsGrammatical, IsSmallReturn}
+use Rattle.language.specs.Meaning.{exported}
+use Rattle.language.specs.Tree.{ParameterTree, ProcedureTree, ProgramTree, ReturnTree}
+use Rattle.language.specs.Types.{Scope, joined}
+use Rattle.language.specs.Typing.{assigns_public, parameters_assign, block_assigns, with_procedure, body_scope, violations, scope_after_all}
+use Rattle.language.specs.WellTyped.{Returns, nothing_returned, value_returned, IsProcedure}
+use Rattle.inline.proofs.CallTypes.{TypedBody}
+use Rattle.inline.proofs.FlatTypes.{IsHushed, typed_block, linked_after_all}
+use Rattle.inline.proofs.Hiding.{either_false, hides_none, hides_parameters}
+use Rattle.inline.proofs.Linked.{Linked}
+use Rattle.inline.proofs.Listed.{Lists, lists_end, block_takes, all_counted}
+use Rattle.inline.proofs.Parameters.{linked_parameters, all_own}
+use Rattle.inline.proofs.Procedures.{Stand, Exported, IsWithin, own_typing, variables_within, earlier_within, within_parameters}
+use Rattle.inline.proofs.Terms.{means, suits_there}
+
+-- a value is returned exactly where there is a result
+result_typed : (scope : Scope) (names : Numbers) (types : Types) (n : ℕ) → Linked scope names types n → {result : Option WordType} {returned : Option ReturnTree} → Returns scope result returned
+    → IsSmallReturn returned → IsResult types result (value_of names returned)
+result_typed scope names types n linked nothing_returned small = tt
+result_typed scope names types n linked (value_returned has suit) small = suits_there (means scope names types n linked has small) suit
+
+joined-public : (label : Label) → joined label Public ≡ label
+joined-public Public = refl
+joined-public Secret = refl
+
+-- One procedure behind those that it may call.
+
+module _ (before : List ProcedureTree) (at : Scope) (p : ProcedureTree) (stand : Stand TypedBody before at) (typed : IsProcedure before at p) (plain : IsGrammatical p) where
+  abbrev inside : Scope
+  inside = body_scope at (length before) p
+
+  -- where secret control is around it
+  hushed : (outer : Label) → (outer ≡ Secret → assigns_public at p ≡ false) → IsHushed outer inside (block_assigns at p.body)
+  hushed outer quiet e =
+      let split = either_false (parameters_assign p.parameters) (block_assigns at p.body) (quiet e) in
+      (hides_parameters typed.parameters (hides_none (with_procedure at (length before) p) (variables_within TypedBody before at stand p typed.is_new)) split.0, split.1)
+
+  within : IsWithin before at inside
+  within = within_parameters before at typed.parameters (earlier_within TypedBody before at stand p typed.is_new)
+
+  body_typed : (all : List FlatVariable) (control : Label) (names : Numbers) (types : Types) (n : ℕ) → Linked inside names types n → (control ≡ Secret → assigns_public at p ≡ false)
+      → Lists all n (declared_in_all (callables before) p.body) → AreTyped all types control (block (callables before) names n p.body)
+  body_typed all control names types n linked quiet lists =
+      subst (λ l. AreTyped all types l (block (callables before) names n p.body)) (joined-public control)
+      (typed_block before at stand all control typed.body within (hushed control quiet) names types n linked plain.body lists)
+
+  body_gives : (names : Numbers) (types : Types) (n : ℕ) → Linked inside names types n
+      → IsResult (types_after_all types (block (callables before) names n p.body)) p.result (value_of (names_after_all (callables before) names n p.body) p.returned)
+  body_gives names types n linked =
+      result_typed (scope_after_all inside p.body) (names_after_all (callables before) names n p.body) (types_after_all types (block (callables before) names n p.body)) (n + numbers_taken_all (callables before) p.body)
+      (linked_after_all before typed.body names types n linked) typed.returns plain.returned
+
+  pub typed_one : TypedBody before at p
+  typed_one = record {
+    variables = variables_within TypedBody before at stand p typed.is_new;
+    parameters = typed.parameters;
+    typed = body_typed;
+    result = body_gives;
+  }
+
+-- The program.
+
+-- the procedures that the export may call are well typed
+pub export_typed : (program : ProgramTree) (before : List ProcedureTree) (p : ProcedureTree) → length (violations program) ≡ 0 → exported [] program.procedures ≡ Some (before, p) → AllByRecursion IsGrammatical before → Exported TypedBody before p
+export_typed program before p h is plain = own_typing TypedBody IsGrammatical (λ before at p stand typed plain. typed_one before at p stand typed plain) program before p h is plain
+
+-- each parameter has a number
+own_count : (ps : List ParameterTree) → length (all_own ps) ≡ length ps
+own_count [] = refl
+own_count (p ∷ ps) = let same = own_count ps in omega (arith, same)
+
+pub flat_is_typed : (program : ProgramTree) (before : List ProcedureTree) (p : ProcedureTree) → length (violations program) ≡ 0 → exported [] program.procedures ≡ Some (before, p) → AllByRecursion IsGrammatical before → IsGrammatical p
+    → IsTypedProgram (flattened before p)
+flat_is_typed program before p h is earlier plain =
+    let e = export_typed program before p h is earlier in
+    let one = typed_one before e.scope p e.stand e.typed plain in
+    let types = parameter_types (map param_of p.parameters) in
+    let n = length p.parameters in
+    let front = all_own p.parameters in
+    let back = declared_in_all (callables before) p.body in
+    let many = length-map p.parameters param_of in
+    let linked = linked_parameters (with_procedure e.scope (length before) p) one.variables p.parameters e.typed.parameters in
+    record {
+      parameters = ap (λ k. take k (front ++ back)) (many ∙ sym (own_count p.parameters)) ∙ take-append_seam front back;
+      numbered = subst (λ k. AreNumbered k (block (callables before) (parameter_names p) n p.body)) (sym many) (block_takes (callables before) (all_counted before) (parameter_names p) n p.body).numbered;
+      body = one.typed (front ++ back) Public (parameter_names p) types n linked (λ e. absurd (public_not_secret e)) (subst (λ k. Lists (front ++ back) k back) (own_count p.parameters) (lists_end front back));
+      result = one.result (parameter_names p) types n linked;
+    }
+  where
+    public_not_secret : Public ≡ Secret → ⊥
+    public_not_secret e = cc

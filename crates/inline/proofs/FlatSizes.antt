@@ -1,0 +1,221 @@
+-- The body of a procedure within the limits on size is within them too, with the bodies that it calls in it.
+use Rattle.std.proofs.Common.{◌≡◌, ℕ, ◌+◌, ◌*◌, ◌≤◌, ◌||◌, Bool, true, false, nat_lt, List, [], ◌∷◌, ◌++◌, length, map, Option, Some, refl, arith, length-append}
+use Rattle.std.proofs.lemmas.Bool.Decides.{nat_tests}
+use Rattle.std.proofs.lemmas.List.{length-map}
+use Rattle.std.specs.List.{AllByRecursion}
+use Rattle.inline.specs.Flat.{chain, elements_by, word_as, array_as, counter_type}
+use Rattle.inline.specs.Flat as tree
+use Rattle.inline.specs.FlatSize as flat
+use Rattle.inline.specs.FlatSize.{term_nodes, body_nodes, value_nodes, words_by, declared_words, IsSized}
+use Rattle.inline.specs.Numbering.{Numbers, Callables, callables, call_block, call_variables, call_result, call_value, right_block, right_variables, right_end, right, value_given, dropped_block, dropped_variables, declared_in, declared_in_all, numbers_taken, numbers_taken_all, naming, names_after, statement, block, single, number_of, size_of, param_of, parameter_names, return_names, flattened}
+use Rattle.language.specs.declared.limits.TheConstants.{MOST_NODES, MOST_BODIES, MOST_DECLARED_BYTES}
+use Rattle.language.specs.declared.rule.Rule.{Rule}
+use Rattle.language.specs.declared.rule.Rule.TheVariants.{InlinedSize, DeclaredBytes}
+use Rattle.language.specs.declared.signature.Form.{Form}
+use Rattle.language.specs.declared.signature.Form.TheVariants.{SingleWord, FixedArray, MutableArray}
+use Rattle.language.specs.declared.signature.Label.{Label}
+use Rattle.language.specs.declared.signature.Param.{Param}
+use Rattle.language.specs.declared.typing.ValueType.TheVariants.{Word}
+use Rattle.language.specs.declared.typing.Violation.{Violation}
+use Rattle.language.specs.declared.typing.WordType.{WordType}
+use Rattle.language.specs.Grammatical.{HasLength, HasForm, IsGrammatical}
+use Rattle.language.specs.Meaning.{exported}
+use Rattle.language.specs.Size.{Extents, extents_of, right_nodes, right_words, statement_nodes, block_nodes, nodes_of, bodies_of, held_words, parameter_words, statement_words, block_words, declared_bytes, size_violations}
+use Rattle.language.specs.Tree.{ExprTree, RightTree, StatementTree, element_assignment, BlockTree, ParameterTree, ProcedureTree, ProgramTree, ReturnTree, written}
+use Rattle.language.specs.Types.{Scope, when}
+use Rattle.language.specs.Typing.{violations}
+use Rattle.language.specs.WellTyped.{labelled, Gives, of_call, of_value, IsWellTyped, declares, declares_array, assigns, assigns_element, calls, chooses, repeats, AreWellTyped, no_statement, one_more, IsProcedure, Returns, nothing_returned, value_returned}
+use Rattle.word.specs.declared.place.Place.{Place}
+use Rattle.inline.proofs.CallSizes.{same_nodes, same_all, same_result, GoTogether, value_there, dropped_nodes, dropped_words, words-append, SizedBody, call_sized}
+use Rattle.inline.proofs.ChainTypes.{chain-nodes}
+use Rattle.inline.proofs.Parameters.{own, all_own}
+use Rattle.inline.proofs.Procedures.{Stand, IsWithin, own_typing, earlier_within, within_after, within_declared, within_parameters}
+
+-- Limits.
+
+not_passed : (b : Bool) (rule : Rule) → length (when b rule) ≡ 0 → b ≡ false
+not_passed true rule h = absurd (omega (arith, h))
+not_passed false rule h = refl
+
+first_not : (a b : Bool) → a || b ≡ false → a ≡ false
+first_not false b e = refl
+first_not true b e = e
+
+within : (most n : ℕ) → nat_lt most n ≡ false → n ≤ most
+within most n h = grind (arith, nat_tests)
+
+limits : (before : List ProcedureTree) (p : ProcedureTree) → length (size_violations before p) ≡ 0 → (nodes_of (extents_of before) p ≤ 6000) × (declared_bytes (extents_of before) p ≤ 32768)
+limits before p h =
+    let many = nat_lt MOST_NODES (nodes_of (extents_of before) p) in
+    let deep = nat_lt MOST_BODIES (bodies_of (extents_of before) p) in
+    let a = when (many || deep) InlinedSize in
+    let b = when (nat_lt MOST_DECLARED_BYTES (declared_bytes (extents_of before) p)) DeclaredBytes in
+    let m = length-map {B = Violation} (a ++ b) (λ rule. record { place = p.place; rule = rule }) in
+    let n = length-append a b in
+    let one : length a ≡ 0 = omega (arith, h, m, n) in
+    let other : length b ≡ 0 = omega (arith, h, m, n) in
+    (within MOST_NODES (nodes_of (extents_of before) p) (first_not many deep (not_passed _ InlinedSize one)), within MOST_DECLARED_BYTES (declared_bytes (extents_of before) p) (not_passed _ DeclaredBytes other))
+
+-- Statements.
+
+module _ (earlier : List ProcedureTree) (at : Scope) (stand : Stand SizedBody earlier at) where
+  abbrev known : Callables
+  known = callables earlier
+
+  abbrev extents : Extents
+  extents = extents_of earlier
+
+  -- a right side is as large as it was, and takes a word more for every three nodes at most
+  record RightSized (names : Numbers) (n : ℕ) (r : RightTree) : Type 0 where
+    pub nodes : body_nodes (right_block known names n r) + term_nodes (right known names n r) ≡ right_nodes extents r
+    pub words : 3 * declared_words (right_variables known r) ≤ 3 * right_words extents r + right_nodes extents r
+
+  right_sized : {scope : Scope} {control : Label} {r : RightTree} {given : WordType} → Gives earlier scope control r (Word given) → IsWithin earlier at scope → (names : Numbers) (n : ℕ) → RightSized names n r
+  right_sized (of_value {e = e} has) inside names n = record { nodes = omega (arith, same_nodes names e); words = omega arith }
+  right_sized {given = given} (of_call {c = c} is) inside names n =
+      let f = call_sized earlier at stand is inside names n in
+      let body = call_block (known c.name) names n c.arguments in
+      let whole = chain-nodes body (single tree.skip) in
+      let value = value_there (call_result (known c.name)) (call_value (known c.name) names n c.arguments) given f.gives f.returns in
+      let same = f.nodes in
+      let few = f.words in
+      record { nodes = omega (arith, whole, value, same); words = omega (arith, few) }
+
+  -- so is a statement
+  pub record StatementSized (names : Numbers) (n : ℕ) (s : StatementTree) : Type 0 where
+    pub nodes : body_nodes (statement known names n s) ≡ statement_nodes extents s
+    pub words : 3 * declared_words (declared_in known s) ≤ 3 * statement_words extents s + statement_nodes extents s
+
+  pub record BlockSized (names : Numbers) (n : ℕ) (b : BlockTree) : Type 0 where
+    pub nodes : body_nodes (block known names n b) ≡ block_nodes extents b
+    pub words : 3 * declared_words (declared_in_all known b) ≤ 3 * block_words extents b + block_nodes extents b
+
+  element_sized : {scope : Scope} {control : Label} {r : RightTree} {given : WordType} → Gives earlier scope control r (Word given) → IsWithin earlier at scope → (place bracket target : Place) (text : List ℕ) (index : ExprTree) (names : Numbers) (n : ℕ)
+      → StatementSized names n (element_assignment place bracket target text index r)
+  element_sized (of_value {e = e} has) inside place bracket target text index names n = record { nodes = omega (arith, same_nodes names index, same_nodes names e); words = omega arith }
+  element_sized {given = given} (of_call {c = c} is) inside place bracket target text index names n =
+      let f = call_sized earlier at stand is inside names (n + 1) in
+      let body = call_block (known c.name) names (n + 1) c.arguments in
+      let value = value_given (call_value (known c.name) names (n + 1) c.arguments) in
+      let whole = chain-nodes body (single (tree.put bracket (number_of names text) (size_of names text) (tree.variable n) value)) in
+      let there = value_there (call_result (known c.name)) (call_value (known c.name) names (n + 1) c.arguments) given f.gives f.returns in
+      let same = f.nodes in
+      let few = f.words in
+      record { nodes = omega (arith, whole, there, same, same_nodes names index); words = omega (arith, few) }
+
+  mutual
+    pub statement_sized : {scope : Scope} {control : Label} {s : StatementTree} → IsWellTyped earlier scope control s → IsWithin earlier at scope → (names : Numbers) (n : ℕ) → StatementSized names n s
+    statement_sized (declares {label = label} {mutable = mutable} {kind = kind} {right = r} new has suit flow) inside names n =
+        let f = right_sized has inside names n in
+        let own = word_as (labelled kind label) mutable in
+        let whole = chain-nodes (right_block known names n r) (single (tree.declare (right_end known n r) (labelled kind label) mutable (right known names n r))) in
+        let sum = words-append (right_variables known r) (own ∷ []) in
+        let same = f.nodes in
+        let few = f.words in
+        record { nodes = omega (arith, whole, same); words = omega (arith, sum, few) }
+    statement_sized (declares_array {values = values} new suit count flow) inside names n = record { nodes = omega (arith, same_all names (written values)); words = omega arith }
+    statement_sized (assigns {text = text} {right = r} is has suit flow) inside names n =
+        let f = right_sized has inside names n in
+        let whole = chain-nodes (right_block known names n r) (single (tree.assign (number_of names text) (right known names n r))) in
+        let same = f.nodes in
+        let few = f.words in
+        record { nodes = omega (arith, whole, same); words = omega (arith, few) }
+    statement_sized (assigns_element {place = place} {bracket = bracket} {target = target} {text = text} {index = index} is has value suit flow) inside names n = element_sized value inside place bracket target text index names n
+    statement_sized (calls {c = c} is) inside names n =
+        let f = call_sized earlier at stand is inside names n in
+        let o = known c.name in
+        let vars = call_variables o c.arguments in
+        let value = call_value o names n c.arguments in
+        let last = dropped_block (n + length vars) (call_result o) value in
+        let whole = chain-nodes (call_block o names n c.arguments) last in
+        let sum = words-append vars (dropped_variables (call_result o)) in
+        let back = dropped_nodes (n + length vars) (call_result o) value f.returns in
+        let held = dropped_words (call_result o) value f.returns in
+        let same = f.nodes in
+        let few = f.words in
+        record { nodes = omega (arith, whole, back, same); words = omega (arith, sum, held, few) }
+    statement_sized (chooses {condition = condition} {accepted = accepted} {otherwise = otherwise} has one other) inside names n =
+        let a = block_sized one inside names n in
+        let b = block_sized other inside names (n + numbers_taken_all known accepted) in
+        let sum = words-append (declared_in_all known accepted) (declared_in_all known otherwise) in
+        let left = a.nodes in
+        let right = b.nodes in
+        let few = a.words in
+        let more = b.words in
+        record { nodes = omega (arith, left, right, same_nodes names condition); words = omega (arith, sum, few, more) }
+    statement_sized (repeats {scope = scope} {text = text} {low = low} {high = high} {body = body} has is new all) inside names n =
+        let b = block_sized all (within_declared earlier at scope text _ new inside) (naming names text n (word_as counter_type false)) (n + 1) in
+        let same = b.nodes in
+        let few = b.words in
+        record { nodes = omega (arith, same, same_nodes names low, same_nodes names high); words = omega (arith, few) }
+
+    pub block_sized : {scope : Scope} {control : Label} {b : BlockTree} → AreWellTyped earlier scope control b → IsWithin earlier at scope → (names : Numbers) (n : ℕ) → BlockSized names n b
+    block_sized no_statement inside names n = record { nodes = refl; words = omega arith }
+    block_sized (one_more {statement = s} {rest = rest} here there) inside names n =
+        let a = statement_sized here inside names n in
+        let b = block_sized there (within_after earlier at here inside) (names_after known names n s) (n + numbers_taken known s) in
+        let whole = chain-nodes (statement known names n s) (block known (names_after known names n s) (n + numbers_taken known s) rest) in
+        let sum = words-append (declared_in known s) (declared_in_all known rest) in
+        let left = a.nodes in
+        let right = b.nodes in
+        let few = a.words in
+        let more = b.words in
+        record { nodes = omega (arith, whole, left, right); words = omega (arith, sum, few, more) }
+
+-- Procedures.
+
+return_together : {scope : Scope} {result : Option WordType} {returned : Option ReturnTree} → Returns scope result returned → GoTogether result returned
+return_together nothing_returned = tt
+return_together (value_returned has suit) = tt
+
+sized_one : (before : List ProcedureTree) (at : Scope) (p : ProcedureTree) → Stand SizedBody before at → IsProcedure before at p → SizedBody before at p
+sized_one before at p stand typed =
+    let inside = within_parameters before at typed.parameters (earlier_within SizedBody before at stand p typed.is_new) in
+    record {
+      nodes = λ names n. (block_sized before at stand typed.body inside names n).nodes;
+      words = (block_sized before at stand typed.body inside [] 0).words;
+      returns = return_together typed.returns;
+    }
+
+-- Parameters.
+
+parameter_takes : (p : ParameterTree) (form : Form) → words_by (own p).word (elements_by form p.length) ≡ held_words form p.kind p.length
+parameter_takes p SingleWord = refl
+parameter_takes p FixedArray = refl
+parameter_takes p MutableArray = refl
+
+parameters_take : (ps : List ParameterTree) → declared_words (all_own ps) ≡ parameter_words ps
+parameters_take [] = refl
+parameters_take (p ∷ ps) = omega (arith, parameter_takes p p.form, parameters_take ps)
+
+has_length : (form : Form) (length : ℕ) → HasLength form length → flat.HasLength form length
+has_length SingleWord length is = is
+has_length FixedArray length is = (is.some, is.few)
+has_length MutableArray length is = (is.some, is.few)
+
+have_lengths : (ps : List ParameterTree) → AllByRecursion HasForm ps → AllByRecursion (λ (p : Param). flat.HasLength p.form p.length) (map param_of ps)
+have_lengths [] are = tt
+have_lengths (p ∷ ps) are = (has_length p.form p.length are.0, have_lengths ps are.1)
+
+-- The program.
+
+pub flat_is_sized : (program : ProgramTree) (before : List ProcedureTree) (p : ProcedureTree) → length (violations program) ≡ 0 → exported [] program.procedures ≡ Some (before, p) → AllByRecursion IsGrammatical before → IsGrammatical p
+    → length (size_violations before p) ≡ 0 → IsSized (flattened before p)
+flat_is_sized program before p h is earlier plain small =
+    let e = own_typing SizedBody IsGrammatical (λ before at p stand typed plain. sized_one before at p stand typed) program before p h is earlier in
+    let body = sized_one before e.scope p e.stand e.typed in
+    let few = limits before p small in
+    let nodes = body.nodes (parameter_names p) (length p.parameters) in
+    let value = same_result (return_names (callables before) p) p.returned in
+    let words = body.words in
+    let sum = words-append (all_own p.parameters) (declared_in_all (callables before) p.body) in
+    let taken = parameters_take p.parameters in
+    let most = few.0 in
+    let bytes = few.1 in
+    record {
+      lengths = have_lengths p.parameters plain.parameters;
+      parameters = omega (arith, taken, bytes);
+      declared = omega (arith, sum, taken, words, most, bytes);
+      counted = omega (arith, nodes, value);
+      nodes = most;
+    }

@@ -1,0 +1,67 @@
+-- A scope in which nothing public may be assigned to.
+use Rattle.std.proofs.Common.{◌≡◌, ℕ, Bool, true, false, ◌||◌, List, Some, None, refl, sym, ◌∙◌, subst, true≢false}
+use Rattle.std.specs.Str.{bytes_eq}
+use Rattle.language.specs.declared.signature.Form.{Form}
+use Rattle.language.specs.declared.signature.Form.TheVariants.{SingleWord, FixedArray, MutableArray}
+use Rattle.language.specs.declared.signature.Label.{Label}
+use Rattle.language.specs.declared.signature.Label.TheVariants.{Public, Secret}
+use Rattle.language.specs.declared.typing.Declared.TheVariants.{Variable}
+use Rattle.language.specs.declared.typing.VariableType.{VariableType}
+use Rattle.language.specs.Tree.{ParameterTree, ProcedureTree, StatementTree}
+use Rattle.language.specs.Types.{Scope, label_of}
+use Rattle.language.specs.Typing.{is_mutable, is_public_mutable, counter_as, parameter_value, parameters_assign, right_assigns, scope_after, statement_assigns, with_parameters}
+use Rattle.language.specs.WellTyped.{IsWellTyped, declares, declares_array, assigns, assigns_element, calls, chooses, repeats, AreNew, no_parameter, one_is_new}
+use Rattle.names.specs.Scope.{found, declared}
+use Rattle.inline.proofs.Linked.{same_variable}
+use Rattle.inline.proofs.Lookup.{found-new, found-other}
+use Rattle.inline.proofs.Parameters.{NoVariables}
+
+pub either_false : (a b : Bool) → a || b ≡ false → (a ≡ false) × (b ≡ false)
+either_false false b e = (refl, e)
+either_false true b e = absurd (true≢false e)
+
+-- each name that may be assigned to is secret
+abbrev pub Hides : Scope → Type 0
+Hides scope = (text : List ℕ) (v : VariableType) → found scope text ≡ Some (Variable v) → v.mutable ≡ true → label_of v.value ≡ Secret
+
+pub hides_declared : (scope : Scope) (name : List ℕ) (v : VariableType) → found scope name ≡ None → (v.mutable ≡ true → label_of v.value ≡ Secret) → Hides scope → Hides (declared scope name (Variable v))
+hides_declared scope name v new own hides text w is = by_name (bytes_eq text name) refl
+  where
+    by_name : (b : Bool) → bytes_eq text name ≡ b → w.mutable ≡ true → label_of w.value ≡ Secret
+    by_name true e = subst (λ (u : VariableType). u.mutable ≡ true → label_of u.value ≡ Secret) (same_variable v w (sym (found-new scope name (Variable v) text e new) ∙ is)) own
+    by_name false e = hides text w (sym (found-other scope name (Variable v) text e) ∙ is)
+
+-- what is no public name that may be assigned to
+secret_one : (label : Label) (mutable : Bool) → is_public_mutable label mutable ≡ false → mutable ≡ true → label ≡ Secret
+secret_one Public true none e = absurd (true≢false none)
+secret_one Public false none e = absurd (true≢false (sym e))
+secret_one Secret mutable none e = refl
+
+module _ (at : Scope) where
+  pub hides_after : {earlier : List ProcedureTree} {scope : Scope} {control : Label} {s : StatementTree} → IsWellTyped earlier scope control s → Hides scope → statement_assigns at s ≡ false → Hides (scope_after scope s)
+  hides_after (declares {scope = scope} {label = label} {mutable = mutable} {text = text} {right = r} new has suit flow) hides none =
+      hides_declared scope text _ new (secret_one label mutable (either_false (is_public_mutable label mutable) (right_assigns at r) none).0) hides
+  hides_after (declares_array {scope = scope} {label = label} {mutable = mutable} {text = text} new suit count flow) hides none = hides_declared scope text _ new (secret_one label mutable none) hides
+  hides_after (assigns is has suit flow) hides none = hides
+  hides_after (assigns_element is has value suit flow) hides none = hides
+  hides_after (calls is) hides none = hides
+  hides_after (chooses has one other) hides none = hides
+  hides_after (repeats low high new inner) hides none = hides
+
+pub hides_counter : (scope : Scope) (text : List ℕ) → found scope text ≡ None → Hides scope → Hides (declared scope text counter_as)
+hides_counter scope text new hides = hides_declared scope text _ new (λ e. absurd (true≢false (sym e))) hides
+
+-- a scope of procedures
+pub hides_none : (scope : Scope) → NoVariables scope → Hides scope
+hides_none scope none text v is = absurd (none text v is)
+
+parameter_label : (p : ParameterTree) (form : Form) → label_of (parameter_value p form) ≡ p.label
+parameter_label p SingleWord = refl
+parameter_label p FixedArray = refl
+parameter_label p MutableArray = refl
+
+pub hides_parameters : {scope : Scope} {ps : List ParameterTree} → AreNew scope ps → Hides scope → parameters_assign ps ≡ false → Hides (with_parameters scope ps)
+hides_parameters no_parameter hides none = hides
+hides_parameters (one_is_new {scope = scope} {p = p} {ps = ps} here there) hides none =
+    let split = either_false (is_public_mutable p.label (is_mutable p.form)) (parameters_assign ps) none in
+    hides_parameters there (hides_declared scope p.name _ here (λ e. parameter_label p p.form ∙ secret_one p.label (is_mutable p.form) split.0 e) hides) split.1
