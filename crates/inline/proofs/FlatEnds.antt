@@ -17,7 +17,7 @@ use Rattle.language.specs.declared.signature.Label.{Label}
 use Rattle.language.specs.declared.typing.ArrayType.{ArrayType}
 use Rattle.language.specs.declared.typing.ValueType.TheVariants.{Array}
 use Rattle.language.specs.declared.typing.WordType.{WordType}
-use Rattle.language.specs.Grammatical.{AreAllSmall, AreSmallValues, IsPlain, ArePlain}
+use Rattle.language.specs.Grammatical.{AreAllSmall, IsPlain, ArePlain}
 use Rattle.language.specs.Meaning.{Ending, Evaluates, EvaluatesAll, by_operands, operand_faults, none_left, one_more, this_faults, gives, faults, element_held, made_array, counting, with_some, with_element, word_given, of_expr, expr_faults, Runs, RunsAll, Turns, no_turn, turn_faults, a_turn, declares, declaration_faults, declares_array, first_value_faults, assigns, assignment_faults, target_faults, right_faults, assigns_element, calls, call_faults, condition_faults, accepts, declines, bounds_fault, loops, ends, stops, goes_on}
 use Rattle.language.specs.State.{State, Value, single, with_value}
 use Rattle.language.specs.State as state
@@ -29,6 +29,8 @@ use Rattle.inline.proofs.Called.{Spares, Ready, ready_later, ready_declared, rea
 use Rattle.inline.proofs.Calls.{call_means}
 use Rattle.inline.proofs.Chains.{after_chain, fault_chain, fault_single}
 use Rattle.inline.proofs.Comes.{Comes, well, fails, then_comes, also, either-none, across, across₃}
+use Rattle.inline.proofs.FlatTypes.{small_values}
+use Rattle.inline.proofs.Kept.{dropped_keeps}
 use Rattle.inline.proofs.Linked.{Linked, entry, known_word, known_array}
 use Rattle.inline.proofs.Lookup.{found-kept}
 use Rattle.inline.proofs.Rights.{right_means, call_gives, path_given}
@@ -118,10 +120,6 @@ at_end {Is = Is} b last m Good comes =
 alone : {Is : Ending State → Type 0} {Good : State → Type 0} (only : FlatTree) (m : Values) → Comes Is Good (first_fault (path_at m only)) → Comes Is Good (first_fault (path_along m (single_block only)))
 alone {Is = Is} {Good = Good} only m comes = subst (Comes Is Good) (sym (fault_single only m)) comes
 
-pub small_values : (values : Option (List ExprTree)) → AreSmallValues values → AreAllSmall (written values)
-small_values None small = tt
-small_values (Some es) small = small
-
 -- a mark that is met twice
 met_twice : (a k c q : Option Place) → either (either a (either k None)) (either c (either k q)) ≡ either a (either k (either c q))
 met_twice (Some at) k c q = refl
@@ -132,10 +130,6 @@ met_twice None None c q = refl
 dropped_fault : (k : ℕ) (result : Option WordType) (value : Option TermTree) (m : Values) → (result ≡ None → value ≡ None) → first_fault (path_along m (dropped_block k result value)) ≡ first_fault (path_of_result m value)
 dropped_fault k None value m none = ap (λ v. first_fault (path_of_result m v)) (sym (none refl))
 dropped_fault k (Some word) value m none = fault_single (flat_tree.declare k word false (value_given value)) m ∙ ap first_fault (sym (path_given m value))
-
-dropped_kept : (k x : ℕ) → x < k → (result : Option WordType) (value : Option TermTree) (m : Values) → after_all m (dropped_block k result value) x ≡ m x
-dropped_kept k x low None value m = refl
-dropped_kept k x low (Some word) value m = with_value-other m k x (value_in m (value_given value) ∷ []) (λ q. omega arith)
 
 -- an element is assigned to
 element_shown : (scope : Scope) (names : Numbers) (types : Types) (n : ℕ) → Linked scope names types n → (text : List ℕ) (own : ArrayType) → IsVariable scope text (Array own) true → (s : State) (m : Values) → Shows names s m → (u w : state.Word) (i v : ℕ) → u.value ≡ i → w ≡ word_at own.element.kind v
@@ -308,7 +302,7 @@ module _ (ps : List ProcedureTree) where
         (λ r are agrees. (
           r.state,
           calls ps s c r are,
-          shows_kept names r.state end (after_all end last) agrees.shows (λ name x there. let low = ready.linked.below name x there in dropped_kept k x.number (omega arith) result value end),
+          shows_kept names r.state end (after_all end last) agrees.shows (λ name x there. let low = ready.linked.below name x there in dropped_keeps k x.number (omega arith) result value end),
         ))
         (λ at are. call_faults ps s c at are)))
     same_end (rules.chooses {scope = scope} {place = place} {condition = condition} {accepted = accepted} {otherwise = otherwise} has one other) names n ready plain s m shows =

@@ -26,6 +26,7 @@ use Rattle.inline.proofs.FlatEnds.{same_ends}
 use Rattle.inline.proofs.Kept.{block_keeps}
 use Rattle.inline.proofs.Linked.{Linked}
 use Rattle.inline.proofs.Parameters.{shows_arguments, arrays_same, all_own, where_begun, linked_parameters}
+use Rattle.inline.proofs.Passing.{kind_suits}
 use Rattle.inline.proofs.Procedures.{Stand, own_typing, variables_within, earlier_within}
 use Rattle.inline.proofs.States.{shows_before}
 use Rattle.inline.proofs.Terms.{Shows, means}
@@ -44,9 +45,6 @@ within_parameters earlier (p ∷ ps) scope calls = within_parameters earlier ps 
 no_result : {scope : Scope} {result : Option WordType} {o : Option ReturnTree} → rules.Returns scope result o → result ≡ None → o ≡ None
 no_result rules.nothing_returned none = refl
 no_result (rules.value_returned has suit) none = absurd cc
-
-kind_suits : {given wanted : WordType} → rules.Suits given wanted → given.kind ≡ wanted.kind
-kind_suits (rules.suits flow) = refl
 
 -- the end of a body, with its result
 result_comes : (before : List ProcedureTree) (p : ProcedureTree) (start end : State) (scope : Scope) (names : Numbers) (types : Types) (n : ℕ) (m : Values) → Linked scope names types n → Shows names end m

@@ -1,5 +1,5 @@
 -- A well-typed statement changes its own numbers and those of mutable names, and no others.
-use Rattle.std.proofs.Common.{◌≡◌, ℕ, zero, suc, ◌+◌, ◌-◌, ◌≤◌, ◌==◌, Bool, true, false, if◌then◌else◌, List, [], ◌∷◌, length, map, Option, Some, None, ◌⊎◌, inl, inr, refl, sym, ap, ◌∙◌, arith}
+use Rattle.std.proofs.Common.{◌≡◌, ℕ, zero, suc, ◌+◌, ◌-◌, ◌<◌, ◌≤◌, ◌==◌, Bool, true, false, if◌then◌else◌, List, [], ◌∷◌, length, map, Option, Some, None, ◌⊎◌, inl, inr, refl, sym, ap, ◌∙◌, arith}
 use Rattle.std.specs.Str.{bytes_eq}
 use Rattle.inline.specs.declared.flat.FlatVariable.{FlatVariable}
 use Rattle.inline.specs.declared.numbering.Numbered.{Numbered}
@@ -68,6 +68,11 @@ either_arm : (b : Bool) (x : ℕ) (one other m : Values) → one x ≡ m x → o
 either_arm true x one other m same alike = alike
 either_arm false x one other m same alike = same
 
+-- a result that nothing takes goes into a new variable
+pub dropped_keeps : (k x : ℕ) → x < k → (result : Option WordType) (value : Option TermTree) (m : Values) → after_all m (dropped_block k result value) x ≡ m x
+dropped_keeps k x low None value m = refl
+dropped_keeps k x low (Some word) value m = with_value-other m k x (value_in m (value_given value) ∷ []) (λ q. omega arith)
+
 module _ (earlier : List ProcedureTree) where
   -- what may be assigned to is none of them
   module _ (scope : Scope) (names : Numbers) (n : ℕ) (ready : Ready earlier scope names n) (x : ℕ) (spares : Spares names n x) where
@@ -80,10 +85,6 @@ module _ (earlier : List ProcedureTree) where
     other_array text array is same =
         let k = known_array scope names ready.types n ready.linked text array true is in
         spares.spared text _ k.found refl (sym (ap (λ (z : Numbered). z.number) k.here) ∙ sym same)
-
-    dropped_keeps : (k : ℕ) → n ≤ k → (result : Option WordType) (value : Option TermTree) (m : Values) → after_all m (dropped_block k result value) x ≡ m x
-    dropped_keeps k more None value m = refl
-    dropped_keeps k more (Some word) value m = let low = spares.below in with_value-other m k x (value_in m (value_given value) ∷ []) (λ q. omega arith)
 
   mutual
     pub statement_keeps : {scope : Scope} {control : Label} {s : StatementTree} → IsWellTyped earlier scope control s → (names : Numbers) (n : ℕ) → Ready earlier scope names n → (x : ℕ) → Spares names n x → (m : Values)
@@ -116,8 +117,9 @@ module _ (earlier : List ProcedureTree) where
         let k = n + length (call_variables (callables earlier c.name) c.arguments) in
         let result = call_result (callables earlier c.name) in
         let value = call_value (callables earlier c.name) names n c.arguments in
+        let low = spares.below in
         ap (λ (end : Values). end x) (after_chain tree (dropped_block k result value) m)
-        ∙ (dropped_keeps scope names n ready x spares k (omega arith) result value (after_all m tree) ∙ (call_means earlier scope names n ready is).keeps x spares m)
+        ∙ (dropped_keeps k x (omega arith) result value (after_all m tree) ∙ (call_means earlier scope names n ready is).keeps x spares m)
     statement_keeps (chooses {condition = condition} {accepted = accepted} {otherwise = otherwise} has one other) names n ready x spares m =
         let k = n + numbers_taken_all (callables earlier) accepted in
         either_arm (value_in m (term names condition) == 0) x (after_all m (block (callables earlier) names n accepted)) (after_all m (block (callables earlier) names k otherwise)) m

@@ -60,6 +60,10 @@ no_word_left SingleWord vs off = absurd (true≢false off)
 no_word_left FixedArray vs off = refl
 no_word_left MutableArray vs off = refl
 
+-- what is put where a type is wanted has its kind
+pub kind_suits : {given wanted : WordType} → rules.Suits given wanted → given.kind ≡ wanted.kind
+kind_suits (rules.suits flow) = refl
+
 -- the called body's names hold what their variables do
 abbrev pub AreHeld : Numbers → ℕ → List ParameterTree → List ExprTree → State → Values → List Word → Type 0
 AreHeld names n ps es s m vs =
@@ -135,9 +139,6 @@ module _ (scope : Scope) (names : Numbers) (types : Types) (s : State) where
   passed_comes (one_passed {p = p} {ps = ps} {argument = e} {arguments = es} is shares are) small n linked m shows =
       by_form (is_word p.form) refl (passed_comes are small.1)
     where
-      kind_suits : {given wanted : WordType} → rules.Suits given wanted → given.kind ≡ wanted.kind
-      kind_suits (rules.suits flow) = refl
-
       by_form : (b : Bool) → is_word p.form ≡ b
           → ((n' : ℕ) → Linked scope names types n' → (m' : Values) → Shows names s m' → Comes (EvaluatesAll s (word_arguments ps es)) (AreHeld names n' ps es s m') (first_fault (path_along m' (passed names n' ps es))))
           → Goal p ps e es n m (is_word p.form) p.form
