@@ -1,10 +1,10 @@
 -- How large a body with numbered variables is, and the bounds that it keeps.
-use Rattle.std.specs.Prelude.{◌≡◌, ℕ, ◌+◌, ◌*◌, ◌≤◌, List, [], ◌∷◌, Option, None, Some}
+use Rattle.std.specs.Prelude.{◌≡◌, ℕ, ◌+◌, ◌*◌, ◌≤◌, List, [], ◌∷◌, map, Option, None, Some}
 use Rattle.std.specs.List.{AllByRecursion}
 use Rattle.inline.specs.declared.flat.FlatVariable.{FlatVariable}
-use Rattle.inline.specs.Flat.{TermTree, number, truth, variable, prefix, binary, rotate, convert, select, element, FlatTree, declare, array, assign, put, hold, skip, branch, loop, FlatBlock, nothing, first, FlatProgram}
+use Rattle.inline.specs.Flat.{TermTree, number, truth, variable, prefix, binary, rotate, convert, select, element, FlatTree, declare, array, assign, put, hold, skip, branch, loop, FlatBlock, nothing, first, FlatProgram, declaration_of}
 pub use Rattle.inline.specs.declared.limits.TheConstants.{MOST_VARIABLE_BYTES}
-use Rattle.language.specs.declared.limits.TheConstants.{MOST_NODES, MOST_ELEMENTS}
+use Rattle.language.specs.declared.limits.TheConstants.{MOST_NODES, MOST_DECLARED_BYTES, MOST_ELEMENTS}
 use Rattle.language.specs.declared.signature.Form.{Form}
 use Rattle.language.specs.declared.signature.Form.TheVariants.{SingleWord, FixedArray, MutableArray}
 use Rattle.language.specs.declared.signature.Param.{Param}
@@ -71,6 +71,8 @@ HasLength MutableArray length = (1 ≤ length) × (length ≤ MOST_ELEMENTS)
 -- a program within the limits on size
 pub record IsSized (p : FlatProgram) : Type 0 where
   pub lengths : AllByRecursion (λ (parameter : Param). HasLength parameter.form parameter.length) p.parameters
+  -- the parameters are within what the source may declare
+  pub parameters : 4 * declared_words (map declaration_of p.parameters) ≤ MOST_DECLARED_BYTES
   -- what the source declares, and the words that are held besides: one for every three nodes at most
   pub declared : 4 * declared_words p.declared ≤ MOST_VARIABLE_BYTES
   -- its nodes are those of the source
