@@ -188,6 +188,7 @@ few_controls p sized = omega (arith, few_all p.body, sized.counted, sized.nodes)
 pub bounded : (p : FlatProgram) → IsTypedProgram p → IsSized p → (ranged p).work ≤ MOST_WORK → IsBounded (straightened (ranged p))
 bounded p typed sized fits = record {
   lengths = sized.lengths;
+  parameters = sized.parameters;
   declared = sized.declared;
   counted = omega (arith, few_nodes_all None 0 p.body, sized.counted);
   nodes = sized.nodes;

@@ -99,7 +99,7 @@ slots_inside low frame (p ∷ ps) room =
 
 -- The result's slot, behind the variables.
 
-returned_is : (declared : List FlatVariable) (low : ℕ) (word : Option WordType) → low ≤ result_offset declared → result_offset declared ≤ 32768
+returned_is : (declared : List FlatVariable) (low : ℕ) (word : Option WordType) → low ≤ result_offset declared → result_offset declared ≤ 40768
     → IfSome (option_map (result_slot declared) word) (λ slot. IsResultSlot low slot)
 returned_is declared low None above few = tt
 returned_is declared low (Some word) above few = record { aligned = omega arith; above = omega (arith, above); fits = omega (arith, few) }
@@ -124,6 +124,7 @@ room_frame p room =
 pub image_allowed : (p : StraightProgram) → HasRoom p → AllByRecursion (λ word. word < 2 ^ 32) (map word_of (program_code p)) → IsImage (image_of p)
 image_allowed p room fit =
     let few = room.parameters in
+    let g = room.given in
     let d = room.declared in
     let n = room.nodes in
     let w = room.work in
@@ -133,7 +134,7 @@ image_allowed p room fit =
     let code = room.code in
     let end = slots_end-slots_from 0 p.parameters in
     record {
-      count = omega (arith, slots, count, few, d);
+      count = omega (arith, slots, count, g);
       slots = slots_are 0 p.parameters room.lengths refl (omega (arith, few, d));
       returned = returned_is p.declared (slots_end 0 (slots_from 0 p.parameters)) p.returned (omega (arith, end, few)) d;
       frame_aligned = omega arith;

@@ -34,7 +34,7 @@ known_but : (declared : List FlatVariable) (x y : ℕ) (d : FlatVariable) (b : B
 known_but declared x y d true is = absurd (no_variable d is)
 known_but declared x y d false is = known_among declared y d is
 
-module _ (declared : List FlatVariable) (controls depths : ℕ) (small : 4 * declared_words declared ≤ 32768) where
+module _ (declared : List FlatVariable) (controls depths : ℕ) (small : 4 * declared_words declared ≤ 40768) where
   abbrev free : ℕ
   free = temporaries_offset declared controls depths
 
@@ -48,7 +48,7 @@ module _ (declared : List FlatVariable) (controls depths : ℕ) (small : 4 * dec
       let r = le-max_right (height_of e) (height_of_all es) in
       ((typed_within (length declared) (types_but declared x) (λ y d is. known_but declared x y d (y == x) is) suit.0.has_type, omega (arith, room, l)), values_placed x word es suit.1 (omega (arith, room, r)))
 
-  fits_in_frame : (x size : ℕ) (word : WordType) (mutable : Bool) → slice_get declared x ≡ Some (array_as word mutable size) → (size ≤ 65536) × (variable_offset declared x + 4 * size ≤ 131072)
+  fits_in_frame : (x size : ℕ) (word : WordType) (mutable : Bool) → slice_get declared x ≡ Some (array_as word mutable size) → (size ≤ 65536) × (variable_offset declared x + 4 * size ≤ 262144)
   fits_in_frame x size word mutable known =
       let e = ends_before_result declared x (array_as word mutable size) known in
       let n = elements_in_words word.kind size in

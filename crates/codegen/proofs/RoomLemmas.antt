@@ -74,6 +74,7 @@ module _ (p : StraightProgram) (typed : IsTypedStraight p) (is : IsBounded p) wh
     typed = typed;
     lengths = is.lengths;
     parameters = parameters;
+    given = is.parameters;
     declared = is.declared;
     nodes = is.nodes;
     work = is.work_fits;

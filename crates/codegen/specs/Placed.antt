@@ -31,7 +31,7 @@ module _ (declared : List FlatVariable) (controls depths : ℕ) where
     HasPlace depth (set x value) = (x < length declared) × IsPlaced (length declared) free_from value
     HasPlace depth (clear x size) = (x < length declared) × (size ≤ 65536)
     HasPlace depth (fill x values) =
-        (x < length declared) × ArePlacedTerms (length declared) free_from values × (variable_offset declared x + 4 * length values ≤ 131072)
+        (x < length declared) × ArePlacedTerms (length declared) free_from values × (variable_offset declared x + 4 * length values ≤ 262144)
     HasPlace depth (put place x size index value) =
         (x < length declared) × IsPlaced (length declared) free_from index × IsPlaced (length declared) (free_from + 4) value
     HasPlace depth (take control within condition) =

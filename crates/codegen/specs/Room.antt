@@ -8,6 +8,7 @@ use Rattle.codegen.specs.Emitted.{depth_in_all}
 use Rattle.codegen.specs.Generated.{program_code, program_height}
 use Rattle.codegen.specs.Layout.{Frame}
 use Rattle.inline.specs.Flat.{declaration_of}
+use Rattle.inline.specs.declared.limits.TheConstants.{MOST_VARIABLE_BYTES}
 use Rattle.inline.specs.FlatSize.{HasLength, declared_words, value_nodes}
 use Rattle.intervals.specs.declared.limits.TheConstants.{MOST_WORK}
 use Rattle.language.specs.declared.limits.TheConstants.{MOST_NODES, MOST_DECLARED_BYTES}
@@ -17,7 +18,8 @@ pub record HasRoom (p : StraightProgram) : Type 0 where
   pub typed : IsTypedStraight p
   pub lengths : AllByRecursion (λ (parameter : Param). HasLength parameter.form parameter.length) p.parameters
   pub parameters : declared_words (map declaration_of p.parameters) ≤ declared_words p.declared
-  pub declared : 4 * declared_words p.declared ≤ MOST_DECLARED_BYTES
+  pub given : 4 * declared_words (map declaration_of p.parameters) ≤ MOST_DECLARED_BYTES
+  pub declared : 4 * declared_words p.declared ≤ MOST_VARIABLE_BYTES
   pub nodes : p.nodes ≤ MOST_NODES
   pub work : p.work ≤ MOST_WORK
   pub worked : block_work p.turns p.body + value_nodes p.value ≤ p.work

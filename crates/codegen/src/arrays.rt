@@ -91,7 +91,7 @@ pub fn fill(
     values: &[Term],
 ) -> Result<(), AllocError>
     requires placed { ArePlacedTerms (length layout.now.declared) free (map term_tree values.now) }
-    requires room { offset + 4 * length values.now ≤ 131072 }
+    requires room { offset + 4 * length values.now ≤ 262144 }
     ensures { OnOk result (code.new.items ≡ code.old.items ++ fill_code layout.now.declared free kind offset (map term_tree values.now)) }
 {
     let mut place = offset;

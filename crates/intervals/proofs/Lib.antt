@@ -12,4 +12,5 @@ pub mod LooseTerms
 pub mod LooseNarrowing
 pub mod LooseStatements
 pub mod Counting
+pub mod EvaluatedLemmas
 mod Examples

@@ -6,3 +6,4 @@ pub mod Narrowing
 pub mod Undoing
 pub mod Ranges
 pub mod Work
+pub mod Evaluated

@@ -1,12 +1,15 @@
 // The laws, which hold of the definitions alone.
 
-ghost use Rattle.std.specs.Prelude.{◌≡◌, ℕ, List, length};
+ghost use Rattle.std.specs.Prelude.{◌≡◌, ℕ, ◌+◌, ◌≤◌, List, length};
 ghost use Rattle.arguments.specs.Within.{AreWithin};
 ghost use Rattle.inline.specs.Flat.{FlatProgram};
 ghost use Rattle.inline.specs.FlatMeaning.{ending_of, outcome_of, path_of};
+ghost use Rattle.inline.specs.FlatSize.{value_nodes};
 ghost use Rattle.inline.specs.FlatTyping.{IsTypedProgram};
+ghost use Rattle.intervals.specs.Evaluated.{evaluated_by};
 ghost use Rattle.intervals.specs.Loose.{IsLooseRun, IsSafe};
 ghost use Rattle.intervals.specs.Ranges.{range_violations, turns_of};
+ghost use Rattle.intervals.specs.Work.{body_work};
 ghost use Rattle.language.specs.Meaning.{gives};
 ghost use Rattle.language.specs.declared.values.Arg.{Arg};
 
@@ -25,4 +28,10 @@ pub fn safe_runs_meet_no_fault()
 /// it are, meets a fault or makes more turns in a loop than are counted for it.
 pub fn accepted_is_safe()
     ensures { (p : FlatProgram) → IsTypedProgram p → length (range_violations p) ≡ 0 → IsSafe p (turns_of p) }
+{}
+
+/// A run of a safe program on arguments within its parameter types evaluates at most as many nodes as its work.
+pub fn safe_runs_are_within_work()
+    ensures { (p : FlatProgram) (turns : List ℕ) (args : List Arg) → IsSafe p turns → AreWithin p.parameters args
+        → evaluated_by p args ≤ body_work turns p.body + value_nodes p.value }
 {}

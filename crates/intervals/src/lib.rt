@@ -16,7 +16,9 @@ mod walk;
 mod work;
 
 pub use interval::Interval;
-pub use laws::{accepted_is_safe, safe_runs_meet_no_fault, strict_runs_are_loose};
+pub use laws::{
+    accepted_is_safe, safe_runs_are_within_work, safe_runs_meet_no_fault, strict_runs_are_loose,
+};
 pub use limits::MOST_WORK;
 pub use ranged::Ranged;
 pub use ranges::check_ranges;

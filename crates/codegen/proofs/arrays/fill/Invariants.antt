@@ -11,5 +11,5 @@ invariant-loop-value l =
     record {
       code : l.code.items ++ fill_code l.layout.declared l.free l.kind l.place (map term_tree rest) ≡ l.fn.code.items ++ fill_code l.fn.layout.declared l.fn.free l.fn.kind l.fn.offset (map term_tree l.fn.values);
       placed : ArePlacedTerms (length l.layout.declared) l.free (map term_tree rest);
-      room : l.place + 4 * length rest ≤ 131072;
+      room : l.place + 4 * length rest ≤ 262144;
     }
