@@ -6,3 +6,9 @@ pub mod Parameters
 pub mod TypesKept
 pub mod Fitting
 pub mod FittingBodies
+pub mod KnownNames
+pub mod BlockLemmas
+pub mod RowLemmas
+pub mod PassLemmas
+pub mod NumberingLemmas
+pub mod Measures

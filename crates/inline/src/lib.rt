@@ -2,6 +2,8 @@
 // source means, with the same types and labels. Stands on the syntax tree and its typing.
 #![tactic(auto)]
 
+mod bodies;
+mod calls;
 mod flat;
 mod laws;
 mod limits;
