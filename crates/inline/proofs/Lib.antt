@@ -12,3 +12,4 @@ pub mod RowLemmas
 pub mod PassLemmas
 pub mod NumberingLemmas
 pub mod Measures
+pub mod CallLemmas

@@ -7,7 +7,7 @@ ghost use Rattle.inline.specs.Numbering.{begun, naming, number_given, own_variab
 ghost use Rattle.language.specs.Meaning.{named};
 ghost use Rattle.language.specs.Tree.{expr_tree, parameter_tree, procedure_tree};
 
-use crate::numbering::{Numbered, Numbering};
+use crate::numbering::{Numbered, Numbering, add};
 use crate::{FlatStatement, FlatVariable};
 use language::{Expr, Form, Parameter, Procedure, WordType};
 use names::Names;
@@ -57,22 +57,22 @@ impl<'a> Numbering<'a> {
     /// Passes an argument: a word is put into a variable, an array keeps the caller's number.
     #[tactic(auto, using(crate::proofs::BlockLemmas::chain_nothing))]
     fn pass_one(
-        &mut self,
+        &self,
         own: &mut Names<'a, Numbered>,
         parameter: &Parameter<'a>,
         argument: &Expr<'a>,
+        declared: &mut Vec<FlatVariable>,
         flat: &mut Vec<FlatStatement>,
     ) -> Result<(), AllocError>
-        ensures block { OnOk result (flat_block flat.new.items ≡ chain (flat_block flat.old.items) (passed self.old.names (length self.old.declared.items) (parameter_tree parameter.now ∷ []) (expr_tree argument.now ∷ []))) }
-        ensures own { OnOk result (own.new ≡ begun self.old.names own.old (length self.old.declared.items) (parameter_tree parameter.now ∷ []) (expr_tree argument.now ∷ [])) }
-        ensures names { OnOk result (self.new.names ≡ self.old.names) }
-        ensures declared { OnOk result (self.new.declared.items ≡ self.old.declared.items ++ passed_variables (parameter_tree parameter.now ∷ []) (expr_tree argument.now ∷ [])) }
+        ensures block { OnOk result (flat_block flat.new.items ≡ chain (flat_block flat.old.items) (passed self.now.names (length declared.old.items) (parameter_tree parameter.now ∷ []) (expr_tree argument.now ∷ []))) }
+        ensures own { OnOk result (own.new ≡ begun self.now.names own.old (length declared.old.items) (parameter_tree parameter.now ∷ []) (expr_tree argument.now ∷ [])) }
+        ensures declared { OnOk result (declared.new.items ≡ declared.old.items ++ passed_variables (parameter_tree parameter.now ∷ []) (expr_tree argument.now ∷ [])) }
     {
         let declaration = FlatVariable::parameter(parameter.param());
         let number = match parameter.form {
             Form::SingleWord => {
                 let value = self.term(argument)?;
-                let number = self.add(declaration)?;
+                let number = add(declared, declaration)?;
                 let word = WordType {
                     kind: parameter.kind,
                     label: parameter.label,
@@ -94,22 +94,22 @@ impl<'a> Numbering<'a> {
 
     /// Passes the arguments of a call from the first to the last, and gives the names in which the called body begins.
     pub(crate) fn pass(
-        &mut self,
+        &self,
         parameters: &[Parameter<'a>],
         arguments: &[Expr<'a>],
+        declared: &mut Vec<FlatVariable>,
         flat: &mut Vec<FlatStatement>,
-    ) -> Result<Names<'a, Numbered>, AllocError>
-        ensures block { OnOk result (flat_block flat.new.items ≡ chain (flat_block flat.old.items) (passed self.old.names (length self.old.declared.items) (map parameter_tree parameters.now) (map expr_tree arguments.now))) }
-        ensures own { IfOk result (λ own. own ≡ begun self.old.names [] (length self.old.declared.items) (map parameter_tree parameters.now) (map expr_tree arguments.now)) }
-        ensures names { OnOk result (self.new.names ≡ self.old.names) }
-        ensures declared { OnOk result (self.new.declared.items ≡ self.old.declared.items ++ passed_variables (map parameter_tree parameters.now) (map expr_tree arguments.now)) }
+    ) -> Result<Numbering<'a>, AllocError>
+        ensures block { OnOk result (flat_block flat.new.items ≡ chain (flat_block flat.old.items) (passed self.now.names (length declared.old.items) (map parameter_tree parameters.now) (map expr_tree arguments.now))) }
+        ensures own { IfOk result (λ own. own.names ≡ begun self.now.names [] (length declared.old.items) (map parameter_tree parameters.now) (map expr_tree arguments.now)) }
+        ensures declared { OnOk result (declared.new.items ≡ declared.old.items ++ passed_variables (map parameter_tree parameters.now) (map expr_tree arguments.now)) }
     {
-        let mut own = Names::new(self.alloc);
+        let mut own = Numbering::new(self.alloc);
         for (index, parameter) in parameters.iter().enumerate() {
             let Some(argument) = arguments.get(index) else {
                 return Ok(own);
             };
-            self.pass_one(&mut own, parameter, argument, flat)?;
+            self.pass_one(&mut own.names, parameter, argument, declared, flat)?;
         }
         Ok(own)
     }

@@ -2,13 +2,13 @@
 // source means, with the same types and labels. Stands on the syntax tree and its typing.
 #![tactic(auto)]
 
-mod bodies;
 mod calls;
 mod flat;
 mod laws;
 mod limits;
 mod numbering;
 mod program;
+mod statements;
 
 pub use flat::{FlatStatement, FlatVariable, Term};
 pub use laws::{flat_values_fit, typed_values_fit};

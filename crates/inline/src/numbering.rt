@@ -42,55 +42,50 @@ pub(crate) fn counter() -> FlatVariable
     FlatVariable::word(word, false)
 }
 
-/// The numbers of the names in the scope of one body, and all variables that have been declared: the next one
-/// gets the number that they are many.
+/// Declares a variable. It gets the number that those before it are many; where no number is left, memory would not hold
+/// the variables either.
+pub fn add(declared: &mut Vec<FlatVariable>, declaration: FlatVariable) -> Result<u32, AllocError>
+    ensures number { IfOk result (λ number. number ≡ length declared.old.items) }
+    ensures declared { OnOk result (declared.new.items ≡ declared.old.items ++ declaration ∷ []) }
+{
+    let Ok(number) = u32::try_from(declared.len()) else {
+        return Err(AllocError);
+    };
+    declared.push(declaration)?;
+    Ok(number)
+}
+
+/// The numbers of the names in the scope of one body. All variables that have been declared, those of other bodies
+/// among them, are handed along.
 #[derive(Drop)]
 pub struct Numbering<'a> {
     pub(crate) alloc: Global,
     pub(crate) names: Names<'a, Numbered>,
-    pub(crate) declared: Vec<FlatVariable>,
 }
 
 impl<'a> Numbering<'a> {
-    /// No names yet: the first gets the number 0.
+    /// No names yet.
     pub fn new(alloc: Global) -> Self
-        ensures names { result.names ≡ [] }
-        ensures declared { result.declared.items ≡ [] }
+        ensures { result.names ≡ [] }
     {
         Numbering {
             alloc,
             names: Names::new(alloc),
-            declared: Vec::new(alloc),
         }
     }
 
-    /// All variables that have been declared, each at its number.
-    pub fn into_declared(self) -> Vec<FlatVariable>
-        ensures { result ≡ self.entry.declared }
-    {
-        self.declared
-    }
-
-    /// Declares a variable without a name. Where no number is left, memory would not hold the variables either.
-    pub(crate) fn add(&mut self, declaration: FlatVariable) -> Result<u32, AllocError>
-        ensures number { IfOk result (λ number. number ≡ length self.old.declared.items) }
-        ensures names { self.new.names ≡ self.old.names }
-        ensures declared { OnOk result (self.new.declared.items ≡ self.old.declared.items ++ declaration ∷ []) }
-    {
-        let Ok(number) = u32::try_from(self.declared.len()) else {
-            return Err(AllocError);
-        };
-        self.declared.push(declaration)?;
-        Ok(number)
-    }
-
     /// Gives a name the next number.
-    pub(crate) fn declare(&mut self, name: &'a str, declaration: FlatVariable) -> Result<u32, AllocError>
-        ensures number { IfOk result (λ number. number ≡ length self.old.declared.items) }
-        ensures names { OnOk result (self.new.names ≡ numbered.naming self.old.names name.now (length self.old.declared.items) declaration) }
-        ensures declared { OnOk result (self.new.declared.items ≡ self.old.declared.items ++ declaration ∷ []) }
+    pub(crate) fn declare(
+        &mut self,
+        name: &'a str,
+        declaration: FlatVariable,
+        declared: &mut Vec<FlatVariable>,
+    ) -> Result<u32, AllocError>
+        ensures number { IfOk result (λ number. number ≡ length declared.old.items) }
+        ensures names { OnOk result (self.new.names ≡ numbered.naming self.old.names name.now (length declared.old.items) declaration) }
+        ensures declared { OnOk result (declared.new.items ≡ declared.old.items ++ declaration ∷ []) }
     {
-        let number = self.add(declaration)?;
+        let number = add(declared, declaration)?;
         self.names.declare(
             name,
             Numbered {
@@ -102,15 +97,19 @@ impl<'a> Numbering<'a> {
     }
 
     /// The parameters without their names, each of which gets a number.
-    pub fn parameters(&mut self, parameters: &[Parameter<'a>]) -> Result<Vec<Param>, AllocError>
+    pub fn parameters(
+        &mut self,
+        parameters: &[Parameter<'a>],
+        declared: &mut Vec<FlatVariable>,
+    ) -> Result<Vec<Param>, AllocError>
         ensures params { IfOk result (λ params. params.items ≡ map numbered.param_of (map parameter_tree parameters.now)) }
-        ensures names { OnOk result (self.new.names ≡ numbered.with_parameters self.old.names (length self.old.declared.items) (map parameter_tree parameters.now)) }
-        ensures declared { OnOk result (self.new.declared.items ≡ self.old.declared.items ++ map declaration_of (map numbered.param_of (map parameter_tree parameters.now))) }
+        ensures names { OnOk result (self.new.names ≡ numbered.with_parameters self.old.names (length declared.old.items) (map parameter_tree parameters.now)) }
+        ensures declared { OnOk result (declared.new.items ≡ declared.old.items ++ map declaration_of (map numbered.param_of (map parameter_tree parameters.now))) }
     {
         let mut params = Vec::new(self.alloc);
         for parameter in parameters {
             let param = parameter.param();
-            self.declare(parameter.name, FlatVariable::parameter(param))?;
+            self.declare(parameter.name, FlatVariable::parameter(param), declared)?;
             params.push(param)?;
         }
         Ok(params)
@@ -222,10 +221,14 @@ impl<'a> Numbering<'a> {
     }
 
     /// A declaration of an array. Its first values are numbered before its name is declared.
-    pub(crate) fn array(&mut self, array: &ArrayDeclaration<'a>) -> Result<FlatStatement, AllocError>
-        ensures statement { IfOk result (λ whole. flat_tree whole ≡ flat.array (length self.old.declared.items) (labelled array.now.kind array.now.label) array.now.mutable array.now.length (map (numbered.term self.old.names) (written (option_map (λ values. map expr_tree values.items) array.now.values)))) }
-        ensures names { OnOk result (self.new.names ≡ numbered.naming self.old.names array.now.name.now (length self.old.declared.items) (array_as (labelled array.now.kind array.now.label) array.now.mutable array.now.length)) }
-        ensures declared { OnOk result (self.new.declared.items ≡ self.old.declared.items ++ array_as (labelled array.now.kind array.now.label) array.now.mutable array.now.length ∷ []) }
+    pub(crate) fn array(
+        &mut self,
+        array: &ArrayDeclaration<'a>,
+        declared: &mut Vec<FlatVariable>,
+    ) -> Result<FlatStatement, AllocError>
+        ensures statement { IfOk result (λ whole. flat_tree whole ≡ flat.array (length declared.old.items) (labelled array.now.kind array.now.label) array.now.mutable array.now.length (map (numbered.term self.old.names) (written (option_map (λ values. map expr_tree values.items) array.now.values)))) }
+        ensures names { OnOk result (self.new.names ≡ numbered.naming self.old.names array.now.name.now (length declared.old.items) (array_as (labelled array.now.kind array.now.label) array.now.mutable array.now.length)) }
+        ensures declared { OnOk result (declared.new.items ≡ declared.old.items ++ array_as (labelled array.now.kind array.now.label) array.now.mutable array.now.length ∷ []) }
     {
         let values = match &array.values {
             Some(values) => self.terms(values)?,
@@ -237,7 +240,7 @@ impl<'a> Numbering<'a> {
         };
         let size = u32::from(array.length);
         let declaration = FlatVariable::array(word, array.mutable, size);
-        let number = self.declare(array.name, declaration)?;
+        let number = self.declare(array.name, declaration, declared)?;
         Ok(FlatStatement::DeclareArray(number, word, array.mutable, size, values))
     }
 

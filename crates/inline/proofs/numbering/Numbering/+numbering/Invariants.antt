@@ -14,9 +14,9 @@ invariant-block-loop-statement l =
     let rest = block_tree (drop l.statement-index l.block) in
     let all = block_tree l.block in
     record {
-      block : chain (flat_block l.flat.items) (block known l.self.names (length l.self.declared.items) rest) ≡ chain (flat_block l.fn.flat.items) (block known l.fn.self.names (length l.fn.self.declared.items) all);
-      names : names_after_all known l.self.names (length l.self.declared.items) rest ≡ names_after_all known l.fn.self.names (length l.fn.self.declared.items) all;
-      declared : l.self.declared.items ++ declared_in_all known rest ≡ l.fn.self.declared.items ++ declared_in_all known all;
+      block : chain (flat_block l.flat.items) (block known l.self.names (length l.declared.items) rest) ≡ chain (flat_block l.fn.flat.items) (block known l.fn.self.names (length l.fn.declared.items) all);
+      names : names_after_all known l.self.names (length l.declared.items) rest ≡ names_after_all known l.fn.self.names (length l.fn.declared.items) all;
+      declared : l.declared.items ++ declared_in_all known rest ≡ l.fn.declared.items ++ declared_in_all known all;
       smaller : nodes_of_block l.earlier (drop l.statement-index l.block) ≤ nodes_of_block l.earlier l.block;
     }
 

@@ -10,10 +10,9 @@ abbrev pub invariant-loop-index : goal.invariant-loop-index
 invariant-loop-index l =
     let ps = map parameter_tree l.parameters in
     let es = map expr_tree l.arguments in
-    let names = l.fn.self.names in
-    let old = l.fn.self.declared.items in
+    let names = l.self.names in
+    let old = l.fn.declared.items in
     record {
-      still : l.self.names ≡ names;
-      all : Passes l.self.names (flat_block l.flat.items) l.own l.self.declared.items (map parameter_tree (drop l.index l.parameters)) (map expr_tree (drop l.index l.arguments))
+      all : Passes names (flat_block l.flat.items) l.own.names l.declared.items (map parameter_tree (drop l.index l.parameters)) (map expr_tree (drop l.index l.arguments))
           (chain (flat_block l.fn.flat.items) (passed names (length old) ps es)) (begun names [] (length old) ps es) (old ++ passed_variables ps es);
     }
