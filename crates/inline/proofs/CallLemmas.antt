@@ -90,9 +90,9 @@ numbered_element r known names old between d bracket text index c held number si
     let given = gives ∙ ap (λ k. value_given (call_value (known c.name) names k c.arguments)) next in
     let hold_is : flat.hold held bracket size position ≡ flat.hold (length old) bracket (size_of names text) (term names index) = cc in
     let put_is : flat.put bracket number size (flat.variable held) value
-        ≡ flat.put bracket (number_of names text) (size_of names text) (flat.variable (length old)) (value_given (call_value (known c.name) names (length old + 1) c.arguments)) = cc in
+    ≡ flat.put bracket (number_of names text) (size_of names text) (flat.variable (length old)) (value_given (call_value (known c.name) names (length old + 1) c.arguments)) = cc in
     let whole =
-        behind_both done one two (chain two (single (flat.put bracket number size (flat.variable held) value))) (single (flat.hold held bracket size position)) (call_block (known c.name) names (length between) c.arguments)
-        (single (flat.put bracket number size (flat.variable held) value)) first then refl
-        ∙ ap (chain done) (ap₂ flat.first hold_is (ap₂ (λ b s. chain b (single s)) (ap (λ k. call_block (known c.name) names k c.arguments) next) put_is)) in
+    behind_both done one two (chain two (single (flat.put bracket number size (flat.variable held) value))) (single (flat.hold held bracket size position)) (call_block (known c.name) names (length between) c.arguments)
+    (single (flat.put bracket number size (flat.variable held) value)) first then refl
+    ∙ ap (chain done) (ap₂ flat.first hold_is (ap₂ (λ b s. chain b (single s)) (ap (λ k. call_block (known c.name) names k c.arguments) next) put_is)) in
     subst (λ b. OnOk r (new ≡ b)) whole last

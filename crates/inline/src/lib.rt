@@ -4,6 +4,7 @@
 
 mod calls;
 mod flat;
+mod inlining;
 mod laws;
 mod limits;
 mod numbering;
@@ -11,6 +12,7 @@ mod program;
 mod statements;
 
 pub use flat::{FlatStatement, FlatVariable, Term};
+pub use inlining::inline;
 pub use laws::{flat_values_fit, typed_values_fit};
 pub use limits::MOST_VARIABLE_BYTES;
 pub use program::Flat;

@@ -15,8 +15,8 @@ use crate::calls::{find, push};
 use crate::numbering::{Numbered, Numbering, add, counter};
 use crate::{FlatStatement, FlatVariable, Term};
 use language::{
-    Assignment, Call, Counter, Declaration, ElementAssignment, Expr, Procedure, RightSide, Statement,
-    WordType,
+    Assignment, Call, Counter, Declaration, ElementAssignment, Expr, Procedure, RightSide,
+    Statement, WordType,
 };
 use std::alloc::AllocError;
 
@@ -113,7 +113,11 @@ impl<'a> Numbering<'a> {
             label: declaration.label,
         };
         let mutable = declaration.mutable;
-        let number = self.declare(declaration.name, FlatVariable::word(word, mutable), declared)?;
+        let number = self.declare(
+            declaration.name,
+            FlatVariable::word(word, mutable),
+            declared,
+        )?;
         push(flat, FlatStatement::Declare(number, word, mutable, value))
     }
 
@@ -158,7 +162,10 @@ impl<'a> Numbering<'a> {
         match &assignment.value {
             RightSide::Value(expr) => {
                 let value = self.term(expr)?;
-                push(flat, FlatStatement::AssignElement(place, number, size, index, value))
+                push(
+                    flat,
+                    FlatStatement::AssignElement(place, number, size, index, value),
+                )
             }
             RightSide::Call(call) => {
                 let held = add(declared, counter())?;
@@ -166,7 +173,10 @@ impl<'a> Numbering<'a> {
                 let given = self.call(earlier, call, declared, flat)?;
                 let index = Term::Variable(held);
                 let value = value_given(given.value);
-                push(flat, FlatStatement::AssignElement(place, number, size, index, value))
+                push(
+                    flat,
+                    FlatStatement::AssignElement(place, number, size, index, value),
+                )
             }
         }
     }
@@ -188,7 +198,10 @@ impl<'a> Numbering<'a> {
         let Given { word, value } = self.call(earlier, call, declared, flat)?;
         if let Some(word) = word {
             let number = add(declared, FlatVariable::word(word, false))?;
-            push(flat, FlatStatement::Declare(number, word, false, value_given(value)))?;
+            push(
+                flat,
+                FlatStatement::Declare(number, word, false, value_given(value)),
+            )?;
         }
         Ok(())
     }
@@ -212,7 +225,10 @@ impl<'a> Numbering<'a> {
         let condition = self.term(condition)?;
         let accepted = self.arm(earlier, accepted, declared)?;
         let otherwise = self.arm(earlier, otherwise, declared)?;
-        push(flat, FlatStatement::Branch(label, condition, accepted, otherwise))
+        push(
+            flat,
+            FlatStatement::Branch(label, condition, accepted, otherwise),
+        )
     }
 
     /// The statements of an arm, whose names are gone where it ends.
