@@ -13,3 +13,6 @@ pub mod PassLemmas
 pub mod NumberingLemmas
 pub mod Measures
 pub mod CallLemmas
+mod SizeLemmas
+mod CountLemmas
+mod LimitLemmas

@@ -7,3 +7,4 @@ pub mod FlatMeaning
 pub mod FlatTyping
 pub mod Fitting
 pub mod FlatSize
+pub mod Measured

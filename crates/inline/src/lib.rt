@@ -2,14 +2,19 @@
 // source means, with the same types and labels. Stands on the syntax tree and its typing.
 #![tactic(auto)]
 
+mod bodies;
 mod calls;
 mod flat;
 mod inlining;
 mod laws;
 mod limits;
+mod measured;
+mod nodes;
 mod numbering;
 mod program;
+mod sizes;
 mod statements;
+mod words;
 
 pub use flat::{FlatStatement, FlatVariable, Term};
 pub use inlining::inline;
