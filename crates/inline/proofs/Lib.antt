@@ -27,6 +27,13 @@ pub mod FlatMeanings
 pub mod TypesKept
 pub mod Fitting
 pub mod FittingBodies
+pub mod KnownNames
+pub mod BlockLemmas
+pub mod RowLemmas
+pub mod PassLemmas
+pub mod NumberingLemmas
+pub mod Measures
+pub mod CallLemmas
 mod SizeLemmas
 mod CountLemmas
 mod LimitLemmas

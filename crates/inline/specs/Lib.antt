@@ -1,6 +1,7 @@
 pub mod Flat
 pub mod Codes
 pub mod Numbering
+pub mod Callees
 pub mod Path
 pub mod FlatMeaning
 pub mod FlatTyping

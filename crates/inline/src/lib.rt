@@ -3,7 +3,9 @@
 #![tactic(auto)]
 
 mod bodies;
+mod calls;
 mod flat;
+mod inlining;
 mod laws;
 mod limits;
 mod measured;
@@ -11,9 +13,11 @@ mod nodes;
 mod numbering;
 mod program;
 mod sizes;
+mod statements;
 mod words;
 
 pub use flat::{FlatStatement, FlatVariable, Term};
+pub use inlining::inline;
 pub use laws::{
     flat_is_sized, flat_is_typed, flat_keeps_meaning, flat_values_fit, typed_values_fit,
 };
