@@ -61,10 +61,10 @@ fits one text bytes program before export image is =
     let same = one_export one text built.program program built.before before built.export export built.judged is.judged in
     let images : built.image ≡ image = same_fields bytes built.image image built.spelled is.spelled in
     let compiled : IsCompiled program before export image =
-        subst (λ (f : Fields). IsCompiled program before export f) images
-        (subst (λ (p : ProcedureTree). IsCompiled program before p built.image) same.2
-        (subst (λ (front : List ProcedureTree). IsCompiled program front built.export built.image) same.1
-        (subst (λ (p : ProgramTree). IsCompiled p built.before built.export built.image) same.0 built.compiled))) in
+    subst (λ (f : Fields). IsCompiled program before export f) images
+    (subst (λ (p : ProcedureTree). IsCompiled program before p built.image) same.2
+    (subst (λ (front : List ProcedureTree). IsCompiled program front built.export built.image) same.1
+    (subst (λ (p : ProgramTree). IsCompiled p built.before built.export built.image) same.0 built.compiled))) in
     record { compiled = compiled; bases = subst (λ (f : Fields). AreBases f code_base frame_base) images (built.bases 0 (omega arith)) }
 
 module _ (program : ProgramTree) (before : List ProcedureTree) (export : ProcedureTree) (image : Fields) (is : Fits program before export image) where

@@ -77,7 +77,8 @@ pub one_export : OneAnswer → (text : List ℕ) (program program' : ProgramTree
 one_export one text program program' before before' export export' (readable reads (fine small in_range in_time)) (readable reads' (fine small' in_range' in_time')) =
     let answer : accepted program ≡ accepted program' = one text (accepted program) (accepted program') reads reads' in
     let same : program ≡ program' = cc in
-    (same, same_export program' before before' export export' (subst (λ (q : ProgramTree). IsWellFormed q before export) same small.well_formed) small'.well_formed)
+    let both = same_export program' before before' export export' (subst (λ (q : ProgramTree). IsWellFormed q before export) same small.well_formed) small'.well_formed in
+    (same, both.0, both.1)
 
 not_passed : (b : Bool) (rule : Rule) → length (when b rule) ≡ 0 → b ≡ false
 not_passed true rule h = absurd (omega (arith, h))

@@ -13,6 +13,7 @@ use Rattle.language.specs.declared.typing.WordType.{WordType}
 use Rattle.language.specs.Known.{first_known, with_known, known_from, nothing_known}
 use Rattle.language.specs.Meaning.{is_word}
 use Rattle.language.specs.Tree.{ExprTree, number, truth, name, prefix, binary, rotate, convert, select, element, CallTree, RightTree, called, computed, StatementTree, declaration, array, assignment, element_assignment, call, conditional, loop, BlockTree, nothing, first, ParameterTree, ReturnTree, ProcedureTree, written}
+use Rattle.language.specs.WellTyped.{labelled}
 use Rattle.word.specs.declared.place.Place.{Place}
 
 module _ (w : Place → ℕ) where
@@ -101,7 +102,8 @@ module _ (w : Place → ℕ) where
   passed_light names n [] es h = tt
   passed_light names n (p ∷ ps) [] h = tt
   passed_light names n (p ∷ ps) (e ∷ es) h =
-      either (is_word p.form) _ _ (term_light names e (omega (arith, h)), passed_light names (n + 1) ps es (omega (arith, h))) (passed_light names n ps es (omega (arith, h)))
+      either (is_word p.form) (flat.first (flat.declare n (labelled p.kind p.label) false (term names e)) (passed names (n + 1) ps es)) (passed names n ps es)
+      (term_light names e (omega (arith, h)), passed_light names (n + 1) ps es (omega (arith, h))) (passed_light names n ps es (omega (arith, h)))
     where
       either : (is : Bool) (a b : FlatBlock) → IsLightBlock a → IsLightBlock b → IsLightBlock (if is then a else b)
       either true a b h k = h
@@ -137,10 +139,11 @@ module _ (w : Place → ℕ) where
     put_light : (names : Numbers) (n : ℕ) (bracket : Place) (text : List ℕ) (index : ExprTree) (r : RightTree) → w bracket ≡ 0 → in_expr w index ≡ 0 → in_right w r ≡ 0
         → IsLightBlock (element_block known names n bracket text index r)
     put_light names n bracket text index (computed e) at h k = ((term_light names index h, at, term_light names e k), tt)
-    put_light names n bracket text index (called c) at h k =
-        ((term_light names index h, at),
-        chain_light (call_block (known c.name) names (n + 1) c.arguments) _ (call_light (known c.name) (light c.name) names (n + 1) c.arguments (omega (arith, k)))
-        ((tt, at, given_light (call_value (known c.name) names (n + 1) c.arguments) (result_light (known c.name) (light c.name) names (n + 1) c.arguments)), tt))
+    put_light names n bracket text index (called c) at h k = (
+      (term_light names index h, at),
+      chain_light (call_block (known c.name) names (n + 1) c.arguments) _ (call_light (known c.name) (light c.name) names (n + 1) c.arguments (omega (arith, k)))
+          ((tt, at, given_light (call_value (known c.name) names (n + 1) c.arguments) (result_light (known c.name) (light c.name) names (n + 1) c.arguments)), tt),
+    )
 
     mutual
       statement_light : (names : Numbers) (n : ℕ) (s : StatementTree) → in_statement w s ≡ 0 → IsLightBlock (numbering.statement known names n s)
@@ -151,15 +154,22 @@ module _ (w : Place → ℕ) where
           chain_light (right_block known names n r) _ (before_light names n r (omega (arith, h))) (right_light names n r (omega (arith, h)), tt)
       statement_light names n (element_assignment place bracket target text index r) h =
           put_light names n bracket text index r (omega (arith, h)) (omega (arith, h)) (omega (arith, h))
-      statement_light names n (call c) h =
-          (tt, chain_light (call_block (known c.name) names n c.arguments) _ (call_light (known c.name) (light c.name) names n c.arguments (omega (arith, h)))
-          (dropped_light (n + length (call_variables (known c.name) c.arguments)) (call_result (known c.name)) (call_value (known c.name) names n c.arguments)
-          (result_light (known c.name) (light c.name) names n c.arguments)))
+      statement_light names n (call c) h = (
+        tt,
+        chain_light (call_block (known c.name) names n c.arguments) _ (call_light (known c.name) (light c.name) names n c.arguments (omega (arith, h)))
+            (dropped_light (n + length (call_variables (known c.name) c.arguments)) (call_result (known c.name)) (call_value (known c.name) names n c.arguments)
+            (result_light (known c.name) (light c.name) names n c.arguments)),
+      )
       statement_light names n (conditional place condition accepted otherwise) h =
           ((term_light names condition (omega (arith, h)), block_light names n accepted (omega (arith, h)), block_light names (n + numbers_taken_all known accepted) otherwise (omega (arith, h))), tt)
-      statement_light names n (loop place counter text low high body) h =
-          ((term_light names low (omega (arith, h)), term_light names high (omega (arith, h)),
-          block_light (naming names text n (word_as counter_type false)) (n + 1) body (omega (arith, h))), tt)
+      statement_light names n (loop place counter text low high body) h = (
+        (
+          term_light names low (omega (arith, h)),
+          term_light names high (omega (arith, h)),
+          block_light (naming names text n (word_as counter_type false)) (n + 1) body (omega (arith, h)),
+        ),
+        tt,
+      )
 
       pub block_light : (names : Numbers) (n : ℕ) (b : BlockTree) → in_block w b ≡ 0 → IsLightBlock (numbering.block known names n b)
       block_light names n nothing h = tt

@@ -1,4 +1,4 @@
-use Rattle.std.proofs.Common.{◌≡◌, ℕ, ◌+◌, ◌*◌, drop, is_some, sym, ap, subst, ◌∙◌, arith, slice_index_or, length}
+use Rattle.std.proofs.Common.{◌≡◌, ◌+◌, ◌*◌, drop, is_some, sym, ap, ◌∙◌, arith, slice_index_or, length}
 use Rattle.rv_machine.specs.Bytes.{ByteMap, number_at, with_number}
 use Rattle.rv_machine.specs.Sizes.{byte_count}
 use Rattle.rv_machine.proofs.ByteLaws.{is_some-with_number}

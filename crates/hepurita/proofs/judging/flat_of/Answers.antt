@@ -1,6 +1,5 @@
 use Rattle.std.proofs.Common.{ap, subst}
 use Rattle.std.proofs.lemmas.Result.{err_from_is_err_and, IfOk-weaker, IfErr-weaker}
-use Rattle.language.specs.declared.tree.Program.{Program}
 use Rattle.language.specs.Tree.{ProgramTree, program_tree}
 use Rattle.hepurita.proofs.BuiltLemmas.{IsAllowedFlat, IsLargeFor, refusal_of_types, refusal_of_export, small_flat}
 use Rattle.hepurita.proofs.judging.flat_of.Goals as goal
