@@ -1,0 +1,9 @@
+// Listings of runs and of code: what an observer sees of an image's run, a line for each entry, and
+// the words of an image with their text.
+#![tactic(auto)]
+
+mod digits;
+mod lines;
+mod turns;
+
+pub use turns::write_run;
