@@ -1,2 +1,3 @@
+pub mod CodeLines
 pub mod Pieces
 pub mod Written

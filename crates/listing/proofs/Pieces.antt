@@ -1,5 +1,7 @@
 -- Bytes put one after another.
-use Rattle.std.proofs.Common.{◌≡◌, ℕ, ◌+◌, ◌<◌, List, ◌++◌, length, take, length-append, append_assoc, sym, ◌∙◌, ap, subst, arith}
+use Rattle.std.proofs.Common.{◌≡◌, ℕ, ◌+◌, ◌<◌, List, ◌++◌, length, take, length-append, append_assoc, sym, ◌∙◌, ap, subst, arith, Result, Ok, Err, OnOk}
+use Rattle.std.specs.Prelude.{if◌then◌else◌}
+use Rattle.std.specs.Result.{is_ok}
 use Rattle.std.proofs.Math.Seq.{take-append-add}
 use Rattle.std.proofs.lemmas.List.{take-append-le}
 use Rattle.streams.specs.Streams.{GainsPart}
@@ -31,3 +33,8 @@ part-of_more before after piece rest part = record {
 pub part-inside : (before now after written piece rest : List ℕ) → now ≡ before ++ written → GainsPart now after piece → GainsPart before after ((written ++ piece) ++ rest)
 part-inside before now after written piece rest so_far part =
     part-of_more before after (written ++ piece) rest (part-at_end before now after written piece so_far part)
+
+-- the bytes after a call that puts more of them or fails, where it did not fail
+pub where_ok : {T E : Type 0} (r : Result T E) (after more before : List ℕ) → after ≡ (if is_ok r then more else before) → OnOk r (after ≡ more)
+where_ok (Ok x) after more before is = is
+where_ok (Err e) after more before is = tt

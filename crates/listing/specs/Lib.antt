@@ -1,3 +1,4 @@
+pub mod Code
 pub mod Lines
 pub mod Listings
 pub mod Turned

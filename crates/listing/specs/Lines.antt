@@ -52,3 +52,7 @@ lines_of seen = entry_lines (entries_of seen)
 -- the line of a stop
 abbrev pub stop_line : Stop → List ℕ
 stop_line stop = codes "stop " ++ stop_name stop ++ codes "\n"
+
+-- how the line of a word begins: the address where it stands, and itself
+abbrev pub word_head : ℕ → ℕ → List ℕ
+word_head address word = eight_digits address ++ codes " " ++ eight_digits word ++ codes " "

@@ -5,5 +5,7 @@
 mod digits;
 mod lines;
 mod turns;
+mod words;
 
 pub use turns::write_run;
+pub use words::list_words;

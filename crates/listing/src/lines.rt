@@ -2,7 +2,7 @@
 
 ghost use Rattle.std.specs.Prelude.{◌≡◌, ◌+◌, ◌≤◌, ◌++◌, ◌∷◌, [], codes, length};
 ghost use Rattle.arrayvec.specs.ArrayVec.{array_vec_len};
-ghost use Rattle.listing.specs.Lines.{eight_digits, size_text, event_line, lines_of, stop_line};
+ghost use Rattle.listing.specs.Lines.{eight_digits, size_text, event_line, lines_of, stop_line, word_head};
 
 use crate::digits::eight;
 use arrayvec::ArrayVec;
@@ -79,6 +79,18 @@ pub fn lines_of(seen: &Observation) -> Lines
         append_event(&mut lines, event);
     }
     lines
+}
+
+/// How the line of a word begins: its address and itself.
+pub fn head_of_word(address: u32, word: u32) -> Lines
+    ensures { result.items ≡ word_head address word }
+{
+    let mut line = Lines::new();
+    append(&mut line, &eight(address));
+    append(&mut line, b" ");
+    append(&mut line, &eight(word));
+    append(&mut line, b" ");
+    line
 }
 
 /// The line of a stop.
