@@ -2,9 +2,12 @@
 
 ghost use Rattle.std.specs.Prelude.{◌≡◌, ℕ, ◌+◌, ◌*◌, ◌^◌, ◌<◌, ◌++◌, List, length, IfOk, OnOk};
 ghost use Rattle.std.specs.String.{string_bytes};
+ghost use Rattle.hepurita.specs.Bases.{code_base};
 ghost use Rattle.listing.specs.Code.{IsTextOf, ListsCode, word_line};
 
 use crate::lines::head_of_word;
+use hepurita::CODE_BASE;
+use image::Image;
 use rv_code::decode;
 use std::alloc::{AllocError, Global};
 
@@ -34,7 +37,7 @@ fn push_line(
 }
 
 /// The listing of words that stand one after another from an address on.
-pub fn list_words(alloc: Global, base: u32, words: &[u32]) -> Result<Vec<u8>, AllocError>
+fn list_words(alloc: Global, base: u32, words: &[u32]) -> Result<Vec<u8>, AllocError>
     requires { base + 4 * length words.now < 2 ^ 32 }
     ensures { IfOk result (λ lines. ListsCode base words.now lines.items) }
 {
@@ -45,4 +48,11 @@ pub fn list_words(alloc: Global, base: u32, words: &[u32]) -> Result<Vec<u8>, Al
         address += 4;
     }
     Ok(lines)
+}
+
+/// The words of an image with their text: a line for each, with its address.
+pub fn list(alloc: Global, image: &Image) -> Result<Vec<u8>, AllocError>
+    ensures { IfOk result (λ lines. ListsCode code_base image.now.words lines.items) }
+{
+    list_words(alloc, CODE_BASE, image.words())
 }
