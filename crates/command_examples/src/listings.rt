@@ -9,7 +9,8 @@ const HEAD: [u8; 11] = [0x46, 0x41, 0x43, 0x49, 1, 0, 1, 0, 0, 0, 0];
 
 const DIVIDES: [u32; 3] = [0x0090_0313, 0x0273_52b3, 0x0000_0073];
 
-const DIVISION: &[u8] = b"pc 00010000\npc 00010004\ndiv 00000009 00000000\npc 00010008\nstop Ecall\n";
+const DIVISION: &[u8] =
+    b"pc 00010000\npc 00010004\ndiv 00000009 00000000\npc 00010008\nstop Ecall\n";
 
 /// An image of these words, with no parameter and no result.
 fn image_of(rt: &(impl Abort + AllocGlobal), frame: u32, steps: u64, words: &[u32]) -> Vec<u8> {
@@ -20,10 +21,14 @@ fn image_of(rt: &(impl Abort + AllocGlobal), frame: u32, steps: u64, words: &[u3
         steps.to_le_bytes().as_slice(),
         &count.to_le_bytes()[..4],
     ] {
-        image.extend_from_slice(part).expect(rt, "memory for an image");
+        image
+            .extend_from_slice(part)
+            .expect(rt, "memory for an image");
     }
     for word in words {
-        image.extend_from_slice(&word.to_le_bytes()).expect(rt, "memory for an image");
+        image
+            .extend_from_slice(&word.to_le_bytes())
+            .expect(rt, "memory for an image");
     }
     image
 }
@@ -39,13 +44,7 @@ fn printed(rt: &(impl Abort + AllocGlobal), image: &[u8], words: &[&str]) -> (u8
 }
 
 /// Lists the run of an image of these words, with 3 steps.
-fn leaks(
-    rt: &(impl Abort + AllocGlobal),
-    frame: u32,
-    words: &[u32],
-    status: u8,
-    listing: &[u8],
-) {
+fn leaks(rt: &(impl Abort + AllocGlobal), frame: u32, words: &[u32], status: u8, listing: &[u8]) {
     let image = image_of(rt, frame, 3, words);
     let (answer, out) = printed(rt, image.as_slice(), &["factc", "leak", "in"]);
     assert_eq!(rt; out.as_slice(), listing);
@@ -54,10 +53,28 @@ fn leaks(
 
 #[test]
 fn lists_what_an_observer_sees(rt: HostRuntime) {
-    leaks(&rt, 0, &[0x0010_0093, 0x0000_0073], 0, b"pc 00010000\npc 00010004\nstop Ecall\n");
-    leaks(&rt, 0, &[0x0010_0093, 0], 5, b"pc 00010000\npc 00010004\nstop Illegal\n");
+    leaks(
+        &rt,
+        0,
+        &[0x0010_0093, 0x0000_0073],
+        0,
+        b"pc 00010000\npc 00010004\nstop Ecall\n",
+    );
+    leaks(
+        &rt,
+        0,
+        &[0x0010_0093, 0],
+        5,
+        b"pc 00010000\npc 00010004\nstop Illegal\n",
+    );
     leaks(&rt, 0, &DIVIDES, 0, DIVISION);
-    leaks(&rt, 0, &[0x0001_2283, 0x0000_0073], 5, b"pc 00010000\nstop AccessFault\n");
+    leaks(
+        &rt,
+        0,
+        &[0x0001_2283, 0x0000_0073],
+        5,
+        b"pc 00010000\nstop AccessFault\n",
+    );
 }
 
 #[test]
@@ -72,9 +89,21 @@ fn lists_how_code_of_others_stops(rt: HostRuntime) {
         b"pc 00010000\nstore 10000004 4\npc 00010004\nstop Ecall\n",
     );
     let loads_code = [0x0001_02b7, 0x0002_a303];
-    leaks(&rt, 0, &loads_code, 5, b"pc 00010000\npc 00010004\nstop AccessFault\n");
+    leaks(
+        &rt,
+        0,
+        &loads_code,
+        5,
+        b"pc 00010000\npc 00010004\nstop AccessFault\n",
+    );
     leaks(&rt, 0, &[0x0020_0067], 5, b"pc 00010000\nstop Misaligned\n");
-    leaks(&rt, 0, &[0x0040_0067], 5, b"pc 00010000\nstop AccessFault\n");
+    leaks(
+        &rt,
+        0,
+        &[0x0040_0067],
+        5,
+        b"pc 00010000\nstop AccessFault\n",
+    );
     leaks(
         &rt,
         0,
@@ -86,7 +115,12 @@ fn lists_how_code_of_others_stops(rt: HostRuntime) {
 
 #[test]
 fn lists_words_with_their_text(rt: HostRuntime) {
-    let image = image_of(&rt, 0, 3, &[0x0013_5293, 0x4013_5293, 0x0213_5293, 0x0001_2283]);
+    let image = image_of(
+        &rt,
+        0,
+        3,
+        &[0x0013_5293, 0x4013_5293, 0x0213_5293, 0x0001_2283],
+    );
     let (status, out) = printed(&rt, image.as_slice(), &["factc", "list", "in"]);
     assert_eq!(rt; status, 0);
     assert_eq!(rt;

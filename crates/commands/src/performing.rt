@@ -23,6 +23,7 @@ const EVALUATION_BUDGET: u64 = 1 << 32;
 
 /// The exit status of what is done, and that of a run that is listed and stops otherwise than by ECALL.
 const DONE: u8 = 0;
+
 const STOPPED: u8 = 5;
 
 const OUT_OF_MEMORY: &str = "refused: M1: memory\n";

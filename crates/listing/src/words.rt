@@ -22,12 +22,7 @@ fn text_of(alloc: Global, word: u32) -> Result<String, AllocError>
 }
 
 /// Puts the line of a word at the end.
-fn push_line(
-    alloc: Global,
-    lines: &mut Vec<u8>,
-    address: u32,
-    word: u32,
-) -> Result<(), AllocError>
+fn push_line(alloc: Global, lines: &mut Vec<u8>, address: u32, word: u32) -> Result<(), AllocError>
     ensures { OnOk result ((text : List ℕ) × IsTextOf word text × (lines.new.items ≡ lines.old.items ++ word_line address word text)) }
 {
     let text = text_of(alloc, word)?;

@@ -84,8 +84,8 @@ loop-turn-preserved g c =
     let last = went.0 ∷ [] in
     let on = leads_on code c.args.budget s c.loop-turn._turn t led.0 led.1 went.0 u went.2 in
     let wrote : IsTrue g.W.Sink.TELLS → g.W.Sink.taken c.write_seen.new.sink ≡ g.W.Sink.taken c.args.sink.now ++ lines_of (led.0 ++ last) = λ tells.
-        subst (λ (l : List Observation). g.W.Sink.taken c.write_seen.new.sink ≡ g.W.Sink.taken c.args.sink.now ++ lines_of (led.0 ++ l)) went.1
-        (wrote_more (g.W.Sink.taken c.args.sink.now) (g.W.Sink.taken c.loop-turn.sink) led.0 (led.2 tells) (g.W.Sink.taken c.write_seen.new.sink) (listed c.turn-seen.result.0) (c.in_ok-write_seen.ensures.whole tells)) in
+    subst (λ (l : List Observation). g.W.Sink.taken c.write_seen.new.sink ≡ g.W.Sink.taken c.args.sink.now ++ lines_of (led.0 ++ l)) went.1
+    (wrote_more (g.W.Sink.taken c.args.sink.now) (g.W.Sink.taken c.loop-turn.sink) led.0 (led.2 tells) (g.W.Sink.taken c.write_seen.new.sink) (listed c.turn-seen.result.0) (c.in_ok-write_seen.ensures.whole tells)) in
     record {
       led = (led.0 ++ last, on, wrote);
       calm = c.in_ok-write_seen.ensures.calm ∙ c.loop-turn.invariant.calm;
