@@ -7,7 +7,7 @@ use Rattle.rv_machine.specs.declared.observation.Observation.{Observation}
 use Rattle.rv_machine.specs.declared.stops.Stop.{Stop}
 use Rattle.rv_machine.specs.declared.stops.Stop.TheVariants.{Budget, RecorderRefused}
 use Rattle.rv_machine.specs.Entries.{Entry, entries_of}
-use Rattle.rv_machine.specs.Leakage.{Leads, stays, turns, halts, Done, went_on, stopped, refused, Runs, halted, cut_short, spent}
+use Rattle.rv_machine.specs.Leakage.{Leads, stays, turns, halts, Done, went_on, stopped, refused, Runs, halted, spent}
 use Rattle.rv_machine.specs.Machine.{State, Code, Ending, goes_on, stops, Turn}
 use Rattle.rv_machine.proofs.RunLaws.{Leads-more}
 use Rattle.rv_machine.proofs.Shown.{entries_of-append}

@@ -1,12 +1,11 @@
 -- Each turn's lines, and the line of the stop.
-use Rattle.std.proofs.Common.{◌≡◌, ◌++◌, ◌∷◌, [], List, Option, IsTrue, append-nil, refl, sym, ap, ◌∙◌, subst, arith}
+use Rattle.std.proofs.Common.{◌≡◌, ◌++◌, ◌∷◌, [], List, IsTrue, append-nil, refl, sym, ◌∙◌, subst, arith}
 use Rattle.std.proofs.lemmas.Result.{on_err_weaker}
-use Rattle.streams.specs.Streams.{GainsPart, Writes, WritesPart}
+use Rattle.streams.specs.Streams.{Writes}
 use Rattle.rv_machine.specs.declared.observation.Observation.{Observation}
-use Rattle.rv_machine.specs.declared.stops.Stop.{Stop}
 use Rattle.rv_machine.specs.declared.stops.Stop.TheVariants.{Budget}
 use Rattle.rv_machine.specs.Harts.{state_of}
-use Rattle.rv_machine.specs.Leakage.{Leads, stays}
+use Rattle.rv_machine.specs.Leakage.{stays}
 use Rattle.rv_machine.specs.Regions.{code_of}
 use Rattle.listing.specs.Lines.{lines_of}
 use Rattle.listing.specs.Listings.{Ends, IsListing}
