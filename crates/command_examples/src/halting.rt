@@ -1,4 +1,4 @@
-use crate::memory_files::{MemoryFiles, Motion};
+use crate::memory_files::{FAST, MemoryFiles, Motion};
 use crate::slow_streams::SlowSink;
 use commands::command;
 use std::alloc::Global;
@@ -11,12 +11,6 @@ const PLAIN_IMAGE: [u8; 35] = [
     0x46, 0x41, 0x43, 0x49, 1, 0, 1, 0, 0, 0, 0, 0, 0, 0, 0, 2, 0, 0, 0, 0, 0, 0, 0, 2, 0, 0, 0,
     0x93, 0, 0x10, 0, 0x73, 0, 0, 0,
 ];
-
-const FAST: Motion = Motion {
-    slow: false,
-    good_reads: None,
-    good_writes: None,
-};
 
 const SLOW: Motion = Motion {
     slow: true,

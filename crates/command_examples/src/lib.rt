@@ -5,6 +5,8 @@
 #[cfg(test)]
 mod halting;
 #[cfg(test)]
+mod listings;
+#[cfg(test)]
 mod memory_files;
 #[cfg(test)]
 mod slow_streams;

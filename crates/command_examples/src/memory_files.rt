@@ -14,6 +14,13 @@ pub struct Motion {
     pub good_writes: Option<u64>,
 }
 
+/// Streams that move all bytes at once, and never fail.
+pub const FAST: Motion = Motion {
+    slow: false,
+    good_reads: None,
+    good_writes: None,
+};
+
 /// Files in memory. Each can be read, with the same bytes, and each can be written.
 #[derive(Drop)]
 pub struct MemoryFiles {

@@ -14,7 +14,9 @@ pub fn factc<'a>(alloc: Global) -> Result<Command<'a>, AllocError> {
         .subcommand(build_command(alloc)?)?
         .subcommand(eval_command(alloc)?)?
         .subcommand(run_command(alloc)?)?
-        .subcommand(pair_command(alloc)?)
+        .subcommand(leak_command(alloc)?)?
+        .subcommand(pair_command(alloc)?)?
+        .subcommand(list_command(alloc)?)
 }
 
 fn check_command<'a>(alloc: Global) -> Result<Command<'a>, AllocError> {
@@ -56,6 +58,17 @@ fn run_command<'a>(alloc: Global) -> Result<Command<'a>, AllocError> {
         ))
 }
 
+fn leak_command<'a>(alloc: Global) -> Result<Command<'a>, AllocError> {
+    Command::new(alloc, "leak")
+        .about("Runs an image on arguments and lists what an observer sees, and how the run stops")
+        .arg(path(alloc, "IMAGE", "An image that `build` wrote"))?
+        .arg(arguments(
+            alloc,
+            "One for each parameter: a number (decimal, or hexadecimal after 0x), for a bool 0 or \
+             1, for an array its numbers joined by `,`",
+        ))
+}
+
 fn pair_command<'a>(alloc: Global) -> Result<Command<'a>, AllocError> {
     Command::new(alloc, "pair")
         .about("Runs an image twice and says whether an observer sees the same, or where not")
@@ -65,6 +78,12 @@ fn pair_command<'a>(alloc: Global) -> Result<Command<'a>, AllocError> {
             "Those of the first run, one for each parameter and as for `run`, then those of the \
              second",
         ))
+}
+
+fn list_command<'a>(alloc: Global) -> Result<Command<'a>, AllocError> {
+    Command::new(alloc, "list")
+        .about("Lists the code of an image: each word with its address and its instruction")
+        .arg(path(alloc, "IMAGE", "An image that `build` wrote"))
 }
 
 fn path<'a>(alloc: Global, name: &'a str, help: &'a str) -> Arg<'a> {

@@ -20,9 +20,16 @@ pub enum Request<'a> {
         image: &'a str,
         arguments: &'a [&'a str],
     },
+    Leak {
+        image: &'a str,
+        arguments: &'a [&'a str],
+    },
     Pair {
         image: &'a str,
         arguments: &'a [&'a str],
+    },
+    List {
+        image: &'a str,
     },
 }
 
@@ -76,9 +83,16 @@ fn asked<'a>(alloc: Global, words: &'a [&'a str]) -> Result<Request<'a>, Error> 
             image: text_of(run, "IMAGE"),
             arguments: after_path(words),
         }),
+        Some(("leak", leak)) => Ok(Request::Leak {
+            image: text_of(leak, "IMAGE"),
+            arguments: after_path(words),
+        }),
         Some(("pair", pair)) => Ok(Request::Pair {
             image: text_of(pair, "IMAGE"),
             arguments: after_path(words),
+        }),
+        Some(("list", list)) => Ok(Request::List {
+            image: text_of(list, "IMAGE"),
         }),
         _ => Err(command.error(ErrorKind::MissingSubcommand, "a command is required")?),
     }

@@ -1,4 +1,4 @@
-ghost use Rattle.std.specs.Prelude.{◌≡◌, ◌≤◌, OnOk};
+ghost use Rattle.std.specs.Prelude.{◌≡◌, ◌≤◌, IfOk, OnOk};
 
 use crate::fault::{Fault, FileFault};
 use crate::files::Files;
@@ -8,7 +8,8 @@ use command_line::{NoRequest, Request, parse};
 use hepurita::{RunFault, execute, judge, pair, read_args};
 use image::{Image, LONGEST_IMAGE};
 use language::{Args, Param, Refusal};
-use rv_machine::{NullRecorder, Pairing};
+use listing::{LeakFault, leak, list};
+use rv_machine::{NullRecorder, Pairing, Stop};
 use source_eval::eval;
 use std::alloc::Global;
 use stream_build::{BuildFault, build_source, read_text};
@@ -19,6 +20,11 @@ const STANDARD_OUTPUT: &str = "-";
 
 /// How many nodes `eval` evaluates at most.
 const EVALUATION_BUDGET: u64 = 1 << 32;
+
+/// The exit status of what is done, and that of a run that is listed and stops otherwise than by ECALL.
+const DONE: u8 = 0;
+
+const STOPPED: u8 = 5;
 
 const OUT_OF_MEMORY: &str = "refused: M1: memory\n";
 
@@ -37,7 +43,7 @@ pub fn command<'a, F: Files, O: Sink, E: Sink>(
 {
     match parse(alloc, words) {
         Ok(request) => match perform(alloc, request, files, out) {
-            Ok(()) => 0,
+            Ok(status) => status,
             Err(fault) => report(alloc, &fault, err),
         },
         Err(said) => explain(alloc, said, out, err),
@@ -73,46 +79,57 @@ fn explain<O: Sink, E: Sink>(alloc: Global, said: NoRequest, out: &mut O, err: &
             let _ = put_all(err, text.as_bytes());
             2
         }
-        NoRequest::Help(text) => match print(out, text.as_str()) {
-            Ok(()) => 0,
+        NoRequest::Help(text) => match print(out, text.as_bytes()) {
+            Ok(()) => DONE,
             Err(fault) => report(alloc, &fault, err),
         },
     }
 }
 
+/// Does what is asked for, and answers the exit status. Only a run that is listed, and stops otherwise
+/// than by ECALL, has another one than 0.
 fn perform<'a, F: Files, O: Sink>(
     alloc: Global,
     request: Request<'a>,
     files: &mut F,
     out: &mut O,
-) -> Result<(), Fault<'a>>
-    ensures { OnOk result (O.failures out.new ≡ O.failures out.old) }
+) -> Result<u8, Fault<'a>>
+    ensures known { IfOk result (λ status. status ≤ 5) }
+    ensures calm { OnOk result (O.failures out.new ≡ O.failures out.old) }
 {
     match request {
         Request::Check { file } => {
             check_text(alloc, file, files)?;
-            print(out, "accepted\n")
+            print(out, b"accepted\n")?;
         }
-        Request::Build { file, image } => build_image(alloc, file, image, files),
+        Request::Build { file, image } => build_image(alloc, file, image, files)?,
         Request::Eval { file, arguments } => {
             let text = evaluate_text(alloc, file, arguments, files)?;
-            print(out, text.as_str())
+            print(out, text.as_bytes())?;
         }
         Request::Run { image, arguments } => {
             let text = run_image(alloc, image, arguments, files)?;
-            print(out, text.as_str())
+            print(out, text.as_bytes())?;
+        }
+        Request::Leak { image, arguments } => {
+            return leak_image(alloc, image, arguments, files, out);
         }
         Request::Pair { image, arguments } => {
             let text = pair_image(alloc, image, arguments, files)?;
-            print(out, text.as_str())
+            print(out, text.as_bytes())?;
+        }
+        Request::List { image } => {
+            let lines = list_image(alloc, image, files)?;
+            print(out, lines.as_slice())?;
         }
     }
+    Ok(DONE)
 }
 
-fn print<O: Sink>(out: &mut O, text: &str) -> Result<(), Fault<'static>>
+fn print<O: Sink>(out: &mut O, bytes: &[u8]) -> Result<(), Fault<'static>>
     ensures { OnOk result (O.failures out.new ≡ O.failures out.old) }
 {
-    match put_all(out, text.as_bytes()) {
+    match put_all(out, bytes) {
         Ok(()) => Ok(()),
         Err(_) => Err(Fault::File(FileFault::CannotWrite(STANDARD_OUTPUT))),
     }
@@ -190,6 +207,47 @@ fn run_image<'a, F: Files>(
     let args = read_args(alloc, params.as_slice(), arguments)?;
     let outcome = execute(alloc, &image, &args, &mut NullRecorder)?;
     Ok(outcome::text_of(alloc, params.as_slice(), &outcome)?)
+}
+
+/// Prints what an observer sees of an image's run on arguments, and how the run stops. Answers the
+/// exit status.
+fn leak_image<'a, F: Files, O: Sink>(
+    alloc: Global,
+    path: &'a str,
+    arguments: &[&str],
+    files: &mut F,
+    out: &mut O,
+) -> Result<u8, Fault<'a>>
+    ensures known { IfOk result (λ status. status ≤ 5) }
+    ensures calm { OnOk result (O.failures out.new ≡ O.failures out.old) }
+{
+    let image = image_of(alloc, path, files)?;
+    let params = hepurita::params(alloc, &image)?;
+    let args = read_args(alloc, params.as_slice(), arguments)?;
+    match leak(alloc, &image, &args, out) {
+        Ok(Stop::Ecall) => Ok(DONE),
+        Ok(_) => Ok(STOPPED),
+        Err(fault) => Err(leak_fault(fault)),
+    }
+}
+
+/// Why a listing was not printed to its end.
+fn leak_fault(fault: LeakFault) -> Fault<'static> {
+    match fault {
+        LeakFault::Argument { rule, index } => Fault::Run(RunFault::Argument { rule, index }),
+        LeakFault::Memory => Fault::Run(RunFault::Memory),
+        LeakFault::Write => Fault::File(FileFault::CannotWrite(STANDARD_OUTPUT)),
+    }
+}
+
+/// The words of an image with their text, as lines.
+fn list_image<'a, F: Files>(
+    alloc: Global,
+    path: &'a str,
+    files: &mut F,
+) -> Result<Vec<u8>, Fault<'a>> {
+    let image = image_of(alloc, path, files)?;
+    Ok(list(alloc, &image)?)
 }
 
 /// Whether an observer sees the same of an image on two lists of arguments, as a line.

@@ -20,5 +20,5 @@ pub use executing::execute;
 pub use fault::RunFault;
 pub use judging::{Accepted, judge};
 pub use laws::{bases_fit, images_do_what_texts_mean, texts_are_compiled};
-pub use loading::{CODE_BASE, FRAME_BASE, params};
+pub use loading::{CODE_BASE, FRAME_BASE, code, load, params};
 pub use reading::read_args;

@@ -1,12 +1,11 @@
 // The image of a text that a source hands out, in memory or on a sink.
 
 ghost use Rattle.std.specs.Prelude.{◌≡◌, ◌≢◌, ◌+◌, length, IsTrue, IfOk, IfErr, OnOk, IsErrOf};
-ghost use Rattle.streams.specs.Streams.{LosesPart};
+ghost use Rattle.streams.specs.Streams.{LosesPart, Writes, WritesPart};
 ghost use Rattle.syntax.specs.declared.lexer.TheConstants.{TEXT_LIMIT};
 ghost use Rattle.word.specs.Counts.{one_more};
 ghost use Rattle.hepurita.specs.Built.{IsBuilt};
 ghost use Rattle.stream_build.specs.Faults.{IsText, IsFaultOf};
-ghost use Rattle.stream_build.specs.Writing.{Writes, WritesPart};
 
 use crate::fault::BuildFault;
 use crate::reading::read_text;

@@ -7,6 +7,18 @@ pub record GainsPart (before after bytes : List ℕ) : Type 0 where
   pub some_left : count < length bytes
   pub added : after ≡ before ++ take count bytes
 
+-- to what had gone out, such bytes were added
+pub record Writes (P : List ℕ → Type 0) (before after : List ℕ) : Type 0 where
+  pub bytes : List ℕ
+  pub such : P bytes
+  pub added : after ≡ before ++ bytes
+
+-- to what had gone out, a beginning of such bytes was added, and not all of them
+pub record WritesPart (P : List ℕ → Type 0) (before after : List ℕ) : Type 0 where
+  pub bytes : List ℕ
+  pub such : P bytes
+  pub part : GainsPart before after bytes
+
 -- of what was to come, some bytes were handed out, from its beginning, and at most so many
 pub record LosesPart (before after : List ℕ) (limit : ℕ) : Type 0 where
   pub count : ℕ

@@ -1,0 +1,4 @@
+pub mod CodeLines
+pub mod LeakedLemmas
+pub mod Pieces
+pub mod Written

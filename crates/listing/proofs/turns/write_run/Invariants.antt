@@ -1,0 +1,14 @@
+-- So many turns were made, none of which stopped, and their lines were written.
+use Rattle.std.proofs.Common.{◌≡◌, ◌++◌, List, IsTrue}
+use Rattle.rv_machine.specs.declared.observation.Observation.{Observation}
+use Rattle.rv_machine.specs.Harts.{state_of}
+use Rattle.rv_machine.specs.Leakage.{Leads}
+use Rattle.rv_machine.specs.Regions.{code_of}
+use Rattle.listing.specs.Lines.{lines_of}
+use Rattle.listing.proofs.turns.write_run.Given as goal
+
+abbrev pub invariant-loop-turn : goal.invariant-loop-turn
+invariant-loop-turn g l = record {
+  led : (seen : List Observation) × Leads (code_of l.code) l._turn (state_of l.fn.hart (g.M.Memory.bytes l.fn.memory)) seen (state_of l.hart (g.M.Memory.bytes l.memory)) × (IsTrue g.W.Sink.TELLS → g.W.Sink.taken l.sink ≡ g.W.Sink.taken l.fn.sink ++ lines_of seen);
+  calm : g.W.Sink.failures l.sink ≡ g.W.Sink.failures l.fn.sink;
+}

@@ -1,0 +1,20 @@
+-- The listing of code: a line for each word, with its address and its text.
+use Rattle.std.specs.Prelude.{◌≡◌, ◌≢◌, ℕ, ◌+◌, List, [], ◌∷◌, ◌++◌, codes}
+use Rattle.rv_code.specs.declared.instructions.Instr.{Instr}
+use Rattle.rv_code.specs.Text.{text_of}
+use Rattle.rv_code.specs.Words.{word_of, IsInstr}
+use Rattle.listing.specs.Lines.{word_head}
+
+-- the text of a word: that of its instruction, or `illegal` where it is the word of none
+pub data IsTextOf (word : ℕ) : List ℕ → Type 0 where
+  of_instruction : (i : Instr) → IsInstr i → word_of i ≡ word → IsTextOf word (text_of i)
+  of_no_instruction : ((i : Instr) → IsInstr i → word_of i ≢ word) → IsTextOf word (codes "illegal")
+
+-- the line of a word that stands at an address
+abbrev pub word_line : ℕ → ℕ → List ℕ → List ℕ
+word_line address word text = word_head address word ++ text ++ codes "\n"
+
+-- the listing of words that stand one after another from an address on
+pub data ListsCode : ℕ → List ℕ → List ℕ → Type 0 where
+  nothing : {address : ℕ} → ListsCode address [] []
+  line : {address word : ℕ} {words text rest : List ℕ} → IsTextOf word text → ListsCode (address + 4) words rest → ListsCode address (word ∷ words) (word_line address word text ++ rest)

@@ -1,0 +1,28 @@
+-- What is answered where the run of an image is to be listed, and which bytes are its listing.
+use Rattle.std.specs.Prelude.{◌≡◌, ℕ, List, Some, None, Result, Ok, Err}
+use Rattle.arguments.specs.Faults.{fault_of}
+use Rattle.arguments.specs.declared.fault.ArgumentFault.{ArgumentFault}
+use Rattle.codegen.specs.Loaded.{params_of, code_at, loaded_at}
+use Rattle.hepurita.specs.Bases.{code_base, frame_base}
+use Rattle.image.specs.Fields.{Fields}
+use Rattle.language.specs.declared.values.Arg.{Arg}
+use Rattle.rv_machine.specs.declared.observation.Observation.{Observation}
+use Rattle.rv_machine.specs.declared.stops.Stop.{Stop}
+use Rattle.listing.specs.declared.fault.LeakFault.{LeakFault}
+use Rattle.listing.specs.declared.fault.LeakFault.TheVariants.{Argument, Memory, Write}
+use Rattle.listing.specs.Listings.{Ends, IsListing}
+
+-- the run of the image, loaded with these arguments, shows this within its steps and stops so
+abbrev pub ImageEnds : Fields → List Arg → List Observation → Stop → Type 0
+ImageEnds image args seen stop = Ends (code_at code_base image) image.max_steps (loaded_at code_base frame_base image args) seen stop
+
+-- these bytes are the listing of that run, which stops so
+abbrev pub IsLeak : Fields → List Arg → Stop → List ℕ → Type 0
+IsLeak image args stop bytes = IsListing (code_at code_base image) image.max_steps (loaded_at code_base frame_base image args) stop bytes
+
+-- what is answered: arguments are refused by their first fault; else it is the stop of the image's run, or the sink failed
+pub data Leaks (image : Fields) (args : List Arg) : Result Stop LeakFault → Type 0 where
+  refused : {fault : ArgumentFault} → fault_of (params_of image) args ≡ Some fault → Leaks image args (Err (Argument fault.rule fault.index))
+  out_of_memory : Leaks image args (Err Memory)
+  cut_off : fault_of (params_of image) args ≡ None → Leaks image args (Err Write)
+  ran : {seen : List Observation} {stop : Stop} → fault_of (params_of image) args ≡ None → ImageEnds image args seen stop → Leaks image args (Ok stop)

@@ -1,0 +1,5 @@
+pub mod Code
+pub mod Leaked
+pub mod Lines
+pub mod Listings
+pub mod Turned

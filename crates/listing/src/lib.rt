@@ -1,0 +1,15 @@
+// Listings: what an observer sees of an image's run, a line for each entry, and the words of an image
+// with their text. What is promised of a run's listing is promised of the bytes that go out to a sink,
+// also where the sink is slow or fails.
+#![tactic(auto)]
+
+mod digits;
+mod fault;
+mod leaking;
+mod lines;
+mod turns;
+mod words;
+
+pub use fault::LeakFault;
+pub use leaking::leak;
+pub use words::list;
