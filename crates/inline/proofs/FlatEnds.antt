@@ -26,7 +26,7 @@ use Rattle.language.specs.Types.{Scope}
 use Rattle.language.specs.WellTyped as rules
 use Rattle.language.specs.WellTyped.{labelled, IsVariable}
 use Rattle.inline.proofs.Called.{Spares, Ready, ready_later, ready_declared, ready_after}
-use Rattle.inline.proofs.Calls.{call_means}
+use Rattle.inline.proofs.CallEnds.{call_means}
 use Rattle.inline.proofs.Chains.{after_chain, fault_chain, fault_single}
 use Rattle.inline.proofs.Comes.{Comes, well, fails, then_comes, also, either-none, across, across₃}
 use Rattle.inline.proofs.FlatTypes.{small_values}

@@ -19,7 +19,7 @@ use Rattle.language.specs.WellTyped.{labelled, IsVariable, of_value, of_call, Is
 use Rattle.names.specs.Scope.{found}
 use Rattle.inline.specs.Flat.{TermTree}
 use Rattle.inline.proofs.Called.{Spares, Ready, ready_later, ready_declared, ready_after}
-use Rattle.inline.proofs.Calls.{call_means}
+use Rattle.inline.proofs.CallEnds.{call_means}
 use Rattle.inline.proofs.Chains.{after_chain}
 use Rattle.inline.proofs.Linked.{entry, known_word, known_array}
 use Rattle.inline.proofs.Lookup.{found-split}

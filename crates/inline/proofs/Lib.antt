@@ -19,7 +19,7 @@ pub mod FlatSizes
 pub mod Passing
 pub mod Called
 pub mod Copied
-pub mod Calls
+pub mod CallEnds
 pub mod Rights
 pub mod Kept
 pub mod FlatEnds

@@ -17,7 +17,7 @@ use Rattle.language.specs.Types.{Scope}
 use Rattle.language.specs.Typing.{result_value}
 use Rattle.language.specs.WellTyped as rules
 use Rattle.inline.proofs.Called.{HasResult, a_word, Spares, Ready}
-use Rattle.inline.proofs.Calls.{call_means}
+use Rattle.inline.proofs.CallEnds.{call_means}
 use Rattle.inline.proofs.Chains.{after_chain, fault_chain}
 use Rattle.inline.proofs.Comes.{Comes, also, either-none}
 use Rattle.inline.proofs.Terms.{Shows, word_at, means}
