@@ -4,6 +4,7 @@ pub mod RunLemmas
 pub mod ProcedureLemmas
 pub mod LoopLemmas
 pub mod BeginningLemmas
+pub mod Opening
 pub mod RunEnds
 pub mod KnownProcedures
 pub mod WorkedOut

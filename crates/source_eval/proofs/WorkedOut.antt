@@ -11,7 +11,7 @@ use Rattle.source_eval.proofs.KnownProcedures.{known_of, known_after, known-name
 use Rattle.source_eval.proofs.RunEnds.{then-gives, then-faults, first-faults, first-gives, value-by-operands}
 
 mutual
-  value-worked : (s : State) (e : ExprTree) (ending : Ending Word) → Evaluates s e ending → (value s e).ends ≡ ending
+  pub value-worked : (s : State) (e : ExprTree) (ending : Ending Word) → Evaluates s e ending → (value s e).ends ≡ ending
   value-worked s e ending (by_operands e1 vs d) = value-by-operands s e ∙ then-gives (values s (operands e)) (λ ws. ended (applied s e ws)) vs (values-worked s (operands e) (gives vs) d)
   value-worked s e ending (operand_faults e1 place d) = value-by-operands s e ∙ then-faults (values s (operands e)) (λ ws. ended (applied s e ws)) place (values-worked s (operands e) (faults place) d)
 
@@ -23,7 +23,7 @@ mutual
   values-worked s (e ∷ es) ending (later_faults e1 es1 v place d ds) =
       then-gives (value s e) _ v (value-worked s e (gives v) d) ∙ then-faults (values s es) _ place (values-worked s es (faults place) ds)
 
-passed-worked : (s : State) (es : List ExprTree) (ending : Ending (List Word)) → EvaluatesAll s es ending → (passed s es).ends ≡ ending
+pub passed-worked : (s : State) (es : List ExprTree) (ending : Ending (List Word)) → EvaluatesAll s es ending → (passed s es).ends ≡ ending
 unfolding tick
 passed-worked s [] ending none_left = refl
 passed-worked s (e ∷ es) ending (one_more e1 es1 v vs d ds) =
@@ -88,7 +88,7 @@ mutual
   right-worked ps s (computed e) ending (of_expr ps1 s1 e1 v d) = then-gives (value s e) _ v (value-worked s e (gives v) d)
   right-worked ps s (computed e) ending (expr_faults ps1 s1 e1 place d) = then-faults (value s e) _ place (value-worked s e (faults place) d)
 
-  statement-worked : (ps : List ProcedureTree) (s : State) (statement : StatementTree) (ending : Ending State) → Runs ps s statement ending → (run (known_of ps) s statement).ends ≡ ending
+  pub statement-worked : (ps : List ProcedureTree) (s : State) (statement : StatementTree) (ending : Ending State) → Runs ps s statement ending → (run (known_of ps) s statement).ends ≡ ending
   statement-worked ps s (declaration place label mutable kind text right) ending (declares a1 a2 a3 a4 a5 a6 a7 a8 r d) = then-gives (right_run (known_of ps) s right) _ r (right-worked ps s right (gives r) d)
   statement-worked ps s (declaration place label mutable kind text right) ending (declaration_faults a1 a2 a3 at a5 a6 a7 a8 a9 d) = then-faults (right_run (known_of ps) s right) _ at (right-worked ps s right (faults at) d)
   statement-worked ps s (array place label mutable kind size text initial) ending (declares_array a1 a2 a3 a4 a5 a6 a7 a8 a9 vs d) = then-gives (values s (written initial)) _ vs (values-worked s (written initial) (gives vs) d)
@@ -129,7 +129,7 @@ mutual
       ∙ (then-gives (run_all (known_of ps) (counting s text i) body) _ t (block-worked ps (counting s text i) body (gives t) d)
       ∙ turns-worked ps t text body (i + 1) n ending more)
 
-  block-worked : (ps : List ProcedureTree) (s : State) (block : BlockTree) (ending : Ending State) → RunsAll ps s block ending → (run_all (known_of ps) s block).ends ≡ ending
+  pub block-worked : (ps : List ProcedureTree) (s : State) (block : BlockTree) (ending : Ending State) → RunsAll ps s block ending → (run_all (known_of ps) s block).ends ≡ ending
   block-worked ps s nothing ending (ends a1 a2) = refl
   block-worked ps s (first statement rest) ending (stops a1 a2 a3 a4 at d) = then-faults (run (known_of ps) s statement) _ at (statement-worked ps s statement (faults at) d)
   block-worked ps s (first statement rest) ending (goes_on a1 a2 t a4 a5 e1 d more) =

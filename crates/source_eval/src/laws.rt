@@ -1,11 +1,13 @@
 // The laws, which join the two forms of the meaning: its rules, and the function that works it out.
 
-ghost use Rattle.std.specs.Prelude.{◌≡◌, List, length};
+ghost use Rattle.std.specs.Prelude.{◌≡◌, ◌≤◌, List, [], Some, length};
 ghost use Rattle.language.specs.declared.values.Arg.{Arg};
 ghost use Rattle.language.specs.Evaluation.{program_run};
 ghost use Rattle.language.specs.Meaning.{Ending, Gives};
 ghost use Rattle.language.specs.Results.{Results};
-ghost use Rattle.language.specs.Tree.{ProgramTree};
+ghost use Rattle.language.specs.Signature.{exported};
+ghost use Rattle.language.specs.Size.{bodies_of, extents_of};
+ghost use Rattle.language.specs.Tree.{ProcedureTree, ProgramTree};
 ghost use Rattle.language.specs.Typing.{violations};
 
 /// Whatever end the rules give a program, it is the one that is worked out.
@@ -20,4 +22,10 @@ pub fn meaning_can_be_had()
     ensures derivable { (program : ProgramTree) (args : List Arg) → length (violations program) ≡ 0 → Gives program args (program_run program args).ends }
     ensures exactly_one { (program : ProgramTree) (args : List Arg) → length (violations program) ≡ 0
         → (ending : Ending Results) × Gives program args ending × ((other : Ending Results) → Gives program args other → other ≡ ending) }
+{}
+
+/// No more bodies are open at once in a run than are counted for the text.
+pub fn runs_open_what_is_counted()
+    ensures { (program : ProgramTree) (args : List Arg) (before : List ProcedureTree) (p : ProcedureTree) → exported [] program.procedures ≡ Some (before, p)
+        → (program_run program args).bodies ≤ bodies_of (extents_of before) p }
 {}

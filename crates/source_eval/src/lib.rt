@@ -17,4 +17,4 @@ mod variables;
 
 pub use evaluation::eval;
 pub use fault::EvalFault;
-pub use laws::{meaning_can_be_had, meaning_is_worked_out};
+pub use laws::{meaning_can_be_had, meaning_is_worked_out, runs_open_what_is_counted};
