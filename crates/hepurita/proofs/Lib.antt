@@ -17,3 +17,4 @@ pub mod BaseLemmas
 pub mod Compiler
 pub mod LightBodies
 pub mod RangePlaces
+pub mod EvalLemmas

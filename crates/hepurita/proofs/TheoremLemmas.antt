@@ -65,7 +65,7 @@ within_work flat r is none = subst (λ (w : ℕ). w ≤ MOST_WORK) (sym (ap (λ 
     by false is h = grind (arith, nat_tests)
 
 -- the one meaning on arguments, of an export that is safe
-safe_means : (program : ProgramTree) (before : List ProcedureTree) (export : ProcedureTree) → HasGrammaticalExport program → IsSmall program before export → IsSafe (flattened before export) (turns_of (flattened before export)) → (args : List Arg) → AreWithin (map param_of export.parameters) args → Means program args (outcome_of (flattened before export) args)
+pub safe_means : (program : ProgramTree) (before : List ProcedureTree) (export : ProcedureTree) → HasGrammaticalExport program → IsSmall program before export → IsSafe (flattened before export) (turns_of (flattened before export)) → (args : List Arg) → AreWithin (map param_of export.parameters) args → Means program args (outcome_of (flattened before export) args)
 safe_means program before export plain small safe args within =
     let is = small.well_formed in
     let parts = plain before export is.is_export in

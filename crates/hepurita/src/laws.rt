@@ -1,14 +1,15 @@
 // What the answers of the calls are to each other.
 
-ghost use Rattle.std.specs.Prelude.{ℕ, ◌+◌, ◌*◌, ◌<◌, ◌≤◌, ◌≡◌, Bool, List, Result, Ok};
+ghost use Rattle.std.specs.Prelude.{ℕ, ◌+◌, ◌*◌, ◌<◌, ◌≤◌, ◌≡◌, Bool, List, Result, Ok, map};
 ghost use Rattle.arguments.specs.Within.{AreWithin};
 ghost use Rattle.branch_removal.specs.Removed.{IsRemoved};
 ghost use Rattle.branch_removal.specs.Straight.{StraightProgram};
 ghost use Rattle.codegen.specs.Bases.{AreBases};
 ghost use Rattle.codegen.specs.Followed.{IsGenerated};
 ghost use Rattle.image.specs.Fields.{Fields};
-ghost use Rattle.inline.specs.Numbering.{flattened};
+ghost use Rattle.inline.specs.Numbering.{flattened, param_of};
 ghost use Rattle.intervals.specs.Work.{ranged};
+ghost use Rattle.intervals.specs.declared.limits.TheConstants.{MOST_WORK};
 ghost use Rattle.rv_machine.specs.declared.pairing.Pairing.{Pairing};
 ghost use Rattle.rv_machine.specs.declared.observation.Observation.{Observation};
 ghost use Rattle.arguments.specs.Agreement.{Agree};
@@ -16,8 +17,9 @@ ghost use Rattle.arguments.specs.PublicResults.{AgreeInPublic};
 ghost use Rattle.language.specs.Size.{extents_of, nodes_of};
 ghost use Rattle.language.specs.declared.limits.TheConstants.{MOST_NODES};
 ghost use Rattle.hepurita.specs.Bases.{code_base, frame_base, most_images, code_distance, frame_distance};
-ghost use Rattle.hepurita.specs.Built.{JudgesProgram, accepts};
-ghost use Rattle.hepurita.specs.Compiled.{IsCompiled};
+ghost use Rattle.hepurita.specs.Built.{Judges, JudgesProgram, accepts};
+ghost use Rattle.hepurita.specs.Compiled.{IsCompiled, Means};
+ghost use Rattle.source_eval.specs.Answer.{answer};
 ghost use Rattle.codegen.specs.Loaded.{params_of};
 ghost use Rattle.syntax.specs.Reading.{Reads, accepted};
 ghost use Rattle.language.specs.declared.values.Arg.{Arg};
@@ -66,5 +68,15 @@ pub fn images_do_what_texts_mean()
         → Executed image one keeps list (Ok a) after → Executed image other keeps list (Ok b) after' → AgreeInPublic (params_of image) export.result a b }
 {
     one_answer_for_a_text();
+    faultless_arguments();
+}
+
+/// What `eval` answers for an accepted text, with a budget that the most work fits, as the command gives it: the one outcome
+/// that the text means. So it never says that the text has no meaning, or that the budget is used up.
+pub fn accepted_texts_are_evaluated()
+    ensures { (text : List ℕ) (program : ProgramTree) (before : List ProcedureTree) (export : ProcedureTree) (args : List Arg) (budget : ℕ)
+        → Judges text (accepts program before export) → AreWithin (map param_of export.parameters) args → MOST_WORK ≤ budget
+        → (results : Results) × Means program args results × (answer program args budget ≡ Ok results) }
+{
     faultless_arguments();
 }

@@ -19,6 +19,8 @@ pub use comparing::pair;
 pub use executing::execute;
 pub use fault::RunFault;
 pub use judging::{Accepted, judge};
-pub use laws::{bases_fit, images_do_what_texts_mean, texts_are_compiled};
+pub use laws::{
+    accepted_texts_are_evaluated, bases_fit, images_do_what_texts_mean, texts_are_compiled,
+};
 pub use loading::{CODE_BASE, FRAME_BASE, code, load, params};
 pub use reading::read_args;

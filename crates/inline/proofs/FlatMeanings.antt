@@ -34,7 +34,7 @@ use Rattle.inline.proofs.Terms.{Shows, means}
 -- Procedures.
 
 -- the statement that each procedure meets, in the scope of those before it
-abbrev IsKept : List ProcedureTree → Scope → ProcedureTree → Type 0
+abbrev pub IsKept : List ProcedureTree → Scope → ProcedureTree → Type 0
 IsKept before scope p = Behaves before p
 
 within_parameters : (earlier : List ProcedureTree) (ps : List ParameterTree) (scope : Scope) → CallsAreKept earlier scope → CallsAreKept earlier (with_parameters scope ps)
@@ -42,7 +42,7 @@ within_parameters earlier [] scope calls = calls
 within_parameters earlier (p ∷ ps) scope calls = within_parameters earlier ps (declared scope p.name (parameter_as p)) (same_calls earlier scope p.name _ calls)
 
 -- a result, where there is one
-no_result : {scope : Scope} {result : Option WordType} {o : Option ReturnTree} → rules.Returns scope result o → result ≡ None → o ≡ None
+pub no_result : {scope : Scope} {result : Option WordType} {o : Option ReturnTree} → rules.Returns scope result o → result ≡ None → o ≡ None
 no_result rules.nothing_returned none = refl
 no_result (rules.value_returned has suit) none = absurd cc
 
@@ -69,10 +69,10 @@ module _ (before : List ProcedureTree) (scope : Scope) (p : ProcedureTree) (stan
       record { before = known.before; named = known.is; behaves = known.good }
 
   module _ (names : Numbers) (types : Types) (n : ℕ) (linked : Linked (body_scope scope (length before) p) names types n) where
-    begins : Ready before (body_scope scope (length before) p) names n
+    pub begins : Ready before (body_scope scope (length before) p) names n
     begins = record { types = types; linked = linked; calls = within_parameters before p.parameters (with_procedure scope (length before) p) calls_within }
 
-    body_comes : (s : State) (m : Values) → Shows names s m → BodyComes before p names n s m
+    pub body_comes : (s : State) (m : Values) → Shows names s m → BodyComes before p names n s m
     body_comes s m shows =
         let known = callables before in
         let body = block known names n p.body in
@@ -86,7 +86,7 @@ module _ (before : List ProcedureTree) (scope : Scope) (p : ProcedureTree) (stan
         (λ at is. is))
         (λ at run. statements_fault before p s at run)
 
-  behaves : Behaves before p
+  abbrev pub behaves : Behaves before p
   behaves = record {
     scope = with_procedure scope (length before) p;
     procedures = variables_within IsKept before scope stand p typed.is_new;

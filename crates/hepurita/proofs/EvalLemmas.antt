@@ -1,0 +1,58 @@
+-- What `eval` answers for an accepted text: its one outcome.
+use Rattle.std.proofs.Common.{◌≡◌, ◌↔◌, ℕ, ◌≤◌, ◌||◌, Bool, true, false, nat_lt, List, [], length, map, Option, Some, None, Result, Ok, refl, sym, ap, subst, ◌∙◌, arith}
+use Rattle.std.proofs.lemmas.Bool.Decides.{nat_tests}
+use Rattle.arguments.specs.Faults.{fault_of}
+use Rattle.arguments.specs.Within.{AreWithin}
+use Rattle.arguments.specs.declared.fault.ArgumentFault.{ArgumentFault}
+use Rattle.inline.specs.FlatMeaning.{outcome_of}
+use Rattle.inline.specs.Numbering.{flattened, param_of}
+use Rattle.intervals.proofs.Safe.{accepted_is_safe}
+use Rattle.intervals.specs.Work.{ranged}
+use Rattle.intervals.specs.declared.limits.TheConstants.{MOST_WORK}
+use Rattle.language.specs.Evaluation.{program_run}
+use Rattle.language.specs.Results.{Results}
+use Rattle.language.specs.Size.{MOST_NODES, MOST_DECLARED_BYTES, bodies_of, declared_bytes, extents_of, nodes_of, size_violations}
+use Rattle.language.specs.Tree.{ProcedureTree, ProgramTree}
+use Rattle.language.specs.Types.{at, when}
+use Rattle.language.specs.declared.limits.TheConstants.{MOST_BODIES}
+use Rattle.language.specs.declared.rule.Rule.TheVariants.{InlinedSize, DeclaredBytes}
+use Rattle.language.specs.declared.signature.Param.{Param}
+use Rattle.language.specs.declared.values.Arg.{Arg}
+use Rattle.run_bounds.proofs.Answered.{answered}
+use Rattle.source_eval.specs.Answer.{answer, judged_answer, found_params, params_of}
+use Rattle.source_eval.specs.declared.fault.EvalFault.{EvalFault}
+use Rattle.word.specs.declared.place.Place.{Place}
+use Rattle.hepurita.specs.Built.{Judges, accepts, readable, fine}
+use Rattle.hepurita.specs.Compiled.{Means}
+use Rattle.hepurita.proofs.AnswerLemmas.{Faultless}
+use Rattle.hepurita.proofs.TheoremLemmas.{flat_typed, grammatical_export, safe_means, within_work}
+
+-- an export that passes no limit on size opens no more bodies than allowed
+few_bodies : (place : Place) (many deep large : Bool) → length (at place (when (many || deep) InlinedSize ++ when large DeclaredBytes)) ≡ 0 → deep ≡ false
+few_bodies place true deep large none = absurd (omega (arith, none))
+few_bodies place false true large none = absurd (omega (arith, none))
+few_bodies place false false large none = refl
+
+bodies_fit : (before : List ProcedureTree) (export : ProcedureTree) → length (size_violations before export) ≡ 0 → bodies_of (extents_of before) export ≤ MOST_BODIES
+bodies_fit before export none =
+    let e = few_bodies export.place (nat_lt MOST_NODES (nodes_of (extents_of before) export)) (nat_lt MOST_BODIES (bodies_of (extents_of before) export)) (nat_lt MOST_DECLARED_BYTES (declared_bytes (extents_of before) export)) none in
+    grind (arith, nat_tests, e)
+
+-- arguments without a fault are answered by the run
+judged : (program : ProgramTree) (args : List Arg) (budget : ℕ) (params : List Param) → params_of program ≡ params → fault_of params args ≡ None
+    → answer program args budget ≡ judged_answer None (program_run program args) budget
+judged program args budget params same none = ap (λ (fault : Option ArgumentFault). judged_answer fault (program_run program args) budget) (ap (λ ps. fault_of ps args) same ∙ none)
+
+pub evaluated : Faultless → (text : List ℕ) (program : ProgramTree) (before : List ProcedureTree) (export : ProcedureTree) (args : List Arg) (budget : ℕ) → Judges text (accepts program before export)
+    → AreWithin (map param_of export.parameters) args → MOST_WORK ≤ budget → (results : Results) × Means program args results × (answer program args budget ≡ Ok results)
+evaluated faultless text program before export args budget (readable reads (fine small in_range in_time)) within enough =
+    let plain = grammatical_export text program reads in
+    let is = small.well_formed in
+    let parts = plain before export is.is_export in
+    let flat = flattened before export in
+    let typed = flat_typed program before export plain small in
+    let safe = accepted_is_safe flat typed in_range in
+    let work = within_work flat (ranged flat) refl in_time in
+    let params = map param_of export.parameters in
+    let run = answered program before export args budget is.typed is.is_export parts.0 parts.1 typed (bodies_fit before export small.sized) in_range work within enough in
+    (outcome_of flat args, safe_means program before export plain small safe args within, judged program args budget params (ap found_params is.is_export) ((faultless params args).1 within) ∙ run)

@@ -1,0 +1,50 @@
+-- What all passes accept is answered by its outcome, with a budget that the most work fits.
+use Rattle.std.proofs.Common.{◌≡◌, ◌||◌, ℕ, ◌≤◌, nat_lt, Bool, false, List, [], length, map, Some, Ok, Err, if◌then◌else◌, refl, sym, ap, ap₂, ◌∙◌, subst, arith}
+use Rattle.std.proofs.lemmas.Bool.Decides.{nat_tests}
+use Rattle.std.specs.List.{AllByRecursion}
+use Rattle.arguments.specs.Within.{AreWithin}
+use Rattle.inline.specs.FlatMeaning.{outcome_of}
+use Rattle.inline.specs.FlatTyping.{IsTypedProgram}
+use Rattle.inline.specs.Numbering.{flattened, param_of}
+use Rattle.inline.proofs.FlatMeanings.{flat_keeps_meaning}
+use Rattle.intervals.specs.declared.limits.TheConstants.{MOST_WORK}
+use Rattle.intervals.specs.Ranges.{range_violations, turns_of}
+use Rattle.intervals.specs.Work.{work_of}
+use Rattle.intervals.proofs.EvaluatedLemmas.{safe_runs_are_within_work}
+use Rattle.intervals.proofs.Safe.{accepted_is_safe, safe_runs_meet_no_fault}
+use Rattle.language.specs.declared.limits.TheConstants.{MOST_BODIES}
+use Rattle.language.specs.declared.values.Arg.{Arg}
+use Rattle.language.specs.Evaluation.{Run, program_run}
+use Rattle.language.specs.Grammatical.{IsGrammatical}
+use Rattle.language.specs.Meaning.{Gives, gives, exported}
+use Rattle.language.specs.Results.{Results}
+use Rattle.language.specs.Size.{bodies_of, extents_of}
+use Rattle.language.specs.Tree.{ProcedureTree, ProgramTree}
+use Rattle.language.specs.Typing.{violations}
+use Rattle.source_eval.specs.Answer.{ending_answer, run_answer}
+use Rattle.source_eval.specs.declared.fault.EvalFault.TheVariants.{Budget}
+use Rattle.source_eval.proofs.Opening.{program_opens}
+use Rattle.source_eval.proofs.WorkedOut.{worked-out}
+use Rattle.run_bounds.proofs.Programs.{program_spends}
+
+not_above : (a b : ℕ) → b ≤ a → nat_lt a b ≡ false
+not_above a b h = grind (arith, nat_tests)
+
+-- a run within the budget
+within_budget : (r : Run Results) (budget : ℕ) (outcome : Results) → r.nodes ≤ budget → r.bodies ≤ 64 → r.ends ≡ gives outcome → run_answer r budget ≡ Ok outcome
+within_budget r budget outcome few shallow is =
+    ap₂ (λ (a b : Bool). if a || b then Err Budget else ending_answer r.ends) (not_above budget r.nodes few) (not_above 64 r.bodies shallow) ∙ ap ending_answer is
+
+pub answered : (program : ProgramTree) (before : List ProcedureTree) (p : ProcedureTree) (args : List Arg) (budget : ℕ) → length (violations program) ≡ 0 → exported [] program.procedures ≡ Some (before, p)
+    → AllByRecursion IsGrammatical before → IsGrammatical p → IsTypedProgram (flattened before p)
+    → bodies_of (extents_of before) p ≤ MOST_BODIES → length (range_violations (flattened before p)) ≡ 0 → work_of (flattened before p) ≤ MOST_WORK
+    → AreWithin (map param_of p.parameters) args → MOST_WORK ≤ budget
+    → run_answer (program_run program args) budget ≡ Ok (outcome_of (flattened before p) args)
+answered program before p args budget h is grammatical plain typed shallow in_range worked within enough =
+    let flat = flattened before p in
+    let safe = accepted_is_safe flat typed in_range in
+    let spent = program_spends program before p args h is grammatical plain within in
+    let few = safe_runs_are_within_work flat (turns_of flat) args safe within in
+    let opened = program_opens program args before p is in
+    let meant = subst (Gives program args) (safe_runs_meet_no_fault flat (turns_of flat) args safe within) (flat_keeps_meaning program before p args h is grammatical plain within) in
+    within_budget (program_run program args) budget (outcome_of flat args) (omega (arith, spent, few, worked, enough)) (omega (arith, opened, shallow)) (worked-out program args (gives (outcome_of flat args)) meant)

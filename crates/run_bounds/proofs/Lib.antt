@@ -1,0 +1,4 @@
+pub mod Counts
+pub mod Spending
+pub mod Programs
+pub mod Answered

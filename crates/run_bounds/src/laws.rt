@@ -1,0 +1,39 @@
+// The laws, which hold of the definitions alone.
+
+ghost use Rattle.std.specs.Prelude.{◌≡◌, ℕ, ◌≤◌, List, [], Some, Ok, length, map};
+ghost use Rattle.std.specs.List.{AllByRecursion};
+ghost use Rattle.arguments.specs.Within.{AreWithin};
+ghost use Rattle.inline.specs.FlatMeaning.{outcome_of};
+ghost use Rattle.inline.specs.FlatTyping.{IsTypedProgram};
+ghost use Rattle.inline.specs.Numbering.{flattened};
+ghost use Rattle.intervals.specs.declared.limits.TheConstants.{MOST_WORK};
+ghost use Rattle.intervals.specs.Evaluated.{evaluated_by};
+ghost use Rattle.intervals.specs.Ranges.{range_violations};
+ghost use Rattle.intervals.specs.Work.{work_of};
+ghost use Rattle.language.specs.declared.limits.TheConstants.{MOST_BODIES};
+ghost use Rattle.language.specs.declared.values.Arg.{Arg};
+ghost use Rattle.language.specs.Evaluation.{program_run};
+ghost use Rattle.language.specs.Grammatical.{IsGrammatical};
+ghost use Rattle.language.specs.Signature.{exported, param_of};
+ghost use Rattle.language.specs.Size.{bodies_of, extents_of};
+ghost use Rattle.language.specs.Tree.{ProcedureTree, ProgramTree};
+ghost use Rattle.language.specs.Typing.{violations};
+ghost use Rattle.source_eval.specs.Answer.{run_answer};
+
+/// A run of a program that violates no rule evaluates no more nodes than are counted for a run of the one body that it
+/// becomes.
+pub fn runs_evaluate_what_is_counted()
+    ensures { (program : ProgramTree) (before : List ProcedureTree) (p : ProcedureTree) (args : List Arg) → length (violations program) ≡ 0
+        → exported [] program.procedures ≡ Some (before, p) → AllByRecursion IsGrammatical before → IsGrammatical p → AreWithin (map param_of p.parameters) args
+        → (program_run program args).nodes ≤ evaluated_by (flattened before p) args }
+{}
+
+/// A program that all passes accept is answered by its outcome, with any budget that the most work fits: it meets no fault,
+/// and it uses no budget up.
+pub fn accepted_programs_are_answered()
+    ensures { (program : ProgramTree) (before : List ProcedureTree) (p : ProcedureTree) (args : List Arg) (budget : ℕ) → length (violations program) ≡ 0
+        → exported [] program.procedures ≡ Some (before, p) → AllByRecursion IsGrammatical before → IsGrammatical p → IsTypedProgram (flattened before p)
+        → bodies_of (extents_of before) p ≤ MOST_BODIES → length (range_violations (flattened before p)) ≡ 0 → work_of (flattened before p) ≤ MOST_WORK
+        → AreWithin (map param_of p.parameters) args → MOST_WORK ≤ budget
+        → run_answer (program_run program args) budget ≡ Ok (outcome_of (flattened before p) args) }
+{}
