@@ -14,7 +14,8 @@ use Rattle.inline.proofs.Begun.{Enters, enters, distinct_none}
 use Rattle.inline.proofs.Called.{Ready, ready_later, ready_declared, ready_after, Behaves}
 use Rattle.inline.proofs.CallEnds.{call_means}
 use Rattle.inline.proofs.Comes.{Comes}
-use Rattle.inline.proofs.FlatEnds.{same_end, same_ends, small_values}
+use Rattle.inline.proofs.FlatEnds.{same_end, same_ends}
+use Rattle.inline.proofs.FlatTypes.{small_values}
 use Rattle.inline.proofs.KnownLemmas as known_lemmas
 use Rattle.inline.proofs.Linked.{Linked, entry}
 use Rattle.inline.proofs.Lookup.{found-kept, found-split}
