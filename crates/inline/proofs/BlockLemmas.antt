@@ -1,5 +1,5 @@
 -- Blocks of flat statements, one behind another.
-use Rattle.std.proofs.Common.{◌≡◌, List, [], ◌∷◌, ◌++◌, Result, Ok, Err, refl, sym, ap, ap₂, subst, ◌∙◌}
+use Rattle.std.proofs.Common.{◌≡◌, List, [], ◌∷◌, ◌++◌, Result, Ok, Err, refl, ap, ap₂, subst, ◌∙◌}
 use Rattle.std.specs.Result.{OnOk}
 use Rattle.inline.specs.declared.flat.FlatStatement.{FlatStatement}
 use Rattle.inline.specs.Flat.{FlatBlock, nothing, first, chain, flat_block, flat_tree}

@@ -1,5 +1,5 @@
 -- How large statements are where calls are bodies: what the recursion of the numbering goes down by.
-use Rattle.std.proofs.Common.{◌≡◌, ◌<◌, ◌≤◌, ℕ, ◌+◌, ◌*◌, List, [], ◌∷◌, Option, Some, Vec, Global, map, arith, refl, sym, ap, subst, ◌∙◌}
+use Rattle.std.proofs.Common.{◌≡◌, ◌<◌, ◌≤◌, ℕ, ◌+◌, ◌*◌, List, [], ◌∷◌, Some, Vec, Global, map, arith, sym, ap, ◌∙◌}
 use Rattle.std.specs.Option.{option_map}
 use Rattle.inline.proofs.KnownNames.{known_by_name, made}
 use Rattle.inline.proofs.NumberingLemmas.{conditional_whole, loop_whole}
@@ -9,8 +9,8 @@ use Rattle.language.specs.declared.tree.Expr.{Expr}
 use Rattle.language.specs.declared.tree.Procedure.{Procedure}
 use Rattle.language.specs.declared.tree.Statement.{Statement, If, For}
 use Rattle.language.specs.Meaning.{named, word_arguments}
-use Rattle.language.specs.Size.{Extents, Extent, block_nodes, called_nodes, call_nodes, extent_of, extents_of, nodes_in, nodes_passed, return_nodes, right_nodes, statement_nodes}
-use Rattle.language.specs.Tree.{BlockTree, CallTree, ProcedureTree, RightTree, StatementTree, block_tree, expr_tree, procedure_tree, statement_tree}
+use Rattle.language.specs.Size.{Extents, block_nodes, called_nodes, call_nodes, extent_of, extents_of, nodes_in, nodes_passed, return_nodes, right_nodes, statement_nodes}
+use Rattle.language.specs.Tree.{CallTree, RightTree, StatementTree, block_tree, expr_tree, procedure_tree, statement_tree}
 
 abbrev pub extents_by : List Procedure → Extents
 extents_by earlier = extents_of (map procedure_tree earlier)

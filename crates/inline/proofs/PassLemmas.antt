@@ -1,5 +1,5 @@
 -- The arguments of a call, passed one by one.
-use Rattle.std.proofs.Common.{◌≡◌, ℕ, ◌+◌, Bool, true, false, if◌then◌else◌, List, [], ◌∷◌, ◌++◌, length, get_or, drop, map, nat_lt, ◌⊎◌, inl, inr, ◌<◌, ◌≤◌, arith, refl, sym, ap, ap₂, subst, ◌∙◌, length-append}
+use Rattle.std.proofs.Common.{◌≡◌, ℕ, ◌+◌, Bool, true, false, if◌then◌else◌, List, [], ◌∷◌, ◌++◌, length, get_or, drop, map, nat_lt, ◌<◌, ◌≤◌, arith, refl, sym, ap, ap₂, subst, ◌∙◌, length-append}
 use Rattle.std.proofs.lemmas.List.{append_assoc, append-nil, drop_all, drop_more}
 use Rattle.std.proofs.lemmas.Bool.Decides.{nat_tests}
 use Rattle.inline.proofs.BlockLemmas.{behind, chain_nothing}

@@ -19,7 +19,7 @@ pub use Rattle.language.specs.Signature.{param_of}
 use Rattle.language.specs.Known.{Known, known_of}
 use Rattle.language.specs.Meaning.{is_word}
 use Rattle.language.specs.Size.{nodes_of, extents_of}
-use Rattle.language.specs.Tree.{ExprTree, number, truth, name, prefix, binary, rotate, convert, select, element, CallTree, RightTree, called, computed, StatementTree, declaration, array, assignment, element_assignment, call, conditional, loop, BlockTree, nothing, first, ParameterTree, ReturnTree, ProcedureTree, written}
+use Rattle.language.specs.Tree.{ExprTree, number, truth, name, prefix, binary, rotate, convert, select, element, RightTree, called, computed, StatementTree, declaration, array, assignment, element_assignment, call, conditional, loop, BlockTree, nothing, first, ParameterTree, ReturnTree, ProcedureTree, written}
 use Rattle.language.specs.Types.{joined}
 use Rattle.language.specs.WellTyped.{labelled}
 

@@ -1,4 +1,4 @@
-use Rattle.std.proofs.Common.{◌≡◌, ◌≤◌, ◌+◌, ◌*◌, ◌++◌, drop, length, map}
+use Rattle.std.proofs.Common.{◌≡◌, ◌≤◌, ◌+◌, ◌*◌, ◌++◌, drop, length}
 use Rattle.inline.proofs.numbering.Numbering.+numbering.Given as goal
 use Rattle.inline.specs.Callees.{called_by}
 use Rattle.inline.specs.Flat.{chain, flat_block}

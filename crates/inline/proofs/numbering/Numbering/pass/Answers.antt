@@ -1,8 +1,8 @@
-use Rattle.std.proofs.Common.{◌≡◌, ◌+◌, ◌++◌, ap, drop, length, map, refl, sym, subst, [], ◌∙◌}
-use Rattle.inline.proofs.PassLemmas.{Passes, passes_next, passes_parameters, passes_arguments}
+use Rattle.std.proofs.Common.{ap, length, map, refl}
+use Rattle.inline.proofs.PassLemmas.{passes_next, passes_parameters, passes_arguments}
 use Rattle.inline.proofs.numbering.Numbering.pass.Goals as goal
-use Rattle.inline.specs.Flat.{chain, flat_block}
-use Rattle.inline.specs.Numbering.{Numbers, begun, passed, passed_variables}
+use Rattle.inline.specs.Flat.{flat_block}
+use Rattle.inline.specs.Numbering.{Numbers, begun}
 use Rattle.language.specs.Tree.{expr_tree, parameter_tree}
 
 pub loop-index-init : goal.loop-index-init

@@ -1,4 +1,4 @@
-use Rattle.std.proofs.Common.{◌≡◌, [], drop, length, map, ◌++◌}
+use Rattle.std.proofs.Common.{[], drop, length, map, ◌++◌}
 use Rattle.inline.proofs.PassLemmas.{Passes}
 use Rattle.inline.proofs.numbering.Numbering.pass.Given as goal
 use Rattle.inline.specs.Flat.{chain, flat_block}
