@@ -14,8 +14,8 @@ use Rattle.branch_removal.specs.StraightMeaning.{StraightState, with_variable, a
 use Rattle.branch_removal.specs.StraightTyping.{IsFilled}
 use Rattle.codegen.specs.Emitted.{clear_code, statement_code}
 use Rattle.codegen.specs.Jumps.{loop_code}
-use Rattle.codegen.specs.Layout.{variable_offset, result_offset, control_offset, next_offset}
-use Rattle.codegen.specs.TermCode.{upper_part, lower_part, constant_code, kind_at}
+use Rattle.expression_code.specs.Layout.{variable_offset, result_offset, control_offset, next_offset}
+use Rattle.expression_code.specs.TermCode.{upper_part, lower_part, constant_code, kind_at}
 use Rattle.language.specs.declared.signature.Kind.{Kind}
 use Rattle.language.specs.declared.signature.Kind.TheVariants.{Boolean, Uint8, Uint16, Uint32}
 use Rattle.language.specs.declared.typing.WordType.{WordType}
@@ -31,19 +31,19 @@ use Rattle.rv_machine.specs.Machine as machine
 use Rattle.rv_machine.specs.Registers.{register}
 use Rattle.rv_machine.proofs.ByteLaws.{number_at_same, with_number-suc, with_number-zero, with_byte_same, with_byte_other, with_number_below, with_number_above}
 use Rattle.codegen.proofs.Arguments.{zero_at, held_zeros}
-use Rattle.codegen.proofs.Arithmetic.{near_field, parts, upper_fits, lower_fits}
-use Rattle.codegen.proofs.Computing.{same_number, computing_runs}
-use Rattle.codegen.proofs.ExpressionRuns.{kind_known}
-use Rattle.codegen.proofs.Held.{HeldAt, Held, held_regs, held_store, frame_there}
+use Rattle.expression_code.proofs.Arithmetic.{near_field, parts, upper_fits, lower_fits}
+use Rattle.expression_code.proofs.Computing.{same_number, computing_runs}
+use Rattle.expression_code.proofs.ExpressionRuns.{kind_known}
+use Rattle.expression_code.proofs.Held.{HeldAt, Held, held_regs, held_store, frame_there}
 use Rattle.codegen.proofs.Jumps.{Still, looping_for}
 use Rattle.codegen.proofs.Marks.{never}
 use Rattle.codegen.proofs.Numbers.{zero_number}
-use Rattle.codegen.proofs.Pieces.{register-at}
-use Rattle.codegen.proofs.Places.{bytes_of, place_of, place_within, ends_before_result, apart_from}
+use Rattle.expression_code.proofs.Pieces.{register-at}
+use Rattle.expression_code.proofs.Places.{bytes_of, place_of, place_within, ends_before_result, apart_from}
 use Rattle.codegen.proofs.Showing.{Shown}
-use Rattle.codegen.proofs.Steps.{Always, Moves, Fit, Inside, computing, storing}
-use Rattle.codegen.proofs.Straight.{Setting, Steps, none, Runs, seq, quiet, weaken, cheaper, along, as_code}
-use Rattle.codegen.proofs.Values.{Ready}
+use Rattle.expression_code.proofs.Steps.{Always, Moves, Fit, Inside, computing, storing}
+use Rattle.expression_code.proofs.Straight.{Setting, Steps, none, Runs, seq, quiet, weaken, cheaper, along, as_code}
+use Rattle.expression_code.proofs.Values.{Ready}
 
 -- No turn changes the state of straight code, or puts anything on the path.
 

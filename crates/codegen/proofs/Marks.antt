@@ -6,7 +6,7 @@ use Rattle.branch_removal.specs.StraightMeaning.{StraightState}
 use Rattle.rv_code.specs.declared.instructions.Instr.{Instr}
 use Rattle.rv_machine.specs.Machine as machine
 use Rattle.word.specs.declared.place.Place.{Place}
-use Rattle.codegen.proofs.Straight.{Setting, Steps, Before, After, Leak, always, Ends, Runs, ends_by}
+use Rattle.expression_code.proofs.Straight.{Setting, Steps, Before, After, Leak, always, Ends, Runs, ends_by}
 
 -- and that it is this one, below the size
 pub record Indexed (P : Before) (index : StraightState → ℕ) (size i : ℕ) (env : StraightState) (s : machine.State) : Type 0 where

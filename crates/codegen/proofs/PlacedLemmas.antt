@@ -5,9 +5,9 @@ use Rattle.branch_removal.specs.Bounds.{statement_nodes, block_nodes}
 use Rattle.branch_removal.specs.Straight.{StraightTree, set, clear, fill, put, take, set_under, put_under, branch, repeats, StraightBlock, nothing, first}
 use Rattle.branch_removal.specs.StraightTyping.{IsTyped, AreTyped, types_but}
 use Rattle.codegen.specs.Emitted.{test_code, count_code, block_code, height_of_all, height_in, height_in_all, depth_in, depth_in_all}
-use Rattle.codegen.specs.Layout.{variable_offset, result_offset, next_offset, temporaries_offset}
+use Rattle.expression_code.specs.Layout.{variable_offset, result_offset, next_offset, temporaries_offset}
 use Rattle.codegen.specs.Placed.{IsPlaced, ArePlacedTerms, HasPlace, HavePlaces}
-use Rattle.codegen.specs.TermCode.{IsAmong, height_of}
+use Rattle.expression_code.specs.TermCode.{IsAmong, height_of}
 use Rattle.inline.specs.declared.flat.FlatVariable.{FlatVariable}
 use Rattle.inline.specs.Flat.{TermTree, array_as}
 use Rattle.inline.specs.FlatSize.{words_of, declared_words, terms_nodes, term_nodes}
@@ -17,8 +17,8 @@ use Rattle.language.specs.declared.signature.Kind.TheVariants.{Boolean, Uint8, U
 use Rattle.language.specs.declared.typing.WordType.{WordType}
 use Rattle.language.specs.Size.{array_words}
 use Rattle.codegen.proofs.CodeLengths.{block_length, test_length, count_length}
-use Rattle.codegen.proofs.Places.{ends_before_result}
-use Rattle.codegen.proofs.TermTypes.{known_among, typed_within, typed_among}
+use Rattle.expression_code.proofs.Places.{ends_before_result}
+use Rattle.expression_code.proofs.TermTypes.{known_among, typed_within, typed_among}
 
 -- an array has no more elements than bytes
 elements_in_words : (kind : Kind) (size : ℕ) → size ≤ 4 * array_words kind size

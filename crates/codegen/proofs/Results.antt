@@ -3,7 +3,7 @@ use Rattle.std.proofs.Common.{◌≡◌, ℕ, zero, suc, ◌+◌, ◌*◌, ◌<�
 use Rattle.std.proofs.lemmas.Bool.{true≢false, false≢true}
 use Rattle.std.specs.Option.{option_map}
 use Rattle.codegen.specs.Generated.{result_slot}
-use Rattle.codegen.specs.Layout.{variable_offset, result_offset, slots_from}
+use Rattle.expression_code.specs.Layout.{variable_offset, result_offset, slots_from}
 use Rattle.codegen.specs.Loaded.{word_in, numbers_at, array_in, arrays_in}
 use Rattle.image.specs.declared.slot.Slot.{Slot}
 use Rattle.inline.specs.declared.flat.FlatVariable.{FlatVariable}
@@ -19,7 +19,7 @@ use Rattle.language.specs.declared.signature.Param.{Param}
 use Rattle.language.specs.declared.typing.WordType.{WordType}
 use Rattle.language.specs.Size.{element_bytes}
 use Rattle.rv_machine.specs.Bytes.{ByteMap, number_at}
-use Rattle.codegen.proofs.Places.{bytes_of, place_of}
+use Rattle.expression_code.proofs.Places.{bytes_of, place_of}
 
 -- numbers that are there, one after another
 numbers_are : (bytes : ByteMap) (size at : ℕ) (vs : List ℕ) → ((i : ℕ) → i < length vs → number_at bytes size (at + size * i) ≡ Some (slice_index vs i)) → numbers_at bytes size at (length vs) ≡ vs

@@ -6,8 +6,8 @@ use Rattle.branch_removal.specs.Straight.{StraightTree, set, clear, fill, put, t
 use Rattle.branch_removal.specs.StraightMeaning.{StraightState, after, after_all, path_at, path_along}
 use Rattle.branch_removal.specs.StraightTyping.{IsTyped, AreTyped}
 use Rattle.codegen.specs.Emitted.{test_code, count_code, statement_code, block_code, height_of_all, height_of_put, height_in, height_in_all, depth_in, depth_in_all}
-use Rattle.codegen.specs.Layout.{variable_offset, next_offset}
-use Rattle.codegen.specs.TermCode.{height_of}
+use Rattle.expression_code.specs.Layout.{variable_offset, next_offset}
+use Rattle.expression_code.specs.TermCode.{height_of}
 use Rattle.inline.specs.FlatTyping.{counter_type}
 use Rattle.language.specs.WellTyped.{labelled}
 use Rattle.language.specs.declared.signature.Kind.TheVariants.{Boolean}
@@ -22,9 +22,9 @@ use Rattle.codegen.proofs.LoopRuns.{repeats_runs}
 use Rattle.codegen.proofs.SetRuns.{set_runs, set_under_runs, take_runs}
 use Rattle.codegen.proofs.Showing.{Shown}
 use Rattle.codegen.proofs.Slots.{hidden_then}
-use Rattle.codegen.proofs.Straight.{Setting, base_of, none, Runs, seq, weaken, cheaper, beside, idle}
-use Rattle.codegen.proofs.TermLengths.{height}
-use Rattle.codegen.proofs.Values.{Ready}
+use Rattle.expression_code.proofs.Straight.{Setting, base_of, none, Runs, seq, weaken, cheaper, beside, idle}
+use Rattle.expression_code.proofs.TermLengths.{height}
+use Rattle.expression_code.proofs.Values.{Ready}
 
 module _ (z : Setting) where
   mutual

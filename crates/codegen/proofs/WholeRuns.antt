@@ -26,15 +26,15 @@ use Rattle.rv_machine.specs.Machine.{IsAt}
 use Rattle.rv_machine.proofs.RunLaws.{Halts-after}
 use Rattle.rv_machine.proofs.TurnLaws.{ecall_halts}
 use Rattle.codegen.proofs.Arguments.{loaded}
-use Rattle.codegen.proofs.Places.{bytes_of}
+use Rattle.expression_code.proofs.Places.{bytes_of}
 use Rattle.codegen.proofs.Placing.{placed}
 use Rattle.codegen.proofs.ResultRuns.{steps_of_result, Given, result_runs}
 use Rattle.codegen.proofs.Results.{arrays_are, returned_is}
 use Rattle.codegen.proofs.Showing.{Shown}
 use Rattle.codegen.proofs.StatementRuns.{block_runs}
-use Rattle.codegen.proofs.Steps.{All-one}
-use Rattle.codegen.proofs.Straight.{Setting, Placed, Placed-left, Placed-right, Straight, Steps, Runs, seq, weaken, cheaper, beside}
-use Rattle.codegen.proofs.Values.{Ready}
+use Rattle.expression_code.proofs.Steps.{All-one}
+use Rattle.expression_code.proofs.Straight.{Setting, Placed, Placed-left, Placed-right, Straight, Steps, Runs, seq, weaken, cheaper, beside}
+use Rattle.expression_code.proofs.Values.{Ready}
 
 -- the state that the value is taken in
 abbrev last_state : StraightProgram → StraightState → StraightState
