@@ -1,5 +1,5 @@
 -- The code of a result puts it into its slot; without a result there is no code.
-use Rattle.std.proofs.Common.{◌≡◌, ℕ, ◌+◌, ◌*◌, ◌%◌, ◌^◌, ◌<◌, ◌≤◌, [], ◌++◌, Option, Some, None, subst, sym, arith}
+use Rattle.std.proofs.Common.{◌+◌, ◌*◌, ◌≤◌, Option, Some, None, subst, sym, arith}
 use Rattle.inline.specs.Flat.{TermTree}
 use Rattle.inline.specs.FlatMeaning.{value_in, path_of_result}
 use Rattle.inline.specs.FlatSize.{value_nodes}

@@ -1,5 +1,5 @@
 -- What is shown after a piece of a statement's code.
-use Rattle.std.proofs.Common.{◌≡◌, ◌≢◌, ℕ, ◌+◌, ◌*◌, ◌%◌, ◌^◌, ◌<◌, ◌≤◌, ◌==◌, Bool, true, false, cond, List, Some, slice_get, slice_index, refl, sym, ap, ◌∙◌, subst, arith, inl, inr}
+use Rattle.std.proofs.Common.{◌≡◌, ℕ, ◌+◌, ◌*◌, ◌^◌, ◌<◌, ◌≤◌, Bool, List, Some, slice_get, ap, ◌∙◌, subst, arith, inl, inr}
 use Rattle.inline.proofs.Fitting.{value_fits}
 use Rattle.inline.specs.declared.flat.FlatVariable.{FlatVariable}
 use Rattle.inline.specs.Fitting.{Fits}
@@ -18,7 +18,7 @@ use Rattle.expression_code.proofs.ExpressionRuns.{steps_of, expr_runs}
 use Rattle.expression_code.proofs.Held.{HeldAt, held_regs}
 use Rattle.codegen.proofs.Jumps.{Still}
 use Rattle.expression_code.proofs.Places.{bytes_of, place_of, place_within, ends_before_result}
-use Rattle.codegen.proofs.Slots.{Wrote, Hidden, hidden_then, hidden_by, hidden_kept, hidden_wrote, other_number}
+use Rattle.codegen.proofs.Slots.{Wrote, Hidden, other_number}
 use Rattle.expression_code.proofs.Straight.{Setting, base_of, Runs}
 use Rattle.expression_code.proofs.Values.{Kept, Ready, Valued, kept_number, kept_by, ready_after}
 

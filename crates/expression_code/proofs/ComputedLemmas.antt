@@ -1,20 +1,18 @@
 -- The law of expressions.
-use Rattle.std.proofs.Common.{◌≡◌, ℕ, ◌<◌, List, ◌++◌, [], sym, ap, subst, arith, false, All, ◌≤◌, ◌+◌, ◌*◌}
+use Rattle.std.proofs.Common.{◌≡◌, List, [], sym, ap, subst, arith, false, All}
 use Rattle.branch_removal.specs.StraightMeaning.{StraightState}
 use Rattle.inline.specs.Flat.{TermTree}
 use Rattle.inline.specs.FlatMeaning.{Values, path_in}
 use Rattle.inline.specs.FlatTyping.{types_of, HasType}
-use Rattle.inline.specs.Path.{Path, AreFine}
+use Rattle.inline.specs.Path.{Path}
 use Rattle.language.specs.declared.typing.WordType.{WordType}
 use Rattle.rv_machine.specs.Leakage.{Leads}
-use Rattle.rv_machine.specs.Machine.{State}
 use Rattle.rv_machine.specs.declared.observation.Observation.{Observation}
 use Rattle.expression_code.specs.Inside.{IsInside}
-use Rattle.expression_code.specs.Computed.{Site, IsSiteOf, Has, RunsThrough, IsComputed}
-use Rattle.expression_code.specs.TermCode.{expr_code}
-use Rattle.expression_code.proofs.ExpressionRuns.{steps_of, expr_runs}
-use Rattle.expression_code.proofs.Straight.{Setting, Straight, Ends, append-none, ends_on}
-use Rattle.expression_code.proofs.Values.{Ready, Valued}
+use Rattle.expression_code.specs.Computed.{Site, IsSiteOf, IsComputed}
+use Rattle.expression_code.proofs.ExpressionRuns.{expr_runs}
+use Rattle.expression_code.proofs.Straight.{Setting, append-none, ends_on}
+use Rattle.expression_code.proofs.Values.{Ready}
 
 -- no control value and no loop
 abbrev setting_of : (e : TermTree) (site : Site) → IsSiteOf e site → Setting

@@ -2,7 +2,7 @@
 -- before any state is given: it reads what it puts on the path and hands on the rest. So a piece that follows another
 -- reads on where that one has ended, and nobody has to say where the path is cut. A branch and a loop look at the
 -- path's next mark and choose by it. Each piece may count on it that its part of the path is fine.
-use Rattle.std.proofs.Common.{◌≡◌, ℕ, suc, ◌+◌, ◌*◌, ◌%◌, ◌^◌, ◌<◌, ◌≤◌, List, [], ◌∷◌, ◌++◌, length, Some, All, refl, sym, ap, ◌∙◌, subst, arith, length-append, append_assoc}
+use Rattle.std.proofs.Common.{◌≡◌, ℕ, suc, ◌+◌, ◌*◌, ◌%◌, ◌^◌, ◌<◌, ◌≤◌, List, [], ◌∷◌, ◌++◌, length, All, refl, sym, ap, ◌∙◌, subst, arith, length-append, append_assoc}
 use Rattle.std.proofs.lemmas.List.Elements.{All-append}
 use Rattle.inline.specs.Path.{Path, AreFine}
 use Rattle.inline.specs.declared.flat.FlatVariable.{FlatVariable}
