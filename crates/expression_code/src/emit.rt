@@ -23,6 +23,7 @@ pub fn upper_part(n: u32) -> UpperImmediate
     UpperImmediate::from_bits(((u64::from(n) + 2048) / 4096) as u32)
 }
 
+/// The lower part of a number, its last 12 bits.
 pub fn lower_part(n: u32) -> Immediate12
     ensures { result ≡ lower_part n }
 {

@@ -41,6 +41,7 @@ impl<'f> Model for Layout<'f> {
 }
 
 impl<'f> Layout<'f> {
+    /// The layout of variables that lie at these offsets, with the words behind them.
     pub fn new(declared: &'f [FlatVariable], offsets: &'f [u32], controls: u32, depths: u32) -> Self
         requires offsets { offsets.now ≡ offsets_from 0 declared.now }
         requires room { temporaries_offset declared.now controls depths ≤ 65536 }
