@@ -1,10 +1,10 @@
 -- The arguments, loaded: what the variables hold, and what lies in the slots.
-use Rattle.std.proofs.Common.{◌≡◌, ◌≢◌, ℕ, zero, suc, ◌+◌, ◌*◌, ◌/◌, ◌%◌, ◌^◌, ◌<◌, ◌≤◌, ◌-◌, true, false, List, [], ◌∷◌, length, map, take, drop, replicate, All, Option, Some, None, is_some, slice_get, slice_index, slice_index_or, refl, sym, ap, ◌∙◌, subst, arith}
+use Rattle.std.proofs.Common.{◌≡◌, ℕ, zero, suc, ◌+◌, ◌*◌, ◌%◌, ◌^◌, ◌<◌, ◌≤◌, ◌-◌, true, false, List, [], ◌∷◌, length, map, take, replicate, All, Some, is_some, slice_get, slice_index, refl, sym, ap, ◌∙◌, subst, arith}
 use Rattle.std.proofs.lemmas.List.{length-replicate}
 use Rattle.std.proofs.lemmas.List.Elements.{All-replicate}
 use Rattle.std.proofs.lemmas.Option.{same_Some, none-some}
-use Rattle.arguments.specs.Within.{AreWithin, IsWithin, HasShape, greatest_of, words_of}
-use Rattle.codegen.specs.Layout.{variable_offset, result_offset, control_offset, temporaries_offset, slots_from}
+use Rattle.arguments.specs.Within.{AreWithin, IsWithin, greatest_of, words_of}
+use Rattle.expression_code.specs.Layout.{result_offset, control_offset, slots_from}
 use Rattle.codegen.specs.Loaded.{with_numbers, with_argument, with_arguments}
 use Rattle.inline.specs.declared.flat.FlatVariable.{FlatVariable}
 use Rattle.inline.specs.Fitting.{Fits, IsHeld, IsWithinKind}
@@ -27,12 +27,11 @@ use Rattle.rv_machine.specs.Bytes.{ByteMap, number_at, with_number, zeros}
 use Rattle.rv_machine.proofs.ByteLaws.{number_at_same, number_at-with_number, with_number_below, with_number_above, is_some-with_number}
 use Rattle.rv_machine.specs.Machine.{State}
 use Rattle.branch_removal.specs.StraightMeaning.{StraightState}
-use Rattle.codegen.proofs.Held.{number_there}
-use Rattle.codegen.proofs.Masks.{mask_of}
+use Rattle.expression_code.proofs.Held.{number_there}
 use Rattle.codegen.proofs.Numbers.{numbers_below, numbers_above, numbers_there, zero_byte, zero_number}
-use Rattle.codegen.proofs.Places.{bytes_of, place_of, place_within, ends_before_result}
-use Rattle.codegen.proofs.Straight.{Setting}
-use Rattle.codegen.proofs.Values.{Ready}
+use Rattle.expression_code.proofs.Places.{bytes_of, place_of, place_within, ends_before_result}
+use Rattle.expression_code.proofs.Straight.{Setting}
+use Rattle.expression_code.proofs.Values.{Ready}
 
 greatest : (kind : Kind) (v : ℕ) → v ≤ greatest_of kind → v < 2 ^ bits_of kind
 greatest Boolean v h = omega (arith, h)

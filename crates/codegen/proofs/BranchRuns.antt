@@ -1,5 +1,5 @@
 -- The code of a branch on what is public.
-use Rattle.std.proofs.Common.{◌≡◌, ◌≢◌, ℕ, ◌+◌, ◌*◌, ◌%◌, ◌^◌, ◌<◌, ◌≤◌, ◌==◌, Bool, cond, if◌then◌else◌, List, ◌++◌, length, sym, ap, subst, arith, ne_eqb}
+use Rattle.std.proofs.Common.{◌≡◌, ◌≢◌, ℕ, ◌+◌, ◌*◌, ◌^◌, ◌<◌, ◌≤◌, ◌==◌, cond, List, ◌++◌, length, sym, ap, subst, arith, ne_eqb}
 use Rattle.inline.specs.Flat.{TermTree}
 use Rattle.inline.specs.FlatMeaning.{value_in}
 use Rattle.inline.specs.FlatSize.{term_nodes}
@@ -7,16 +7,16 @@ use Rattle.inline.specs.FlatTyping.{types_of, HasType}
 use Rattle.branch_removal.specs.Straight.{StraightBlock, branch}
 use Rattle.branch_removal.specs.StraightMeaning.{StraightState, after, after_all, path_at, path_along}
 use Rattle.codegen.specs.Jumps.{branch_code}
-use Rattle.codegen.specs.TermCode.{expr_code, height_of}
+use Rattle.expression_code.specs.TermCode.{expr_code, height_of}
 use Rattle.language.specs.declared.typing.WordType.{WordType}
 use Rattle.rv_code.specs.declared.instructions.Instr.{Instr}
 use Rattle.rv_machine.specs.Machine as machine
-use Rattle.codegen.proofs.ExpressionRuns.{expr_runs}
+use Rattle.expression_code.proofs.ExpressionRuns.{expr_runs}
 use Rattle.codegen.proofs.Jumps.{Still, branching}
 use Rattle.codegen.proofs.Showing.{Shown, ready_valued, ready_still}
-use Rattle.codegen.proofs.Slots.{Hidden, hidden_then, hidden_by, hidden_kept}
-use Rattle.codegen.proofs.Straight.{Setting, base_of, Runs, seq, weaken}
-use Rattle.codegen.proofs.Values.{Ready, Valued}
+use Rattle.codegen.proofs.Slots.{hidden_then, hidden_by, hidden_kept}
+use Rattle.expression_code.proofs.Straight.{Setting, base_of, Runs, seq, weaken}
+use Rattle.expression_code.proofs.Values.{Ready}
 
 -- the condition is known
 record Tested (z : Setting) (condition : TermTree) (env : StraightState) (s : machine.State) : Type 0 where

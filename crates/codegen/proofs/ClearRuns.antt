@@ -1,24 +1,21 @@
 -- The code that makes an array of zeros.
-use Rattle.std.proofs.Common.{◌≡◌, ◌≢◌, ℕ, zero, suc, ◌+◌, ◌-◌, ◌*◌, ◌/◌, ◌%◌, ◌^◌, ◌<◌, ◌≤◌, ◌==◌, ◌⊎◌, inl, inr, Bool, true, false, cond, nat_lt, List, [], ◌∷◌, ◌++◌, length, replicate, None, Some, slice_get, slice_index, is_some, refl, sym, ap, ◌∙◌, subst, arith, ne_eqb}
-use Rattle.std.proofs.lemmas.Bool.{cases_eq}
+use Rattle.std.proofs.Common.{◌≡◌, ◌≢◌, ℕ, zero, suc, ◌+◌, ◌-◌, ◌*◌, ◌/◌, ◌%◌, ◌^◌, ◌<◌, ◌≤◌, ◌==◌, ◌⊎◌, inl, inr, Bool, true, false, cond, nat_lt, [], ◌∷◌, ◌++◌, replicate, Some, slice_get, slice_index, refl, sym, ap, ◌∙◌, subst, arith}
 use Rattle.std.proofs.lemmas.Bool.Decides.{nat_tests}
 use Rattle.std.proofs.lemmas.Option.{same_Some}
 use Rattle.inline.specs.declared.flat.FlatVariable.{FlatVariable}
 use Rattle.inline.specs.Fitting.{IsHeld}
 use Rattle.inline.specs.Flat.{array_as, numbers_in}
-use Rattle.inline.specs.FlatMeaning.{turns, path_of_turns}
-use Rattle.inline.specs.FlatSize.{words_of}
+use Rattle.inline.specs.FlatMeaning.{path_of_turns}
 use Rattle.inline.specs.Path.{Path}
 use Rattle.branch_removal.specs.Straight.{clear}
-use Rattle.branch_removal.specs.StraightMeaning.{StraightState, with_variable, after, path_at}
+use Rattle.branch_removal.specs.StraightMeaning.{StraightState, with_variable, after}
 use Rattle.branch_removal.specs.StraightTyping.{IsFilled}
 use Rattle.codegen.specs.Emitted.{clear_code, statement_code}
 use Rattle.codegen.specs.Jumps.{loop_code}
-use Rattle.codegen.specs.Layout.{variable_offset, result_offset, control_offset, next_offset}
-use Rattle.codegen.specs.TermCode.{upper_part, lower_part, constant_code, kind_at}
+use Rattle.expression_code.specs.Layout.{variable_offset, result_offset, control_offset}
+use Rattle.expression_code.specs.TermCode.{upper_part, lower_part, constant_code}
 use Rattle.language.specs.declared.signature.Kind.{Kind}
 use Rattle.language.specs.declared.signature.Kind.TheVariants.{Boolean, Uint8, Uint16, Uint32}
-use Rattle.language.specs.declared.typing.WordType.{WordType}
 use Rattle.language.specs.Size.{array_words}
 use Rattle.rv_code.specs.declared.instructions.Instr.TheVariants as instr
 use Rattle.rv_code.specs.declared.operations.UpperOperation.TheVariants.{Lui}
@@ -29,21 +26,21 @@ use Rattle.rv_machine.specs.Bytes.{ByteMap, number_at, with_number}
 use Rattle.rv_machine.specs.Effects.{sum_of, difference_of, sign_extended}
 use Rattle.rv_machine.specs.Machine as machine
 use Rattle.rv_machine.specs.Registers.{register}
-use Rattle.rv_machine.proofs.ByteLaws.{number_at_same, with_number-suc, with_number-zero, with_byte_same, with_byte_other, with_number_below, with_number_above}
+use Rattle.rv_machine.proofs.ByteLaws.{number_at_same, with_number-suc, with_byte_same, with_byte_other, with_number_below, with_number_above}
 use Rattle.codegen.proofs.Arguments.{zero_at, held_zeros}
-use Rattle.codegen.proofs.Arithmetic.{near_field, parts, upper_fits, lower_fits}
-use Rattle.codegen.proofs.Computing.{same_number, computing_runs}
-use Rattle.codegen.proofs.ExpressionRuns.{kind_known}
-use Rattle.codegen.proofs.Held.{HeldAt, Held, held_regs, held_store, frame_there}
+use Rattle.expression_code.proofs.Arithmetic.{near_field, parts, upper_fits, lower_fits}
+use Rattle.expression_code.proofs.Computing.{same_number, computing_runs}
+use Rattle.expression_code.proofs.ExpressionRuns.{kind_known}
+use Rattle.expression_code.proofs.Held.{HeldAt, Held, held_regs, held_store, frame_there}
 use Rattle.codegen.proofs.Jumps.{Still, looping_for}
 use Rattle.codegen.proofs.Marks.{never}
 use Rattle.codegen.proofs.Numbers.{zero_number}
-use Rattle.codegen.proofs.Pieces.{register-at}
-use Rattle.codegen.proofs.Places.{bytes_of, place_of, place_within, ends_before_result, apart_from}
+use Rattle.expression_code.proofs.Pieces.{register-at}
+use Rattle.expression_code.proofs.Places.{bytes_of, place_of, place_within, ends_before_result, apart_from}
 use Rattle.codegen.proofs.Showing.{Shown}
-use Rattle.codegen.proofs.Steps.{Always, Moves, Fit, Inside, computing, storing}
-use Rattle.codegen.proofs.Straight.{Setting, Steps, none, Runs, seq, quiet, weaken, cheaper, along, as_code}
-use Rattle.codegen.proofs.Values.{Ready}
+use Rattle.expression_code.proofs.Steps.{Always, Moves, computing, storing}
+use Rattle.expression_code.proofs.Straight.{Setting, none, Runs, seq, quiet, weaken, cheaper, along, as_code}
+use Rattle.expression_code.proofs.Values.{Ready}
 
 -- No turn changes the state of straight code, or puts anything on the path.
 

@@ -1,12 +1,12 @@
 -- How long the code of statements is, and how much room they take in the frame.
-use Rattle.std.proofs.Common.{ℕ, ◌+◌, ◌*◌, ◌≤◌, ◌==◌, Bool, true, false, cond, nat_lt, List, [], ◌∷◌, ◌++◌, length, Option, None, Some, max, arith, length-append}
+use Rattle.std.proofs.Common.{ℕ, ◌+◌, ◌*◌, ◌≤◌, nat_lt, List, [], ◌∷◌, ◌++◌, length, Option, None, Some, max, arith, length-append}
 use Rattle.std.proofs.Math.Nat.{max-le}
 use Rattle.branch_removal.specs.Bounds.{statement_nodes, block_nodes, taken_in, taken_in_all}
 use Rattle.branch_removal.specs.Straight.{StraightTree, set, clear, fill, put, take, set_under, put_under, branch, repeats, StraightBlock, nothing, first}
-use Rattle.codegen.specs.Emitted.{masks_code, within_code, merge_code, element_store_code, clear_code, fill_code, index_code, put_code, put_under_code, store_by, bounds_code, test_code, count_code, statement_code, block_code, height_of_all, height_of_put, height_in, height_in_all, depth_in, depth_in_all}
+use Rattle.codegen.specs.Emitted.{within_code, merge_code, element_store_code, clear_code, fill_code, index_code, put_code, put_under_code, store_by, bounds_code, test_code, count_code, statement_code, block_code, height_of_all, height_of_put, height_in, height_in_all, depth_in, depth_in_all}
 use Rattle.codegen.specs.Jumps.{branch_code, loop_code}
-use Rattle.codegen.specs.Layout.{variable_offset, control_offset, next_offset, temporaries_offset}
-use Rattle.codegen.specs.TermCode.{load_code, store_code, constant_code, address_code, load_by, lower_part, kind_at, expr_code, height_of}
+use Rattle.expression_code.specs.Layout.{variable_offset, control_offset, next_offset, temporaries_offset}
+use Rattle.expression_code.specs.TermCode.{load_code, address_code, load_by, lower_part, kind_at, expr_code, height_of}
 use Rattle.inline.specs.declared.flat.FlatVariable.{FlatVariable}
 use Rattle.inline.specs.Flat.{TermTree}
 use Rattle.inline.specs.FlatSize.{term_nodes, terms_nodes}
@@ -15,7 +15,7 @@ use Rattle.language.specs.Size.{element_bytes, array_words}
 use Rattle.rv_code.specs.declared.instructions.Instr.{Instr}
 use Rattle.rv_code.specs.declared.instructions.Instr.TheVariants.{Register, Load, Store}
 use Rattle.rv_code.specs.declared.operations.RegisterOperation.TheVariants.{Add}
-use Rattle.codegen.proofs.TermLengths.{height, one_of, load_length, store_length, constant_length, address_length, expr_length}
+use Rattle.expression_code.proofs.TermLengths.{height, one_of, load_length, store_length, constant_length, address_length, expr_length}
 
 -- Pieces.
 

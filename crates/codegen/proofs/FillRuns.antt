@@ -16,8 +16,8 @@ use Rattle.branch_removal.specs.Straight.{fill}
 use Rattle.branch_removal.specs.StraightMeaning.{StraightState, with_variable, with_element, value_at, after, path_at}
 use Rattle.branch_removal.specs.StraightTyping.{IsFilled, types_but}
 use Rattle.codegen.specs.Emitted.{store_by, element_store_code, fill_code, statement_code, height_of_all}
-use Rattle.codegen.specs.Layout.{variable_offset}
-use Rattle.codegen.specs.TermCode.{upper_part, lower_part, expr_code, height_of}
+use Rattle.expression_code.specs.Layout.{variable_offset}
+use Rattle.expression_code.specs.TermCode.{upper_part, lower_part, expr_code, height_of}
 use Rattle.language.specs.declared.signature.Kind.{Kind}
 use Rattle.language.specs.declared.typing.WordType.{WordType}
 use Rattle.language.specs.Size.{element_bytes}
@@ -29,17 +29,17 @@ use Rattle.rv_machine.specs.Effects.{store_size, sum_of, sign_extended}
 use Rattle.rv_machine.specs.Machine as machine
 use Rattle.rv_machine.specs.Registers.{register}
 use Rattle.rv_machine.specs.Sizes.{byte_count}
-use Rattle.codegen.proofs.Arithmetic.{near_address, far_address, upper_fits, lower_fits}
-use Rattle.codegen.proofs.ExpressionRuns.{steps_of, kind_known}
-use Rattle.codegen.proofs.Held.{HeldAt, Held, held_store, frame_there}
-use Rattle.codegen.proofs.Places.{place_of, place_aligned}
+use Rattle.expression_code.proofs.Arithmetic.{near_address, far_address, upper_fits, lower_fits}
+use Rattle.expression_code.proofs.ExpressionRuns.{steps_of, kind_known}
+use Rattle.expression_code.proofs.Held.{HeldAt, Held, held_store, frame_there}
+use Rattle.expression_code.proofs.Places.{place_of, place_aligned}
 use Rattle.codegen.proofs.PutRuns.{store_bytes, element_before, element_inside}
 use Rattle.codegen.proofs.Showing.{Shown, suits_fits, value_runs, ready_valued, wrote_as}
 use Rattle.codegen.proofs.Slots.{Wrote, hidden_then, hidden_kept, hidden_wrote, cut_element, ready_same, ready_put}
-use Rattle.codegen.proofs.Steps.{Always, Inside, Fit, Moves, storing, computing}
-use Rattle.codegen.proofs.Straight.{Setting, base_of, none, Runs, seq, quiet, weaken, cheaper, beside, along, as_code, idle}
-use Rattle.codegen.proofs.TermLengths.{height}
-use Rattle.codegen.proofs.Values.{Ready}
+use Rattle.expression_code.proofs.Steps.{Always, Inside, Fit, Moves, storing, computing}
+use Rattle.expression_code.proofs.Straight.{Setting, base_of, none, Runs, seq, quiet, weaken, cheaper, beside, along, as_code, idle}
+use Rattle.expression_code.proofs.TermLengths.{height}
+use Rattle.expression_code.proofs.Values.{Ready}
 
 -- The value's register into an element of a fixed place.
 module _ (z : Setting) (kind : Kind) (o : ℕ) (inside : o + element_bytes kind ≤ z.size) (even : (z.frame + o) % element_bytes kind ≡ 0) where

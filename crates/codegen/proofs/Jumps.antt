@@ -4,7 +4,7 @@ use Rattle.std.proofs.Math.Path.{fun_ext}
 use Rattle.std.proofs.lemmas.Bool.{true≢false}
 use Rattle.std.proofs.lemmas.Bool.Decides.{nat_tests}
 use Rattle.branch_removal.specs.StraightMeaning.{StraightState}
-use Rattle.codegen.specs.Bases.{IsInside}
+use Rattle.expression_code.specs.Inside.{IsInside}
 use Rattle.codegen.specs.Jumps.{skip, over, back, branch_code, loop_code}
 use Rattle.std.specs.Prelude.{slice_index}
 use Rattle.std.proofs.lemmas.Nat.{mul-le}
@@ -20,8 +20,8 @@ use Rattle.rv_machine.specs.Machine as machine
 use Rattle.rv_machine.specs.Machine.{with_link, moved_to, next}
 use Rattle.rv_machine.specs.Registers.{with_register}
 use Rattle.rv_machine.proofs.TurnLaws.{with_link-pc, with_link-regs, with_link-bytes, moved_to-pc, moved_to-regs, moved_to-bytes, jump_leads, branch_leads, branch_passes}
-use Rattle.codegen.proofs.Steps.{All-one, stands}
-use Rattle.codegen.proofs.Straight.{Setting, Placed, Placed-left, Placed-right, Before, After, Steps, none, Leak, always, both, fine_left, fine_right, Ends, Straight, Runs, then_ends, ends_as, ends_to, ends_by, ends_on, Placed-below}
+use Rattle.expression_code.proofs.Steps.{All-one, stands}
+use Rattle.expression_code.proofs.Straight.{Setting, Placed, Placed-left, Placed-right, Before, After, Steps, none, Leak, always, both, fine_left, fine_right, Ends, Straight, Runs, then_ends, ends_as, ends_to, ends_by, ends_on, Placed-below}
 
 -- only the program counter has changed
 pub record Still (s t : machine.State) : Type 0 where

@@ -1,5 +1,5 @@
 -- The code of a loop.
-use Rattle.std.proofs.Common.{◌≡◌, ◌≢◌, ℕ, zero, suc, ◌+◌, ◌-◌, ◌*◌, ◌%◌, ◌^◌, ◌<◌, ◌≤◌, true, false, nat_lt, List, [], ◌∷◌, ◌++◌, length, Some, slice_get, slice_index, refl, sym, ap, ap₂, ◌∙◌, arith, inr, append_assoc}
+use Rattle.std.proofs.Common.{◌≡◌, ℕ, zero, suc, ◌+◌, ◌-◌, ◌*◌, ◌^◌, ◌<◌, ◌≤◌, true, false, nat_lt, List, [], ◌∷◌, ◌++◌, length, Some, slice_get, slice_index, refl, sym, ap, ap₂, ◌∙◌, arith, inr, append_assoc}
 use Rattle.std.proofs.lemmas.Bool.Decides.{nat_tests}
 use Rattle.std.proofs.lemmas.Option.{same_Some}
 use Rattle.inline.specs.Flat.{TermTree, word_as}
@@ -11,8 +11,8 @@ use Rattle.branch_removal.specs.Straight.{StraightBlock, repeats}
 use Rattle.branch_removal.specs.StraightMeaning.{StraightState, counted, after, after_all, path_at, path_along}
 use Rattle.codegen.specs.Emitted.{bounds_code, test_code, count_code}
 use Rattle.codegen.specs.Jumps.{loop_code}
-use Rattle.codegen.specs.Layout.{variable_offset, next_offset}
-use Rattle.codegen.specs.TermCode.{load_code, store_code, expr_code, height_of}
+use Rattle.expression_code.specs.Layout.{variable_offset, next_offset}
+use Rattle.expression_code.specs.TermCode.{store_code, expr_code, height_of}
 use Rattle.word.specs.Operators.{word_of}
 use Rattle.rv_code.specs.declared.instructions.Instr.{Instr}
 use Rattle.rv_code.specs.declared.instructions.Instr.TheVariants as instr
@@ -21,16 +21,16 @@ use Rattle.rv_code.specs.declared.operations.RegisterOperation.TheVariants.{Sltu
 use Rattle.rv_machine.specs.Bytes.{ByteMap, number_at}
 use Rattle.rv_machine.specs.Effects.{sum_of}
 use Rattle.rv_machine.specs.Machine as machine
-use Rattle.codegen.proofs.Computing.{computing_runs}
-use Rattle.codegen.proofs.ExpressionRuns.{steps_of, expr_runs, pushed, value_word}
-use Rattle.codegen.proofs.Held.{HeldAt, held_regs}
+use Rattle.expression_code.proofs.Computing.{computing_runs}
+use Rattle.expression_code.proofs.ExpressionRuns.{expr_runs, pushed, value_word}
+use Rattle.expression_code.proofs.Held.{HeldAt, held_regs}
 use Rattle.codegen.proofs.Jumps.{Still, looping}
-use Rattle.codegen.proofs.Pieces.{load_runs}
+use Rattle.expression_code.proofs.Pieces.{load_runs}
 use Rattle.codegen.proofs.Showing.{Shown, ready_with, ready_below, ready_behind, word_before, wrote_as}
-use Rattle.codegen.proofs.Slots.{Wrote, Hidden, hidden_then, hidden_less, hidden_by, hidden_wrote, hidden_beyond, hidden_number, put_wrote, other_number, ready_set}
-use Rattle.codegen.proofs.Stores.{store_runs}
-use Rattle.codegen.proofs.Straight.{Setting, base_of, none, Runs, seq, quiet, quietly, weaken, as_code, beside}
-use Rattle.codegen.proofs.Values.{Kept, Ready, Valued, kept_number, kept_less, put_there}
+use Rattle.codegen.proofs.Slots.{Hidden, hidden_then, hidden_less, hidden_by, hidden_wrote, hidden_beyond, hidden_number, put_wrote, other_number, ready_set}
+use Rattle.expression_code.proofs.Stores.{store_runs}
+use Rattle.expression_code.proofs.Straight.{Setting, base_of, none, Runs, seq, quiet, quietly, weaken, as_code, beside}
+use Rattle.expression_code.proofs.Values.{Kept, Ready, kept_number, kept_less, put_there}
 
 -- So many turns are left, the next of them for this number: both of the loop's words tell it.
 pub record AtLoop (z : Setting) (next left i : ℕ) (env : StraightState) (s : machine.State) : Type 0 where

@@ -1,12 +1,12 @@
 -- Code behind an index on the path: it knows the index beforehand.
-use Rattle.std.proofs.Common.{◌≡◌, ℕ, ◌<◌, ◌+◌, ◌*◌, Bool, true, false, nat_lt, List, [], ◌∷◌, length, refl, arith}
+use Rattle.std.proofs.Common.{◌≡◌, ℕ, ◌<◌, Bool, true, false, nat_lt, List, [], ◌∷◌, refl, arith}
 use Rattle.std.proofs.lemmas.Bool.Decides.{nat_tests}
-use Rattle.inline.specs.Path.{Path, indexed}
+use Rattle.inline.specs.Path.{indexed}
 use Rattle.branch_removal.specs.StraightMeaning.{StraightState}
 use Rattle.rv_code.specs.declared.instructions.Instr.{Instr}
 use Rattle.rv_machine.specs.Machine as machine
 use Rattle.word.specs.declared.place.Place.{Place}
-use Rattle.codegen.proofs.Straight.{Setting, Steps, Before, After, Leak, always, Ends, Runs, ends_by}
+use Rattle.expression_code.proofs.Straight.{Setting, Steps, Before, After, Leak, always, Runs, ends_by}
 
 -- and that it is this one, below the size
 pub record Indexed (P : Before) (index : StraightState → ℕ) (size i : ℕ) (env : StraightState) (s : machine.State) : Type 0 where

@@ -1,5 +1,5 @@
 -- Numbers that are put one after another.
-use Rattle.std.proofs.Common.{◌≡◌, ◌≢◌, ℕ, zero, suc, ◌+◌, ◌*◌, ◌%◌, ◌^◌, ◌<◌, ◌≤◌, true, ◌&&◌, cond, nat_le, nat_lt, List, [], ◌∷◌, length, All, Some, None, is_some, slice_index, refl, sym, ap, ap₂, ◌∙◌, subst, arith}
+use Rattle.std.proofs.Common.{◌≡◌, ℕ, zero, suc, ◌+◌, ◌*◌, ◌%◌, ◌^◌, ◌<◌, ◌≤◌, true, ◌&&◌, cond, nat_le, nat_lt, List, [], ◌∷◌, length, Some, None, slice_index, refl, ap, ap₂, ◌∙◌, arith}
 use Rattle.std.proofs.lemmas.Bool.Decides.{nat_tests}
 use Rattle.rv_machine.specs.Bytes.{ByteMap, joined, number_at, with_number, zeros}
 use Rattle.rv_machine.proofs.ByteLaws.{number_at_same, number_at-with_number, number_at-zero, number_at-suc, with_number_below, with_number_above}

@@ -1,24 +1,24 @@
 -- Well-typed statements that are not too large have their places.
-use Rattle.std.proofs.Common.{◌≡◌, ℕ, ◌+◌, ◌*◌, ◌/◌, ◌^◌, ◌≤◌, ◌<◌, ◌==◌, ◌++◌, Bool, true, false, List, [], ◌∷◌, length, max, Option, Some, None, slice_get, cond, subst, sym, arith, length-append}
+use Rattle.std.proofs.Common.{◌≡◌, ℕ, ◌+◌, ◌*◌, ◌≤◌, ◌<◌, ◌==◌, Bool, true, false, List, [], ◌∷◌, length, max, Some, None, slice_get, cond, arith, length-append}
 use Rattle.std.proofs.Math.Nat.{le-max_left, le-max_right}
 use Rattle.branch_removal.specs.Bounds.{statement_nodes, block_nodes}
 use Rattle.branch_removal.specs.Straight.{StraightTree, set, clear, fill, put, take, set_under, put_under, branch, repeats, StraightBlock, nothing, first}
 use Rattle.branch_removal.specs.StraightTyping.{IsTyped, AreTyped, types_but}
-use Rattle.codegen.specs.Emitted.{test_code, count_code, block_code, height_of_all, height_in, height_in_all, depth_in, depth_in_all}
-use Rattle.codegen.specs.Layout.{variable_offset, result_offset, next_offset, temporaries_offset}
+use Rattle.codegen.specs.Emitted.{count_code, block_code, height_of_all, height_in, height_in_all, depth_in, depth_in_all}
+use Rattle.expression_code.specs.Layout.{variable_offset, next_offset, temporaries_offset}
 use Rattle.codegen.specs.Placed.{IsPlaced, ArePlacedTerms, HasPlace, HavePlaces}
-use Rattle.codegen.specs.TermCode.{IsAmong, height_of}
+use Rattle.expression_code.specs.TermCode.{height_of}
 use Rattle.inline.specs.declared.flat.FlatVariable.{FlatVariable}
 use Rattle.inline.specs.Flat.{TermTree, array_as}
-use Rattle.inline.specs.FlatSize.{words_of, declared_words, terms_nodes, term_nodes}
-use Rattle.inline.specs.FlatTyping.{types_of, Suits, AllSuit, HasType}
+use Rattle.inline.specs.FlatSize.{declared_words}
+use Rattle.inline.specs.FlatTyping.{types_of, AllSuit, HasType}
 use Rattle.language.specs.declared.signature.Kind.{Kind}
 use Rattle.language.specs.declared.signature.Kind.TheVariants.{Boolean, Uint8, Uint16, Uint32}
 use Rattle.language.specs.declared.typing.WordType.{WordType}
 use Rattle.language.specs.Size.{array_words}
 use Rattle.codegen.proofs.CodeLengths.{block_length, test_length, count_length}
-use Rattle.codegen.proofs.Places.{ends_before_result}
-use Rattle.codegen.proofs.TermTypes.{known_among, typed_within, typed_among}
+use Rattle.expression_code.proofs.Places.{ends_before_result}
+use Rattle.expression_code.proofs.TermTypes.{known_among, typed_within, typed_among}
 
 -- an array has no more elements than bytes
 elements_in_words : (kind : Kind) (size : ℕ) → size ≤ 4 * array_words kind size

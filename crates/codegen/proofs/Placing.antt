@@ -4,7 +4,7 @@ use Rattle.std.proofs.lemmas.Bool.Decides.{nat_tests}
 use Rattle.rv_code.specs.declared.instructions.Instr.{Instr}
 use Rattle.rv_code.specs.Words.{word_of}
 use Rattle.rv_machine.specs.Machine.{word_at}
-use Rattle.codegen.proofs.Straight.{Placed}
+use Rattle.expression_code.proofs.Straight.{Placed}
 
 slice_at : (before : List ℕ) (w : ℕ) (rest : List ℕ) → slice_get (before ++ w ∷ rest) (length before) ≡ Some w
 slice_at [] w rest = refl

@@ -1,6 +1,5 @@
 -- The code that sets an element of an array.
-use Rattle.std.proofs.Common.{◌≡◌, ◌≢◌, ℕ, ◌+◌, ◌*◌, ◌%◌, ◌^◌, ◌<◌, ◌≤◌, Bool, true, false, cond, if◌then◌else◌, List, [], ◌∷◌, ◌++◌, Some, slice_get, slice_index, is_some, refl, sym, ap, ◌∙◌, subst, arith, append_assoc}
-use Rattle.std.specs.Prelude.{slice_set, max}
+use Rattle.std.proofs.Common.{◌≡◌, ℕ, ◌+◌, ◌*◌, ◌%◌, ◌^◌, ◌<◌, ◌≤◌, Bool, true, false, if◌then◌else◌, List, [], ◌∷◌, ◌++◌, Some, slice_get, slice_index, is_some, refl, sym, ap, ◌∙◌, subst, arith, append_assoc}
 use Rattle.std.proofs.Math.Nat.{le-max_left, le-max_right}
 use Rattle.std.proofs.lemmas.List.{set-get_or}
 use Rattle.std.proofs.lemmas.Option.{same_Some}
@@ -11,12 +10,12 @@ use Rattle.inline.specs.FlatMeaning.{value_in, path_in}
 use Rattle.inline.specs.FlatSize.{term_nodes}
 use Rattle.inline.specs.FlatTyping.{types_of, HasType, counter_type}
 use Rattle.inline.specs.Path.{indexed}
-use Rattle.branch_removal.specs.Straight.{StraightTree, put, put_under}
+use Rattle.branch_removal.specs.Straight.{put, put_under}
 use Rattle.branch_removal.specs.StraightMeaning.{StraightState, with_variable, with_element, after, path_at}
 use Rattle.branch_removal.specs.StraightTyping.{IsPut}
 use Rattle.codegen.specs.Emitted.{store_by, index_code, put_code, put_under_code, merge_code, statement_code, height_of_put}
-use Rattle.codegen.specs.Layout.{variable_offset, result_offset, control_offset, next_offset}
-use Rattle.codegen.specs.TermCode.{lower_part, load_by, load_code, store_code, address_code, kind_at, expr_code, height_of}
+use Rattle.expression_code.specs.Layout.{variable_offset, result_offset, control_offset}
+use Rattle.expression_code.specs.TermCode.{lower_part, load_by, load_code, store_code, address_code, kind_at, expr_code, height_of}
 use Rattle.language.specs.declared.signature.Kind.{Kind}
 use Rattle.language.specs.declared.signature.Kind.TheVariants.{Boolean, Uint8, Uint16, Uint32}
 use Rattle.language.specs.declared.typing.WordType.{WordType}
@@ -31,20 +30,20 @@ use Rattle.rv_machine.specs.Effects.{load_size, loaded_value, store_size, sum_of
 use Rattle.rv_machine.specs.Machine as machine
 use Rattle.rv_machine.specs.Registers.{register}
 use Rattle.rv_machine.specs.Sizes.{byte_count}
-use Rattle.codegen.proofs.Arithmetic.{lower_fits}
-use Rattle.codegen.proofs.Computing.{computing_runs}
-use Rattle.codegen.proofs.Elements.{IsFree, Addressed, address_runs}
-use Rattle.codegen.proofs.ExpressionRuns.{steps_of, expr_runs, pushed, value_word, kind_known}
-use Rattle.codegen.proofs.Held.{HeldAt, held_regs, held_store, frame_there}
+use Rattle.expression_code.proofs.Arithmetic.{lower_fits}
+use Rattle.expression_code.proofs.Computing.{computing_runs}
+use Rattle.expression_code.proofs.Elements.{IsFree, Addressed, address_runs}
+use Rattle.expression_code.proofs.ExpressionRuns.{steps_of, expr_runs, pushed, value_word, kind_known}
+use Rattle.expression_code.proofs.Held.{HeldAt, held_regs, held_store, frame_there}
 use Rattle.codegen.proofs.Marks.{Indexed, by_index}
-use Rattle.codegen.proofs.Masks.{mask_of, merged, merge}
-use Rattle.codegen.proofs.Pieces.{load_runs, register-at}
-use Rattle.codegen.proofs.Places.{bytes_of, place_of, place_within, place_aligned, ends_before_result}
-use Rattle.codegen.proofs.Showing.{Shown, suits_fits, ready_with, wrote_as}
+use Rattle.expression_code.proofs.Masks.{mask_of, merged, merge}
+use Rattle.expression_code.proofs.Pieces.{load_runs}
+use Rattle.expression_code.proofs.Places.{place_of, place_within, place_aligned, ends_before_result}
+use Rattle.codegen.proofs.Showing.{Shown, ready_with}
 use Rattle.codegen.proofs.Slots.{Wrote, Hidden, hidden_then, hidden_by, hidden_kept, hidden_wrote, cut_kind, cut_element, ready_put, ready_under}
-use Rattle.codegen.proofs.Steps.{Always, Inside, Fit, Moves, loading, storing, computing}
-use Rattle.codegen.proofs.Straight.{Setting, base_of, none, Runs, seq, quiet, quietly, weaken, cheaper, as_code}
-use Rattle.codegen.proofs.Values.{Ready, Valued, Pushed, kept_number, kept_less, ready_after}
+use Rattle.expression_code.proofs.Steps.{Inside, loading, storing, computing}
+use Rattle.expression_code.proofs.Straight.{Setting, base_of, none, Runs, seq, quiet, weaken, cheaper, as_code}
+use Rattle.expression_code.proofs.Values.{Ready, Pushed, kept_number, kept_less, ready_after}
 
 pub store_bytes : (kind : Kind) → byte_count (store_size (store_by kind)) ≡ element_bytes kind
 store_bytes Boolean = refl

@@ -1,5 +1,5 @@
 -- The code of a result puts it into its slot; without a result there is no code.
-use Rattle.std.proofs.Common.{◌≡◌, ℕ, ◌+◌, ◌*◌, ◌%◌, ◌^◌, ◌<◌, ◌≤◌, [], ◌++◌, Option, Some, None, subst, sym, arith}
+use Rattle.std.proofs.Common.{◌+◌, ◌*◌, ◌≤◌, Option, Some, None, subst, sym, arith}
 use Rattle.inline.specs.Flat.{TermTree}
 use Rattle.inline.specs.FlatMeaning.{value_in, path_of_result}
 use Rattle.inline.specs.FlatSize.{value_nodes}
@@ -7,15 +7,15 @@ use Rattle.inline.specs.FlatTyping.{types_of, IsResult}
 use Rattle.language.specs.declared.typing.WordType.{WordType}
 use Rattle.branch_removal.specs.StraightMeaning.{StraightState}
 use Rattle.codegen.specs.Generated.{result_code, result_height}
-use Rattle.codegen.specs.Layout.{result_offset}
+use Rattle.expression_code.specs.Layout.{result_offset}
 use Rattle.rv_machine.specs.Machine as machine
-use Rattle.codegen.proofs.ExpressionRuns.{value_word}
+use Rattle.expression_code.proofs.ExpressionRuns.{value_word}
 use Rattle.codegen.proofs.Results.{Left}
 use Rattle.codegen.proofs.Showing.{value_runs, ready_valued, ready_result}
 use Rattle.codegen.proofs.Slots.{put_wrote}
-use Rattle.codegen.proofs.Stores.{store_runs}
-use Rattle.codegen.proofs.Straight.{Setting, base_of, Steps, Runs, quiet, weaken, cheaper, idle}
-use Rattle.codegen.proofs.Values.{Ready, put_there}
+use Rattle.expression_code.proofs.Stores.{store_runs}
+use Rattle.expression_code.proofs.Straight.{Setting, base_of, Steps, Runs, quiet, weaken, cheaper, idle}
+use Rattle.expression_code.proofs.Values.{Ready, put_there}
 
 -- what a result puts on the path
 abbrev pub steps_of_result : Option TermTree → Steps

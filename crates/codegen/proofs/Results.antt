@@ -1,11 +1,9 @@
 -- What the slots hold in the end: the result, and the arrays that may be changed.
-use Rattle.std.proofs.Common.{◌≡◌, ℕ, zero, suc, ◌+◌, ◌*◌, ◌<◌, ◌≤◌, List, [], ◌∷◌, ◌++◌, length, map, take, drop, Option, Some, None, unwrap_or, slice_get, slice_index, refl, sym, ap, ap₂, ◌∙◌, subst, arith}
-use Rattle.std.proofs.lemmas.Bool.{true≢false, false≢true}
+use Rattle.std.proofs.Common.{◌≡◌, ℕ, suc, ◌+◌, ◌*◌, ◌<◌, List, [], ◌∷◌, ◌++◌, length, map, take, Option, Some, None, unwrap_or, slice_get, slice_index, refl, sym, ap, ap₂, ◌∙◌, arith}
 use Rattle.std.specs.Option.{option_map}
 use Rattle.codegen.specs.Generated.{result_slot}
-use Rattle.codegen.specs.Layout.{variable_offset, result_offset, slots_from}
+use Rattle.expression_code.specs.Layout.{result_offset, slots_from}
 use Rattle.codegen.specs.Loaded.{word_in, numbers_at, array_in, arrays_in}
-use Rattle.image.specs.declared.slot.Slot.{Slot}
 use Rattle.inline.specs.declared.flat.FlatVariable.{FlatVariable}
 use Rattle.inline.specs.Flat.{TermTree, declaration_of, numbers_in}
 use Rattle.inline.specs.FlatMeaning.{Values, value_in, array_of, arrays_from}
@@ -19,7 +17,7 @@ use Rattle.language.specs.declared.signature.Param.{Param}
 use Rattle.language.specs.declared.typing.WordType.{WordType}
 use Rattle.language.specs.Size.{element_bytes}
 use Rattle.rv_machine.specs.Bytes.{ByteMap, number_at}
-use Rattle.codegen.proofs.Places.{bytes_of, place_of}
+use Rattle.expression_code.proofs.Places.{bytes_of, place_of}
 
 -- numbers that are there, one after another
 numbers_are : (bytes : ByteMap) (size at : ℕ) (vs : List ℕ) → ((i : ℕ) → i < length vs → number_at bytes size (at + size * i) ≡ Some (slice_index vs i)) → numbers_at bytes size at (length vs) ≡ vs

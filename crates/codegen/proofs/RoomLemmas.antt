@@ -7,14 +7,14 @@ use Rattle.branch_removal.specs.Straight.{StraightProgram}
 use Rattle.branch_removal.specs.StraightTyping.{IsTypedStraight}
 use Rattle.codegen.specs.Emitted.{block_code, height_in_all, depth_in_all}
 use Rattle.codegen.specs.Generated.{result_code, program_base, program_code, result_height, program_height}
-use Rattle.codegen.specs.Layout.{result_offset}
+use Rattle.expression_code.specs.Layout.{result_offset}
 use Rattle.codegen.specs.Placed.{HavePlaces}
 use Rattle.codegen.specs.Room.{HasRoom}
 use Rattle.codegen.proofs.CodeLengths.{block_length, block_room}
-use Rattle.codegen.specs.TermCode.{IsAmong}
+use Rattle.expression_code.specs.TermCode.{IsAmong}
 use Rattle.codegen.proofs.PlacedLemmas.{blocks_placed}
-use Rattle.codegen.proofs.TermLengths.{height, store_length, expr_length}
-use Rattle.codegen.proofs.TermTypes.{typed_among}
+use Rattle.expression_code.proofs.TermLengths.{height, store_length, expr_length}
+use Rattle.expression_code.proofs.TermTypes.{typed_among}
 use Rattle.inline.specs.declared.flat.FlatVariable.{FlatVariable}
 use Rattle.inline.specs.Flat.{TermTree, declaration_of}
 use Rattle.inline.specs.FlatSize.{declared_words, value_nodes}

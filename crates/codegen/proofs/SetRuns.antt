@@ -1,17 +1,17 @@
 -- The code that sets a variable, takes a condition, or sets a variable under a control value.
-use Rattle.std.proofs.Common.{◌≡◌, ℕ, ◌+◌, ◌*◌, ◌%◌, ◌^◌, ◌<◌, ◌≤◌, ◌==◌, Bool, true, false, not, ◌&&◌, cond, if◌then◌else◌, List, [], ◌∷◌, ◌++◌, Option, None, Some, length, slice_index, refl, sym, ap, ap₂, ◌∙◌, subst, arith, bit_and}
+use Rattle.std.proofs.Common.{◌≡◌, ℕ, ◌+◌, ◌*◌, ◌^◌, ◌<◌, ◌≤◌, ◌==◌, Bool, true, false, not, ◌&&◌, cond, if◌then◌else◌, List, [], ◌∷◌, ◌++◌, Option, None, Some, length, slice_index, refl, sym, ap, ap₂, ◌∙◌, subst, arith, bit_and}
 use Rattle.std.proofs.lemmas.Option.{same_Some}
 use Rattle.inline.proofs.Fitting.{value_fits}
 use Rattle.inline.specs.Flat.{TermTree, word_as}
 use Rattle.inline.specs.FlatMeaning.{value_in}
 use Rattle.inline.specs.FlatSize.{term_nodes}
 use Rattle.inline.specs.FlatTyping.{types_of, HasType}
-use Rattle.branch_removal.specs.Straight.{StraightTree, set, take, set_under}
+use Rattle.branch_removal.specs.Straight.{take, set_under}
 use Rattle.branch_removal.specs.StraightMeaning.{StraightState, with_variable, holds, after}
 use Rattle.branch_removal.specs.StraightTyping.{IsSet, IsAmong}
 use Rattle.codegen.specs.Emitted.{masks_code, within_code, merge_code, statement_code}
-use Rattle.codegen.specs.Layout.{variable_offset, control_offset}
-use Rattle.codegen.specs.TermCode.{load_code, store_code, expr_code, height_of}
+use Rattle.expression_code.specs.Layout.{variable_offset, control_offset}
+use Rattle.expression_code.specs.TermCode.{store_code, expr_code, height_of}
 use Rattle.language.specs.declared.signature.Kind.TheVariants.{Boolean}
 use Rattle.language.specs.declared.signature.Label.{Label}
 use Rattle.language.specs.Types.{bits_of}
@@ -21,16 +21,16 @@ use Rattle.rv_code.specs.declared.operations.RegisterOperation.TheVariants.{And}
 use Rattle.rv_machine.specs.Bytes.{ByteMap, number_at}
 use Rattle.rv_machine.specs.Effects.{sum_of, difference_of}
 use Rattle.rv_machine.specs.Machine as machine
-use Rattle.codegen.proofs.Computing.{Computed, computing_runs}
-use Rattle.codegen.proofs.ExpressionRuns.{steps_of, expr_runs}
-use Rattle.codegen.proofs.Held.{HeldAt, Held}
-use Rattle.codegen.proofs.Masks.{mask_of, mask_when, mask_otherwise, masks_join, merged, merge}
-use Rattle.codegen.proofs.Pieces.{Took, Put, load_runs}
+use Rattle.expression_code.proofs.Computing.{Computed, computing_runs}
+use Rattle.expression_code.proofs.ExpressionRuns.{steps_of, expr_runs}
+use Rattle.expression_code.proofs.Held.{HeldAt}
+use Rattle.expression_code.proofs.Masks.{mask_of, mask_when, mask_otherwise, masks_join, merged, merge}
+use Rattle.expression_code.proofs.Pieces.{Took, load_runs}
 use Rattle.codegen.proofs.Showing.{Shown, suits_fits, value_runs, ready_valued, ready_with, word_before, wrote_as}
-use Rattle.codegen.proofs.Slots.{Wrote, Hidden, hidden_then, hidden_by, hidden_kept, hidden_wrote, put_wrote, cut_kind, ready_set, ready_under, ready_taken}
-use Rattle.codegen.proofs.Stores.{store_runs}
-use Rattle.codegen.proofs.Straight.{Setting, base_of, none, Then, Runs, quiet, weaken, cheaper, idle}
-use Rattle.codegen.proofs.Values.{Ready, Valued}
+use Rattle.codegen.proofs.Slots.{hidden_then, hidden_by, hidden_kept, hidden_wrote, put_wrote, cut_kind, ready_set, ready_under, ready_taken}
+use Rattle.expression_code.proofs.Stores.{store_runs}
+use Rattle.expression_code.proofs.Straight.{Setting, base_of, none, Then, Runs, quiet, weaken, cheaper, idle}
+use Rattle.expression_code.proofs.Values.{Ready, Valued}
 
 -- a condition, as f and as g, in the registers of the masks
 pub record Prepared (z : Setting) (f g : StraightState → Bool) (env : StraightState) (s : machine.State) : Type 0 where

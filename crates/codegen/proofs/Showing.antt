@@ -1,5 +1,5 @@
 -- What is shown after a piece of a statement's code.
-use Rattle.std.proofs.Common.{◌≡◌, ◌≢◌, ℕ, ◌+◌, ◌*◌, ◌%◌, ◌^◌, ◌<◌, ◌≤◌, ◌==◌, Bool, true, false, cond, List, Some, slice_get, slice_index, refl, sym, ap, ◌∙◌, subst, arith, inl, inr}
+use Rattle.std.proofs.Common.{◌≡◌, ℕ, ◌+◌, ◌*◌, ◌^◌, ◌<◌, ◌≤◌, Bool, List, Some, slice_get, ap, ◌∙◌, subst, arith, inl, inr}
 use Rattle.inline.proofs.Fitting.{value_fits}
 use Rattle.inline.specs.declared.flat.FlatVariable.{FlatVariable}
 use Rattle.inline.specs.Fitting.{Fits}
@@ -7,20 +7,20 @@ use Rattle.inline.specs.Flat.{TermTree, word_as}
 use Rattle.inline.specs.FlatMeaning.{Values, value_in}
 use Rattle.inline.specs.FlatTyping.{types_of, Suits}
 use Rattle.branch_removal.specs.StraightMeaning.{StraightState}
-use Rattle.codegen.specs.Layout.{variable_offset, result_offset, control_offset, next_offset}
-use Rattle.codegen.specs.TermCode.{height_of, expr_code}
+use Rattle.expression_code.specs.Layout.{variable_offset, result_offset, control_offset, next_offset}
+use Rattle.expression_code.specs.TermCode.{height_of, expr_code}
 use Rattle.language.specs.declared.signature.Kind.{Kind}
 use Rattle.language.specs.declared.typing.WordType.{WordType}
 use Rattle.language.specs.Types.{bits_of}
 use Rattle.inline.specs.FlatSize.{term_nodes}
 use Rattle.rv_machine.specs.Machine as machine
-use Rattle.codegen.proofs.ExpressionRuns.{steps_of, expr_runs}
-use Rattle.codegen.proofs.Held.{HeldAt, held_regs}
+use Rattle.expression_code.proofs.ExpressionRuns.{steps_of, expr_runs}
+use Rattle.expression_code.proofs.Held.{HeldAt, held_regs}
 use Rattle.codegen.proofs.Jumps.{Still}
-use Rattle.codegen.proofs.Places.{bytes_of, place_of, place_within, ends_before_result}
-use Rattle.codegen.proofs.Slots.{Wrote, Hidden, hidden_then, hidden_by, hidden_kept, hidden_wrote, other_number}
-use Rattle.codegen.proofs.Straight.{Setting, base_of, Runs}
-use Rattle.codegen.proofs.Values.{Kept, Ready, Valued, kept_number, kept_by, ready_after}
+use Rattle.expression_code.proofs.Places.{bytes_of, place_of, place_within, ends_before_result}
+use Rattle.codegen.proofs.Slots.{Wrote, Hidden, other_number}
+use Rattle.expression_code.proofs.Straight.{Setting, base_of, Runs}
+use Rattle.expression_code.proofs.Values.{Kept, Ready, Valued, kept_number, kept_by, ready_after}
 
 -- the state that is made of the one before is shown, and the words of the loops around are as they were
 pub record Shown (z : Setting) (depth : ℕ) (change : StraightState → StraightState) (env : StraightState) (s t : machine.State) : Type 0 where

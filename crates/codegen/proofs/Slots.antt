@@ -6,7 +6,7 @@ use Rattle.std.proofs.lemmas.List.{length-set, get_or-set_same, get_or-set_other
 use Rattle.std.proofs.lemmas.List.Elements.{All-set}
 use Rattle.std.proofs.lemmas.Option.{same_Some}
 use Rattle.branch_removal.specs.StraightMeaning.{StraightState, with_variable, with_element, with_controls}
-use Rattle.codegen.specs.Layout.{variable_offset, result_offset, control_offset, next_offset}
+use Rattle.expression_code.specs.Layout.{variable_offset, result_offset, control_offset, next_offset}
 use Rattle.inline.specs.declared.flat.FlatVariable.{FlatVariable}
 use Rattle.inline.specs.Fitting.{IsWithinKind, IsHeld}
 use Rattle.inline.specs.Flat.{numbers_in, word_as}
@@ -18,13 +18,13 @@ use Rattle.language.specs.Types.{bits_of}
 use Rattle.rv_machine.specs.Bytes.{ByteMap, number_at, with_number}
 use Rattle.rv_machine.proofs.ByteLaws.{number_at_apart, number_at_same, number_at-with_number, with_number_below, with_number_above}
 use Rattle.rv_machine.specs.Machine as machine
-use Rattle.codegen.proofs.Computing.{same_number}
-use Rattle.codegen.proofs.Held.{HeldAt}
-use Rattle.codegen.proofs.Masks.{mask_of, mask_fits}
-use Rattle.codegen.proofs.Pieces.{Put}
-use Rattle.codegen.proofs.Places.{bytes_by, bytes_of, place_of, place_within, ends_before_result, apart_from, elements_apart}
-use Rattle.codegen.proofs.Straight.{Setting, base_of}
-use Rattle.codegen.proofs.Values.{Kept, Ready, put_there}
+use Rattle.expression_code.proofs.Computing.{same_number}
+use Rattle.expression_code.proofs.Held.{HeldAt}
+use Rattle.expression_code.proofs.Masks.{mask_of, mask_fits}
+use Rattle.expression_code.proofs.Pieces.{Put}
+use Rattle.expression_code.proofs.Places.{bytes_by, bytes_of, place_of, place_within, ends_before_result, apart_from, elements_apart}
+use Rattle.expression_code.proofs.Straight.{Setting, base_of}
+use Rattle.expression_code.proofs.Values.{Kept, Ready, put_there}
 
 -- a number of so many bytes is written into the frame
 pub record Wrote (z : Setting) (n o w : ℕ) (s t : machine.State) : Type 0 where

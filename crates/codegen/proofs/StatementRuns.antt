@@ -1,14 +1,13 @@
 -- The code of a statement makes of the state what the statement makes of it.
-use Rattle.std.proofs.Common.{◌≡◌, ℕ, ◌+◌, ◌*◌, ◌^◌, ◌<◌, ◌≤◌, [], ◌++◌, length, max, slice_index, sym, ap, subst, arith, length-append}
+use Rattle.std.proofs.Common.{ℕ, ◌+◌, ◌*◌, ◌≤◌, max, sym, ap, subst, arith, length-append}
 use Rattle.std.proofs.Math.Nat.{le-max_left, le-max_right}
 use Rattle.branch_removal.specs.Bounds.{statement_nodes, block_nodes, statement_work, block_work}
 use Rattle.branch_removal.specs.Straight.{StraightTree, set, clear, fill, put, take, set_under, put_under, branch, repeats, StraightBlock, nothing, first}
-use Rattle.branch_removal.specs.StraightMeaning.{StraightState, after, after_all, path_at, path_along}
+use Rattle.branch_removal.specs.StraightMeaning.{after, after_all, path_at, path_along}
 use Rattle.branch_removal.specs.StraightTyping.{IsTyped, AreTyped}
-use Rattle.codegen.specs.Emitted.{test_code, count_code, statement_code, block_code, height_of_all, height_of_put, height_in, height_in_all, depth_in, depth_in_all}
-use Rattle.codegen.specs.Layout.{variable_offset, next_offset}
-use Rattle.codegen.specs.TermCode.{height_of}
-use Rattle.inline.specs.FlatTyping.{counter_type}
+use Rattle.codegen.specs.Emitted.{count_code, statement_code, block_code, height_in, height_in_all, depth_in, depth_in_all}
+use Rattle.expression_code.specs.Layout.{variable_offset, next_offset}
+use Rattle.expression_code.specs.TermCode.{height_of}
 use Rattle.language.specs.WellTyped.{labelled}
 use Rattle.language.specs.declared.signature.Kind.TheVariants.{Boolean}
 use Rattle.language.specs.declared.signature.Label.TheVariants.{Public}
@@ -22,9 +21,9 @@ use Rattle.codegen.proofs.LoopRuns.{repeats_runs}
 use Rattle.codegen.proofs.SetRuns.{set_runs, set_under_runs, take_runs}
 use Rattle.codegen.proofs.Showing.{Shown}
 use Rattle.codegen.proofs.Slots.{hidden_then}
-use Rattle.codegen.proofs.Straight.{Setting, base_of, none, Runs, seq, weaken, cheaper, beside, idle}
-use Rattle.codegen.proofs.TermLengths.{height}
-use Rattle.codegen.proofs.Values.{Ready}
+use Rattle.expression_code.proofs.Straight.{Setting, base_of, Runs, seq, weaken, cheaper, beside, idle}
+use Rattle.expression_code.proofs.TermLengths.{height}
+use Rattle.expression_code.proofs.Values.{Ready}
 
 module _ (z : Setting) where
   mutual

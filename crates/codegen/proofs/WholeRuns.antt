@@ -1,5 +1,5 @@
 -- The image of straight code, loaded and run.
-use Rattle.std.proofs.Common.{◌≡◌, ℕ, ◌+◌, ◌*◌, ◌≤◌, List, [], ◌∷◌, ◌++◌, length, All, None, Some, slice_index, refl, sym, ap, ap₂, ◌∙◌, subst, arith, length-append}
+use Rattle.std.proofs.Common.{◌≡◌, ℕ, ◌+◌, ◌*◌, List, [], ◌∷◌, ◌++◌, length, All, None, Some, slice_index, refl, sym, ap, ap₂, ◌∙◌, subst, arith}
 use Rattle.std.proofs.lemmas.List.Elements.{All-append}
 use Rattle.std.proofs.Math.Nat.{le-max_left, le-max_right}
 use Rattle.arguments.specs.Within.{AreWithin}
@@ -11,7 +11,6 @@ use Rattle.codegen.specs.Followed.{RunsAs, IsFollowed}
 use Rattle.codegen.specs.Generated.{program_base, program_code, result_code, result_height, image_of}
 use Rattle.codegen.specs.Loaded.{code_at, loaded_at, results_in}
 use Rattle.codegen.specs.Room.{HasRoom}
-use Rattle.inline.specs.FlatSize.{value_nodes}
 use Rattle.inline.specs.FlatTyping.{types_of}
 use Rattle.inline.specs.Path.{Path, AreFine}
 use Rattle.language.specs.declared.values.Arg.{Arg}
@@ -26,15 +25,14 @@ use Rattle.rv_machine.specs.Machine.{IsAt}
 use Rattle.rv_machine.proofs.RunLaws.{Halts-after}
 use Rattle.rv_machine.proofs.TurnLaws.{ecall_halts}
 use Rattle.codegen.proofs.Arguments.{loaded}
-use Rattle.codegen.proofs.Places.{bytes_of}
+use Rattle.expression_code.proofs.Places.{bytes_of}
 use Rattle.codegen.proofs.Placing.{placed}
 use Rattle.codegen.proofs.ResultRuns.{steps_of_result, Given, result_runs}
 use Rattle.codegen.proofs.Results.{arrays_are, returned_is}
-use Rattle.codegen.proofs.Showing.{Shown}
 use Rattle.codegen.proofs.StatementRuns.{block_runs}
-use Rattle.codegen.proofs.Steps.{All-one}
-use Rattle.codegen.proofs.Straight.{Setting, Placed, Placed-left, Placed-right, Straight, Steps, Runs, seq, weaken, cheaper, beside}
-use Rattle.codegen.proofs.Values.{Ready}
+use Rattle.expression_code.proofs.Steps.{All-one}
+use Rattle.expression_code.proofs.Straight.{Setting, Placed, Placed-left, Placed-right, Straight, Steps, Runs, seq, weaken, cheaper, beside}
+use Rattle.expression_code.proofs.Values.{Ready}
 
 -- the state that the value is taken in
 abbrev last_state : StraightProgram → StraightState → StraightState

@@ -2,9 +2,9 @@
 use Rattle.std.specs.Prelude.{ℕ, ◌+◌, ◌*◌, List, [], ◌∷◌, ◌++◌, Option, None, Some, max, if◌then◌else◌}
 use Rattle.branch_removal.specs.Straight.{StraightTree, set, clear, fill, put, take, set_under, put_under, branch, repeats, StraightBlock, nothing, first}
 use Rattle.codegen.specs.Jumps.{branch_code, loop_code}
-use Rattle.codegen.specs.Layout.{variable_offset, control_offset, next_offset, temporaries_offset}
-use Rattle.codegen.specs.Registers.{zero_register, frame_register, value_register, left_register, condition_register, address_register}
-use Rattle.codegen.specs.TermCode.{is_near, upper_part, lower_part, load_code, store_code, constant_code, address_code, load_by, kind_at, expr_code, height_of}
+use Rattle.expression_code.specs.Layout.{variable_offset, control_offset, next_offset, temporaries_offset}
+use Rattle.expression_code.specs.Registers.{zero_register, frame_register, value_register, left_register, condition_register, address_register}
+use Rattle.expression_code.specs.TermCode.{is_near, upper_part, lower_part, load_code, store_code, constant_code, address_code, load_by, kind_at, expr_code, height_of}
 use Rattle.inline.specs.declared.flat.FlatVariable.{FlatVariable}
 use Rattle.inline.specs.Flat.{TermTree}
 use Rattle.rv_code.specs.declared.instructions.Instr.{Instr}

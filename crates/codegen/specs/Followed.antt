@@ -8,6 +8,7 @@ use Rattle.branch_removal.specs.StraightMeaning.{outcome_of, path_of}
 use Rattle.codegen.specs.Bases.{AreBases, IsInside}
 use Rattle.codegen.specs.Loaded.{params_of, code_at, loaded_at, results_in}
 use Rattle.image.specs.Fields.{Fields}
+use Rattle.image.specs.declared.limits.TheConstants.{MOST_FRAME_BYTES}
 use Rattle.inline.specs.Path.{Path, AreFine}
 use Rattle.image.specs.declared.slot.ResultSlot.{ResultSlot}
 use Rattle.rv_machine.specs.Leakage.{Halts}
@@ -40,6 +41,6 @@ pub record IsGenerated (p : StraightProgram) (image : Fields) : Type 0 where
   pub parameters : params_of image ≡ p.parameters
   pub returned : option_map type_in image.returned ≡ p.returned
   pub max_steps : image.max_steps ≡ 32 * p.work + 64
-  pub frame_size : image.frame_bytes ≤ 65536
+  pub frame_size : image.frame_bytes ≤ MOST_FRAME_BYTES
   pub word_count : length image.words ≤ 32 * p.nodes + 64
   pub follows : (code frame : ℕ) → AreBases image code frame → IsFollowed p image code frame

@@ -11,9 +11,9 @@ use Rattle.inline.specs.declared.flat.FlatVariable.{FlatVariable}
 use Rattle.inline.specs.Flat.{TermTree}
 use Rattle.language.specs.declared.typing.WordType.{WordType}
 use Rattle.codegen.specs.Emitted.{block_code, height_in_all, depth_in_all}
-use Rattle.codegen.specs.Layout.{slots_from, result_offset, temporaries_offset}
-use Rattle.codegen.specs.Registers.{value_register}
-use Rattle.codegen.specs.TermCode.{expr_code, store_code, height_of}
+use Rattle.expression_code.specs.Layout.{slots_from, result_offset, temporaries_offset}
+use Rattle.expression_code.specs.Registers.{value_register}
+use Rattle.expression_code.specs.TermCode.{expr_code, store_code, height_of}
 
 -- the value into the result's slot, where there is one
 abbrev pub result_code : List FlatVariable → ℕ → Option TermTree → List Instr

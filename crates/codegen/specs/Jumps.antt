@@ -3,7 +3,7 @@ use Rattle.std.specs.Prelude.{ℕ, ◌+◌, ◌-◌, ◌*◌, ◌^◌, List, [],
 use Rattle.rv_code.specs.declared.instructions.Instr.{Instr}
 use Rattle.rv_code.specs.declared.instructions.Instr.TheVariants.{Jump, Branch}
 use Rattle.rv_code.specs.declared.operations.BranchTest.TheVariants.{Bne}
-use Rattle.codegen.specs.Registers.{zero_register, value_register}
+use Rattle.expression_code.specs.Registers.{zero_register, value_register}
 
 -- over the next instruction, where the value is not 0
 abbrev pub skip : Instr

@@ -1,6 +1,3 @@
-pub mod Layout
-pub mod Registers
-pub mod TermCode
 pub mod Jumps
 pub mod Emitted
 pub mod Placed

@@ -3,8 +3,8 @@ use Rattle.std.specs.Prelude.{ℕ, ◌+◌, ◌*◌, ◌^◌, ◌<◌, ◌≤◌
 use Rattle.branch_removal.specs.Straight.{StraightTree, set, clear, fill, put, take, set_under, put_under, branch, repeats, StraightBlock, nothing, first}
 use Rattle.branch_removal.specs.StraightTyping.{IsAmong as IsControl}
 use Rattle.codegen.specs.Emitted.{test_code, count_code, block_code}
-use Rattle.codegen.specs.Layout.{variable_offset, next_offset, temporaries_offset}
-use Rattle.codegen.specs.TermCode.{IsAmong, height_of}
+use Rattle.expression_code.specs.Layout.{variable_offset, next_offset, temporaries_offset}
+use Rattle.expression_code.specs.TermCode.{IsAmong, height_of}
 use Rattle.inline.specs.declared.flat.FlatVariable.{FlatVariable}
 use Rattle.inline.specs.Flat.{TermTree}
 

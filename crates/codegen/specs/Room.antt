@@ -6,7 +6,7 @@ use Rattle.branch_removal.specs.Straight.{StraightProgram}
 use Rattle.branch_removal.specs.StraightTyping.{IsTypedStraight}
 use Rattle.codegen.specs.Emitted.{depth_in_all}
 use Rattle.codegen.specs.Generated.{program_code, program_height}
-use Rattle.codegen.specs.Layout.{Frame}
+use Rattle.expression_code.specs.Layout.{Frame}
 use Rattle.inline.specs.Flat.{declaration_of}
 use Rattle.inline.specs.declared.limits.TheConstants.{MOST_VARIABLE_BYTES}
 use Rattle.inline.specs.FlatSize.{HasLength, declared_words, value_nodes}

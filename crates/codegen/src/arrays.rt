@@ -3,7 +3,7 @@
 ghost use Rattle.std.specs.Prelude.{◌≡◌, ◌≤◌, ◌+◌, ◌*◌, ◌++◌, ◌∷◌, [], map, length, OnOk};
 ghost use Rattle.codegen.specs.Emitted.{store_by, element_store_code, clear_code, fill_code, index_code, put_code, put_under_code};
 ghost use Rattle.codegen.specs.Jumps.{loop_code};
-ghost use Rattle.codegen.specs.Registers.{zero_register, value_register, condition_register, left_register};
+ghost use Rattle.expression_code.specs.Registers.{zero_register, value_register, condition_register, left_register};
 ghost use Rattle.rv_code.specs.declared.instructions.Instr.TheVariants.{Immediate, Register, Store};
 ghost use Rattle.rv_code.specs.declared.operations.ImmediateOperation.TheVariants.{Addi};
 ghost use Rattle.rv_code.specs.declared.operations.RegisterOperation.TheVariants.{Sub};
@@ -11,10 +11,10 @@ ghost use Rattle.rv_code.specs.declared.operations.StoreOperation.TheVariants.{S
 ghost use Rattle.codegen.specs.Placed.{IsPlaced, ArePlacedTerms};
 ghost use Rattle.inline.specs.Flat.{term_tree};
 
-use crate::emit::{self, address, load_by};
-use crate::expressions::expression;
 use crate::jumping::repeat;
-use crate::layout::Layout;
+use crate::masking;
+use expression_code::emit::{self, address, load_by};
+use expression_code::{Layout, expression};
 use inline::Term;
 use language::Kind;
 use rv_code::{
@@ -145,7 +145,7 @@ pub fn put_under(
     code.push(Instr::Register(RegisterOperation::Add, Reg::X28, Reg::X6, Reg::X0))?;
     code.push(Instr::Load(load_by(kind), Reg::X6, Reg::X6, low))?;
     emit::load(code, Reg::X7, control)?;
-    emit::merge(code)?;
+    masking::merge(code)?;
     code.push(Instr::Store(store_by(kind), Reg::X5, Reg::X28, low))?;
     Ok(())
 }

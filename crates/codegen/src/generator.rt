@@ -8,12 +8,10 @@ ghost use Rattle.codegen.specs.Room.{HasRoom, frame_of};
 ghost use Rattle.intervals.specs.declared.limits.TheConstants.{MOST_WORK};
 ghost use Rattle.rv_code.specs.Words.{word_of};
 
-use crate::emit;
-use crate::expressions::{expression, height};
 use crate::heights::{greatest_depth, greatest_height};
-use crate::layout::{Layout, WORD_BYTES, offsets, slots};
 use crate::statements::statements;
 use branch_removal::Straight;
+use expression_code::{Layout, WORD_BYTES, emit, expression, height, offsets, slots};
 use image::{Image, ResultSlot};
 use rv_code::{Instr, Reg, encode};
 use std::alloc::{AllocError, Global};

@@ -5,8 +5,8 @@ ghost use Rattle.branch_removal.specs.Straight.{straight_tree, straight_block};
 ghost use Rattle.codegen.specs.Emitted.{height_of_all, height_in, height_in_all, depth_in, depth_in_all};
 ghost use Rattle.inline.specs.Flat.{term_tree};
 
-use crate::expressions::height;
 use branch_removal::StraightStatement;
+use expression_code::height;
 use inline::Term;
 
 /// How many slots the temporaries of values take that share them.

@@ -4,16 +4,15 @@ ghost use Rattle.std.specs.Prelude.{◌≡◌, ◌++◌, ◌+◌, ◌*◌, ◌<�
 ghost use Rattle.branch_removal.specs.Straight.{straight_tree, straight_block};
 ghost use Rattle.branch_removal.specs.Straight as straight;
 ghost use Rattle.codegen.specs.Emitted.{bounds_code, test_code, count_code, statement_code, block_code, height_of_all, height_in, height_in_all, depth_in, depth_in_all};
-ghost use Rattle.codegen.specs.Layout.{temporaries_offset};
+ghost use Rattle.expression_code.specs.Layout.{temporaries_offset};
 ghost use Rattle.codegen.specs.Placed.{IsPlaced, HasPlace, HavePlaces};
-ghost use Rattle.codegen.specs.TermCode.{height_of};
+ghost use Rattle.expression_code.specs.TermCode.{height_of};
 ghost use Rattle.inline.specs.Flat.{term_tree};
 ghost use Rattle.language.specs.Size.{array_words};
 
-use crate::expressions::{expression, height};
-use crate::layout::Layout;
-use crate::{arrays, emit, jumping};
+use crate::{arrays, jumping, masking};
 use branch_removal::StraightStatement;
+use expression_code::{Layout, emit, expression};
 use inline::Term;
 use language::Kind;
 use rv_code::{Immediate12, ImmediateOperation, Instr, Reg, RegisterOperation};
@@ -53,9 +52,9 @@ fn take(
     ensures { OnOk result (code.new.items ≡ code.old.items ++ statement_code layout.now.declared layout.now.controls layout.now.depths 0 (straight.take control within (term_tree condition.now))) }
 {
     expression(code, layout, layout.temporaries(), condition)?;
-    emit::masks(code)?;
+    masking::masks(code)?;
     if let Some(enclosing) = within {
-        emit::join(code, layout.control(enclosing))?;
+        masking::join(code, layout.control(enclosing))?;
     }
     emit::store(code, Reg::X7, layout.control(control))?;
     emit::store(code, Reg::X5, layout.control(control + 1))
@@ -75,7 +74,7 @@ fn set_under(
     expression(code, layout, layout.temporaries(), value)?;
     emit::load(code, Reg::X6, layout.variable(variable))?;
     emit::load(code, Reg::X7, layout.control(control))?;
-    emit::merge(code)?;
+    masking::merge(code)?;
     emit::store(code, Reg::X5, layout.variable(variable))
 }
 

@@ -1,0 +1,38 @@
+// Instructions for control values, which are masks, each appended to the code so far.
+
+ghost use Rattle.std.specs.Prelude.{◌≡◌, ◌++◌, OnOk};
+ghost use Rattle.codegen.specs.Emitted.{masks_code, join_code, merge_code};
+
+use expression_code::emit::{MINUS_ONE, load};
+use rv_code::{Immediate12, ImmediateOperation, Instr, Reg, RegisterOperation};
+use std::alloc::AllocError;
+
+/// Of a condition in the value, the mask for where it is true, and in the value the one for where it is not.
+pub fn masks(code: &mut Vec<Instr>) -> Result<(), AllocError>
+    ensures { OnOk result (code.new.items ≡ code.old.items ++ masks_code) }
+{
+    let less_one = Immediate12::from_bits(MINUS_ONE);
+    code.push(Instr::Register(RegisterOperation::Sub, Reg::X7, Reg::X0, Reg::X5))?;
+    code.push(Instr::Immediate(ImmediateOperation::Addi, Reg::X5, Reg::X5, less_one))?;
+    Ok(())
+}
+
+/// Both masks joined with the one in the slot.
+pub fn join(code: &mut Vec<Instr>, offset: u32) -> Result<(), AllocError>
+    ensures { OnOk result (code.new.items ≡ code.old.items ++ join_code offset) }
+{
+    load(code, Reg::X6, offset)?;
+    code.push(Instr::Register(RegisterOperation::And, Reg::X7, Reg::X7, Reg::X6))?;
+    code.push(Instr::Register(RegisterOperation::And, Reg::X5, Reg::X5, Reg::X6))?;
+    Ok(())
+}
+
+/// The value where the mask is all ones, and the left operand where it is 0.
+pub fn merge(code: &mut Vec<Instr>) -> Result<(), AllocError>
+    ensures { OnOk result (code.new.items ≡ code.old.items ++ merge_code) }
+{
+    code.push(Instr::Register(RegisterOperation::Xor, Reg::X5, Reg::X5, Reg::X6))?;
+    code.push(Instr::Register(RegisterOperation::And, Reg::X5, Reg::X5, Reg::X7))?;
+    code.push(Instr::Register(RegisterOperation::Xor, Reg::X5, Reg::X6, Reg::X5))?;
+    Ok(())
+}

@@ -1,0 +1,194 @@
+-- Code that only computes: what the registers are after it, and that the machine follows it.
+use Rattle.std.proofs.Common.{◌≡◌, ◌≢◌, ℕ, ◌*◌, ◌^◌, ◌<◌, Bool, true, false, ◌&&◌, ◌||◌, ◌==◌, cond, nat_lt, List, [], ◌∷◌, length, refl, sym, ap, ◌∙◌, arith, ne_eqb}
+use Rattle.std.proofs.lemmas.Bool.{false≢true}
+use Rattle.std.proofs.lemmas.Bool.Decides.{nat_tests}
+use Rattle.std.proofs.Math.Path.{fun_ext}
+use Rattle.rv_code.specs.declared.instructions.Instr.{Instr}
+use Rattle.rv_code.specs.declared.instructions.Instr.TheVariants.{Upper, Jump, JumpRegister, Branch, Load, Store, Immediate, Shift, Register, Multiply, Divide, Fence, Ecall, Ebreak}
+use Rattle.rv_code.specs.declared.operations.UpperOperation.TheVariants.{Lui, Auipc}
+use Rattle.rv_code.specs.Words.{IsInstr}
+use Rattle.rv_machine.specs.declared.effects.Effect.TheVariants.{Computes}
+use Rattle.rv_machine.specs.Effects.{effect_of, sign_extended, immediate_value, shift_value, register_value, multiply_value}
+use Rattle.rv_machine.specs.Machine.{State}
+use Rattle.rv_machine.specs.Registers.{register, with_register}
+use Rattle.branch_removal.specs.StraightMeaning.{StraightState}
+use Rattle.expression_code.proofs.Held.{Held, held_regs}
+use Rattle.expression_code.proofs.Steps.{Always, Moves, computing}
+use Rattle.expression_code.proofs.Straight.{Setting, none, Runs, seq, weaken, cheaper, idle}
+
+-- the register that an instruction writes, where it only computes
+abbrev pub written_register : Instr → ℕ
+written_register (Upper operation rd immediate) = rd
+written_register (Immediate operation rd rs1 immediate) = rd
+written_register (Shift operation rd rs1 amount) = rd
+written_register (Register operation rd rs1 rs2) = rd
+written_register (Multiply operation rd rs1 rs2) = rd
+written_register _ = 0
+
+-- what it writes there
+abbrev pub computed_value : Instr → (ℕ → ℕ) → ℕ
+computed_value (Upper operation rd immediate) regs = immediate * 2 ^ 12
+computed_value (Immediate operation rd rs1 immediate) regs = immediate_value operation (register regs rs1) (sign_extended 12 immediate)
+computed_value (Shift operation rd rs1 amount) regs = shift_value operation (register regs rs1) amount
+computed_value (Register operation rd rs1 rs2) regs = register_value operation (register regs rs1) (register regs rs2)
+computed_value (Multiply operation rd rs1 rs2) regs = multiply_value operation (register regs rs1) (register regs rs2)
+computed_value _ regs = 0
+
+-- the registers after instructions that only compute
+abbrev pub registers_after : List Instr → (ℕ → ℕ) → ℕ → ℕ
+registers_after [] regs = regs
+registers_after (i ∷ is) regs = registers_after is (with_register regs (written_register i) (computed_value i regs))
+
+-- x5, x6, x7 and x28, the only ones that are written
+abbrev pub is_working : ℕ → Bool
+is_working rd = (nat_lt 4 rd && nat_lt rd 8) || (rd == 28)
+
+-- an instruction that only computes, with its fields in range
+abbrev pub computes : Instr → Bool
+computes (Upper Lui rd immediate) = is_working rd && nat_lt immediate 1048576
+computes (Immediate operation rd rs1 immediate) = is_working rd && (nat_lt rs1 32 && nat_lt immediate 4096)
+computes (Shift operation rd rs1 amount) = is_working rd && (nat_lt rs1 32 && nat_lt amount 32)
+computes (Register operation rd rs1 rs2) = is_working rd && (nat_lt rs1 32 && nat_lt rs2 32)
+computes (Multiply operation rd rs1 rs2) = is_working rd && (nat_lt rs1 32 && nat_lt rs2 32)
+computes _ = false
+
+abbrev pub only_computes : List Instr → Bool
+only_computes [] = true
+only_computes (i ∷ is) = computes i && only_computes is
+
+-- what a test of fields says
+working : (rd : ℕ) → is_working rd ≡ true → (rd ≢ 0) × (rd ≢ 2) × (rd < 32)
+working rd h =
+    let low : 4 < rd = grind (arith, nat_tests) in
+    let high : rd < 32 = grind (arith, nat_tests) in
+    (λ e. omega (arith, low, e), λ e. omega (arith, low, e), high)
+
+below : (n most : ℕ) → nat_lt n most ≡ true → n < most
+below n most h = grind (arith, nat_tests)
+
+pub both_left : (a b : Bool) → (a && b) ≡ true → a ≡ true
+both_left true b h = refl
+both_left false b h = absurd (false≢true h)
+
+pub both_right : (a b : Bool) → (a && b) ≡ true → b ≡ true
+both_right true b h = h
+both_right false b h = absurd (false≢true h)
+
+-- an instruction that only computes, as the machine takes it
+pub record Plain (i : Instr) : Type 0 where
+  pub in_range : IsInstr i
+  pub nonzero : written_register i ≢ 0
+  pub other : written_register i ≢ 2
+  pub effect : (pc : ℕ) (regs : ℕ → ℕ) → effect_of i pc regs ≡ Computes (written_register i) (computed_value i regs)
+
+three_tests : (rd : ℕ) (a b : Bool) → (is_working rd && (a && b)) ≡ true → (is_working rd ≡ true) × (a ≡ true) × (b ≡ true)
+three_tests rd a b h =
+    let rest = both_right (is_working rd) (a && b) h in
+    (both_left (is_working rd) (a && b) h, both_left a b rest, both_right a b rest)
+
+plain : (i : Instr) → computes i ≡ true → Plain i
+plain (Upper Lui rd immediate) h =
+    let w = working rd (both_left (is_working rd) (nat_lt immediate 1048576) h) in
+    let small = below immediate 1048576 (both_right (is_working rd) (nat_lt immediate 1048576) h) in
+    record { in_range = (w.2, small); nonzero = w.0; other = w.1; effect = λ pc regs. refl }
+plain (Immediate operation rd rs1 immediate) h =
+    let t = three_tests rd (nat_lt rs1 32) (nat_lt immediate 4096) h in
+    let w = working rd t.0 in
+    record { in_range = (w.2, below rs1 32 t.1, below immediate 4096 t.2); nonzero = w.0; other = w.1; effect = λ pc regs. refl }
+plain (Shift operation rd rs1 amount) h =
+    let t = three_tests rd (nat_lt rs1 32) (nat_lt amount 32) h in
+    let w = working rd t.0 in
+    record { in_range = (w.2, below rs1 32 t.1, below amount 32 t.2); nonzero = w.0; other = w.1; effect = λ pc regs. refl }
+plain (Register operation rd rs1 rs2) h =
+    let t = three_tests rd (nat_lt rs1 32) (nat_lt rs2 32) h in
+    let w = working rd t.0 in
+    record { in_range = (w.2, below rs1 32 t.1, below rs2 32 t.2); nonzero = w.0; other = w.1; effect = λ pc regs. refl }
+plain (Multiply operation rd rs1 rs2) h =
+    let t = three_tests rd (nat_lt rs1 32) (nat_lt rs2 32) h in
+    let w = working rd t.0 in
+    record { in_range = (w.2, below rs1 32 t.1, below rs2 32 t.2); nonzero = w.0; other = w.1; effect = λ pc regs. refl }
+plain (Upper Auipc rd immediate) h = absurd (false≢true h)
+plain (Jump rd offset) h = absurd (false≢true h)
+plain (JumpRegister rd rs1 offset) h = absurd (false≢true h)
+plain (Branch test rs1 rs2 offset) h = absurd (false≢true h)
+plain (Load operation rd rs1 offset) h = absurd (false≢true h)
+plain (Store operation rs2 rs1 offset) h = absurd (false≢true h)
+plain (Divide operation rd rs1 rs2) h = absurd (false≢true h)
+plain (Fence mode before after rs1 rd) h = absurd (false≢true h)
+plain Ecall h = absurd (false≢true h)
+plain Ebreak h = absurd (false≢true h)
+
+-- one register is written, as a whole
+
+pub same_number : (q r : ℕ) → (q == r) ≡ true → q ≡ r
+same_number q r h = grind (arith, nat_tests)
+
+other_number : (q r : ℕ) → (q == r) ≡ false → q ≢ r
+other_number q r h e = grind (arith, nat_tests)
+
+at_register : (rd value : ℕ) (s t : State) → rd ≢ 0 → Moves rd value s t → (q : ℕ) (zeroth this : Bool) → (q == 0) ≡ zeroth → (q == rd) ≡ this → t.regs q ≡ cond zeroth (s.regs q) (cond this value (s.regs q))
+at_register rd value s t nonzero moves q true true z e =
+    absurd (nonzero (sym (same_number q rd e) ∙ same_number q 0 z))
+at_register rd value s t nonzero moves q true false z e = moves.others q (other_number q rd e)
+at_register rd value s t nonzero moves q false true z e = ap t.regs (same_number q rd e) ∙ moves.there
+at_register rd value s t nonzero moves q false false z e = moves.others q (other_number q rd e)
+
+all_registers : (rd value : ℕ) (s t : State) → rd ≢ 0 → Moves rd value s t → t.regs ≡ with_register s.regs rd value
+all_registers rd value s t nonzero moves = fun_ext (λ q. at_register rd value s t nonzero moves q (q == 0) (q == rd) refl refl)
+
+-- a register that none of them writes is as it was
+
+unwritten : (regs : ℕ → ℕ) (rd value : ℕ) → rd ≢ 2 → with_register regs rd value 2 ≡ regs 2
+unwritten regs rd value other = rw (ne_eqb 2 rd (λ e. other (sym e)))
+
+pub base_kept : (is : List Instr) → only_computes is ≡ true → (regs : ℕ → ℕ) → registers_after is regs 2 ≡ regs 2
+base_kept [] h regs = refl
+base_kept (i ∷ is) h regs =
+    base_kept is (both_right (computes i) (only_computes is) h) (with_register regs (written_register i) (computed_value i regs))
+    ∙ unwritten regs (written_register i) (computed_value i regs) (plain i (both_left (computes i) (only_computes is) h)).other
+
+-- the registers are those after the instructions, and nothing else has changed
+pub record Computed (z : Setting) (is : List Instr) (env : StraightState) (s t : State) : Type 0 where
+  pub held : Held z env t
+  pub registers : t.regs ≡ registers_after is s.regs
+  pub same : t.bytes ≡ s.bytes
+
+record Follows (is : List Instr) (env : StraightState) (s t : State) : Type 0 where
+  registers : t.regs ≡ registers_after is s.regs
+  same : t.bytes ≡ s.bytes
+
+module _ (z : Setting) where
+  follows : (is : List Instr) → only_computes is ≡ true → Runs z (length is) none is Always (Follows is)
+  follows [] h =
+      weaken z
+      (λ env s fine fit. fit)
+      (λ env s t fine fit still. record { registers = ap (λ (u : State). u.regs) still; same = ap (λ (u : State). u.bytes) still })
+      (idle z)
+  follows (i ∷ is) h =
+      let one = plain i (both_left (computes i) (only_computes is) h) in
+      let rd = written_register i in
+      cheaper z (omega arith)
+      (weaken z {P = Always}
+      (λ env s fine fit. fit)
+      (λ env s t fine fit done.
+      let m = done.middle in
+      record {
+        registers = done.second.registers ∙ ap (registers_after is) (all_registers rd (computed_value i s.regs) s m one.nonzero done.first);
+        same = done.second.same ∙ done.first.same;
+      })
+      (seq z
+      (computing z i rd (computed_value i) one.in_range one.nonzero one.effect)
+      (follows is (both_right (computes i) (only_computes is) h))
+      (λ env s t fit done. tt)))
+
+  -- code that only computes, where the frame is held
+  pub computing_runs : (is : List Instr) → only_computes is ≡ true → Runs z (length is) none is (Held z) (Computed z is)
+  computing_runs is h =
+      weaken z {P = Always}
+      (λ env s fine held. tt)
+      (λ env s t fine held done. record {
+        held = held_regs z s t (ap (λ (regs : ℕ → ℕ). regs 2) done.registers ∙ base_kept is h s.regs) done.same held;
+        registers = done.registers;
+        same = done.same;
+      })
+      (follows is h)

@@ -1,0 +1,68 @@
+-- What the machine does on the code of an expression, wherever that stands: the value comes into its register, and what is
+-- shown is decided by the path.
+use Rattle.std.specs.Prelude.{◌≡◌, ℕ, ◌+◌, ◌*◌, ◌%◌, ◌^◌, ◌<◌, ◌≤◌, true, List, [], ◌∷◌, length, Some, All, is_some, slice_get, slice_index}
+use Rattle.expression_code.specs.Inside.{IsInside}
+use Rattle.expression_code.specs.Layout.{bytes_of, place_of, result_offset}
+use Rattle.expression_code.specs.Registers.{frame_register, value_register}
+use Rattle.expression_code.specs.TermCode.{expr_code, height_of}
+use Rattle.inline.specs.declared.flat.FlatVariable.{FlatVariable}
+use Rattle.inline.specs.Fitting.{Fits}
+use Rattle.inline.specs.Flat.{TermTree, numbers_in}
+use Rattle.inline.specs.FlatMeaning.{Values, value_in, path_in}
+use Rattle.inline.specs.FlatSize.{term_nodes}
+use Rattle.inline.specs.FlatTyping.{types_of}
+use Rattle.inline.specs.Path.{Path, AreFine}
+use Rattle.rv_code.specs.declared.instructions.Instr.{Instr}
+use Rattle.rv_code.specs.Words.{word_of}
+use Rattle.rv_machine.specs.Bytes.{number_at}
+use Rattle.rv_machine.specs.Leakage.{Leads}
+use Rattle.rv_machine.specs.Machine.{State, Code, word_at}
+use Rattle.rv_machine.specs.declared.observation.Observation.{Observation}
+
+-- the words of these instructions stand at an address and after it
+abbrev pub Placed : Code → ℕ → List Instr → Type 0
+Placed code p [] = Unit {0}
+Placed code p (i ∷ is) = (p % 4 ≡ 0) × (p + 4 < 2 ^ 32) × (word_at code p ≡ Some (word_of i)) × Placed code (p + 4) is
+
+-- where code begins, where the frame lies and how many bytes it has, the variables in it, and where temporaries begin
+pub record Site : Type 0 where
+  pub code : Code
+  pub start : ℕ
+  pub frame : ℕ
+  pub size : ℕ
+  pub declared : List FlatVariable
+  pub free : ℕ
+
+-- the expression's code stands there, and its temporaries lie in the frame, behind the variables and the result
+pub record IsSiteOf (e : TermTree) (site : Site) : Type 0 where
+  pub placed : Placed site.code site.start (expr_code site.declared site.free e)
+  pub even : site.frame % 4 ≡ 0
+  pub ends : site.frame + site.size < 2 ^ 32
+  pub aligned : site.free % 4 ≡ 0
+  pub above : result_offset site.declared + 4 ≤ site.free
+  pub room : site.free + 4 * height_of e ≤ site.size
+
+-- x2 has the frame's base, the frame's bytes are data, and the variables have these values, which are within their kinds
+pub record Has (site : Site) (m : Values) (s : State) : Type 0 where
+  pub base : s.regs frame_register ≡ site.frame
+  pub data_there : (o : ℕ) → o < site.size → is_some (s.bytes (site.frame + o)) ≡ true
+  pub fits : Fits (types_of site.declared) m
+  pub variables_there : (x : ℕ) (d : FlatVariable) (i : ℕ) → slice_get site.declared x ≡ Some d → i < numbers_in d.elements
+      → number_at s.bytes (bytes_of d) (site.frame + place_of site.declared x d i) ≡ Some (slice_index (m x) i)
+
+-- a run from a state to behind the code, which shows this list
+pub record RunsThrough (e : TermTree) (site : Site) (m : Values) (s : State) (seen : List Observation) : Type 0 where
+  pub turns : ℕ
+  pub end : State
+  pub leads : Leads site.code turns s seen end
+  pub few : turns ≤ 16 * term_nodes e
+  pub inside : All (λ (o : Observation). IsInside site.frame site.size o.event) seen
+  pub behind : end.pc ≡ site.start + 4 * length (expr_code site.declared site.free e)
+  pub value : end.regs value_register ≡ value_in m e
+  pub kept : (o : ℕ) → o < site.free → end.bytes (site.frame + o) ≡ s.bytes (site.frame + o)
+
+-- one list for each path, whatever the values
+pub record IsComputed (e : TermTree) (site : Site) : Type 0 where
+  pub shown : Path → List Observation
+  pub runs : (m : Values) (s : State) → s.pc ≡ site.start → Has site m s → AreFine [] (path_in m e)
+      → RunsThrough e site m s (shown (path_in m e))

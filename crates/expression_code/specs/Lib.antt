@@ -1,0 +1,5 @@
+pub mod Layout
+pub mod Registers
+pub mod TermCode
+pub mod Inside
+pub mod Computed

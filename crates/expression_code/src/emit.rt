@@ -1,0 +1,148 @@
+// Instructions for slots, numbers and elements, each appended to the code so far.
+
+ghost use Rattle.std.specs.Prelude.{◌≡◌, ◌++◌, OnOk};
+ghost use Rattle.expression_code.specs.TermCode.{upper_part, lower_part, load_code, store_code, constant_code, choice_code, scale_code, raise_code, address_code, load_by, element_code};
+
+use language::Kind;
+use rv_code::{
+    Immediate12, ImmediateOperation, Instr, LoadOperation, Reg, RegisterOperation, ShiftAmount,
+    ShiftOperation, StoreOperation, UpperImmediate, UpperOperation,
+};
+use std::alloc::AllocError;
+
+/// What 12 bits hold as a number that is not negative.
+pub const NEAR: u32 = 2048;
+
+/// -1 as 12 bits.
+pub const MINUS_ONE: u32 = 4095;
+
+/// The upper part of a number, whose lower part is sign-extended when it is added.
+pub fn upper_part(n: u32) -> UpperImmediate
+    ensures { result ≡ upper_part n }
+{
+    UpperImmediate::from_bits(((u64::from(n) + 2048) / 4096) as u32)
+}
+
+/// The lower part of a number, its last 12 bits.
+pub fn lower_part(n: u32) -> Immediate12
+    ensures { result ≡ lower_part n }
+{
+    Immediate12::from_bits(n)
+}
+
+/// A slot's word into a register.
+pub fn load(code: &mut Vec<Instr>, register: Reg, offset: u32) -> Result<(), AllocError>
+    ensures { OnOk result (code.new.items ≡ code.old.items ++ load_code register offset) }
+{
+    let low = lower_part(offset);
+    if offset < NEAR {
+        code.push(Instr::Load(LoadOperation::Lw, register, Reg::X2, low))?;
+        return Ok(());
+    }
+    code.push(Instr::Upper(UpperOperation::Lui, register, upper_part(offset)))?;
+    code.push(Instr::Register(RegisterOperation::Add, register, register, Reg::X2))?;
+    code.push(Instr::Load(LoadOperation::Lw, register, register, low))?;
+    Ok(())
+}
+
+/// A register into a slot.
+pub fn store(code: &mut Vec<Instr>, register: Reg, offset: u32) -> Result<(), AllocError>
+    ensures { OnOk result (code.new.items ≡ code.old.items ++ store_code register offset) }
+{
+    let low = lower_part(offset);
+    if offset < NEAR {
+        code.push(Instr::Store(StoreOperation::Sw, register, Reg::X2, low))?;
+        return Ok(());
+    }
+    let address = Reg::X28;
+    code.push(Instr::Upper(UpperOperation::Lui, address, upper_part(offset)))?;
+    code.push(Instr::Register(RegisterOperation::Add, address, address, Reg::X2))?;
+    code.push(Instr::Store(StoreOperation::Sw, register, address, low))?;
+    Ok(())
+}
+
+/// A number into a register.
+pub fn constant(code: &mut Vec<Instr>, register: Reg, n: u32) -> Result<(), AllocError>
+    ensures { OnOk result (code.new.items ≡ code.old.items ++ constant_code register n) }
+{
+    let low = lower_part(n);
+    if n < NEAR {
+        code.push(Instr::Immediate(ImmediateOperation::Addi, register, Reg::X0, low))?;
+        return Ok(());
+    }
+    code.push(Instr::Upper(UpperOperation::Lui, register, upper_part(n)))?;
+    code.push(Instr::Immediate(ImmediateOperation::Addi, register, register, low))?;
+    Ok(())
+}
+
+/// An index in a register, times the bytes of an element.
+fn scale(code: &mut Vec<Instr>, register: Reg, kind: Kind) -> Result<(), AllocError>
+    ensures { OnOk result (code.new.items ≡ code.old.items ++ scale_code register kind) }
+{
+    let times = match kind {
+        Kind::Boolean | Kind::Uint8 => return Ok(()),
+        Kind::Uint16 => ShiftAmount::from_bits(1),
+        Kind::Uint32 => ShiftAmount::from_bits(2),
+    };
+    code.push(Instr::Shift(ShiftOperation::Slli, register, register, times))?;
+    Ok(())
+}
+
+/// The upper part of an offset added to a register, where it has one.
+fn raise(code: &mut Vec<Instr>, register: Reg, offset: u32) -> Result<(), AllocError>
+    ensures { OnOk result (code.new.items ≡ code.old.items ++ raise_code register offset) }
+{
+    if offset < NEAR {
+        return Ok(());
+    }
+    let upper = Instr::Upper(UpperOperation::Lui, Reg::X28, upper_part(offset));
+    code.push(upper)?;
+    code.push(Instr::Register(RegisterOperation::Add, register, register, Reg::X28))?;
+    Ok(())
+}
+
+/// An index in a register becomes its element's address, but for the lower part of the array's offset.
+pub fn address(
+    code: &mut Vec<Instr>,
+    register: Reg,
+    kind: Kind,
+    offset: u32,
+) -> Result<(), AllocError>
+    ensures { OnOk result (code.new.items ≡ code.old.items ++ address_code register kind offset) }
+{
+    scale(code, register, kind)?;
+    code.push(Instr::Register(RegisterOperation::Add, register, register, Reg::X2))?;
+    raise(code, register, offset)
+}
+
+/// How an element is loaded: as wide as it is.
+pub fn load_by(kind: Kind) -> LoadOperation
+    ensures { result ≡ load_by kind }
+{
+    match kind {
+        Kind::Boolean | Kind::Uint8 => LoadOperation::Lbu,
+        Kind::Uint16 => LoadOperation::Lhu,
+        Kind::Uint32 => LoadOperation::Lw,
+    }
+}
+
+/// The element at the index in the value, of an array at an offset.
+pub fn element(code: &mut Vec<Instr>, kind: Kind, offset: u32) -> Result<(), AllocError>
+    ensures { OnOk result (code.new.items ≡ code.old.items ++ element_code kind offset) }
+{
+    address(code, Reg::X5, kind, offset)?;
+    let low = lower_part(offset);
+    code.push(Instr::Load(load_by(kind), Reg::X5, Reg::X5, low))?;
+    Ok(())
+}
+
+/// Of the left operand and the value, the left where the condition is 1 and the value where it is 0.
+pub fn choice(code: &mut Vec<Instr>) -> Result<(), AllocError>
+    ensures { OnOk result (code.new.items ≡ code.old.items ++ choice_code) }
+{
+    code.push(Instr::Register(RegisterOperation::Sub, Reg::X7, Reg::X0, Reg::X7))?;
+    code.push(Instr::Register(RegisterOperation::Xor, Reg::X6, Reg::X6, Reg::X5))?;
+    code.push(Instr::Register(RegisterOperation::And, Reg::X6, Reg::X6, Reg::X7))?;
+    code.push(Instr::Register(RegisterOperation::Xor, Reg::X5, Reg::X5, Reg::X6))?;
+    Ok(())
+}

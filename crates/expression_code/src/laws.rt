@@ -1,0 +1,12 @@
+// The law, which holds of the definitions alone.
+
+ghost use Rattle.expression_code.specs.Computed.{Site, IsSiteOf, IsComputed};
+ghost use Rattle.inline.specs.Flat.{TermTree};
+ghost use Rattle.inline.specs.FlatTyping.{types_of, HasType};
+ghost use Rattle.language.specs.declared.typing.WordType.{WordType};
+
+/// The machine computes a well-typed expression, wherever its code stands: it has the value in its register, within so many
+/// turns, shows a list that the path alone decides, and keeps what lies before the temporaries.
+pub fn expressions_are_computed()
+    ensures { (e : TermTree) (word : WordType) (site : Site) → HasType (types_of site.declared) e word → IsSiteOf e site → IsComputed e site }
+{}

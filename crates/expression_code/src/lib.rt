@@ -1,0 +1,14 @@
+// The code of expressions: places at fixed offsets of the frame, and the instructions that compute an expression
+// from what lies there. Its law: the machine on them has the expression's value in a register, and what it shows is
+// decided by the path. It stands on the numbered variables of inlined programs, the instructions and the machine.
+#![tactic(auto)]
+
+pub mod emit;
+mod expressions;
+mod laws;
+mod layout;
+mod operators;
+
+pub use expressions::{expression, height};
+pub use laws::expressions_are_computed;
+pub use layout::{Layout, WORD_BYTES, offsets, slots};
