@@ -1,5 +1,5 @@
 -- What `eval` answers for an accepted text: its one outcome.
-use Rattle.std.proofs.Common.{◌≡◌, ◌↔◌, ℕ, ◌≤◌, ◌||◌, Bool, true, false, nat_lt, List, [], length, map, Option, Some, None, Result, Ok, refl, sym, ap, subst, ◌∙◌, arith}
+use Rattle.std.proofs.Common.{◌≡◌, ◌↔◌, ◌++◌, ℕ, ◌≤◌, ◌||◌, Bool, true, false, nat_lt, List, [], length, map, Option, Some, None, Result, Ok, refl, sym, ap, subst, ◌∙◌, arith}
 use Rattle.std.proofs.lemmas.Bool.Decides.{nat_tests}
 use Rattle.arguments.specs.Faults.{fault_of}
 use Rattle.arguments.specs.Within.{AreWithin}
@@ -11,10 +11,10 @@ use Rattle.intervals.specs.Work.{ranged}
 use Rattle.intervals.specs.declared.limits.TheConstants.{MOST_WORK}
 use Rattle.language.specs.Evaluation.{program_run}
 use Rattle.language.specs.Results.{Results}
-use Rattle.language.specs.Size.{MOST_NODES, MOST_DECLARED_BYTES, bodies_of, declared_bytes, extents_of, nodes_of, size_violations}
+use Rattle.language.specs.Size.{bodies_of, declared_bytes, extents_of, nodes_of, size_violations}
 use Rattle.language.specs.Tree.{ProcedureTree, ProgramTree}
 use Rattle.language.specs.Types.{at, when}
-use Rattle.language.specs.declared.limits.TheConstants.{MOST_BODIES}
+use Rattle.language.specs.declared.limits.TheConstants.{MOST_BODIES, MOST_DECLARED_BYTES, MOST_NODES}
 use Rattle.language.specs.declared.rule.Rule.TheVariants.{InlinedSize, DeclaredBytes}
 use Rattle.language.specs.declared.signature.Param.{Param}
 use Rattle.language.specs.declared.values.Arg.{Arg}
