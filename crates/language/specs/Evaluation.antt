@@ -2,12 +2,11 @@
 -- also counts the nodes that are evaluated and the bodies that are open.
 use Rattle.std.specs.Prelude.{ℕ, zero, suc, ◌+◌, ◌-◌, max, List, [], ◌∷◌, Option, Some, None, if◌then◌else◌}
 use Rattle.std.specs.Option.{option_map}
-use Rattle.std.specs.Str.{bytes_eq}
 use Rattle.word.specs.declared.place.Place.{Place}
 use Rattle.language.specs.declared.signature.Kind.{Kind}
 use Rattle.language.specs.declared.values.Arg.{Arg}
 use Rattle.language.specs.Meaning.{Ending, gives, faults, applied, element_held, word_arguments, begun, copied_out, Returned, made_array, written, with_element, with_some, word_given, counting, exported, holding, final_arrays}
-pub use Rattle.language.specs.Known.{first_known}
+use Rattle.language.specs.Known.{Known, known_of}
 use Rattle.language.specs.Operators.{truth_of}
 use Rattle.language.specs.Results.{Results}
 use Rattle.language.specs.State.{State, Word, single, with_value}
@@ -81,29 +80,26 @@ passed s (e ∷ es) = tick (andthen (value s e) (λ v. andthen (passed s es) (λ
 -- Procedures.
 
 -- what a procedure's name stands for: the procedure, and a run of its body from the state in which it begins
-pub record Known : Type 0 where
+pub record Runnable : Type 0 where
   pub procedure : ProcedureTree
   pub body : State → Run Returned
 
 -- the procedures that may be called
-abbrev pub Knowledge : Type 0
-Knowledge = List ℕ → Option Known
-
-abbrev pub nothing_known : Knowledge
-nothing_known text = None
+abbrev pub Runnables : Type 0
+Runnables = Known Runnable
 
 -- a call, once it is counted; one of a name that no procedure has gives nothing
-abbrev pub called_run : Option Known → State → CallTree → Run Returned
+abbrev pub called_run : Option Runnable → State → CallTree → Run Returned
 called_run None s c = given (record { word = None; state = s })
 called_run (Some known) s c = andthen (passed s (word_arguments known.procedure.parameters c.arguments)) (λ vs.
     andthen (inside (known.body (begun s known.procedure.parameters c.arguments vs))) (λ r.
     given (record { word = r.word; state = copied_out s r.state known.procedure.parameters c.arguments })))
 
-abbrev pub call_run : Option Known → State → CallTree → Run Returned
+abbrev pub call_run : Option Runnable → State → CallTree → Run Returned
 call_run known s c = tick (called_run known s c)
 
 -- a right side
-abbrev pub right_run : Knowledge → State → RightTree → Run Returned
+abbrev pub right_run : Runnables → State → RightTree → Run Returned
 right_run known s (called c) = call_run (known c.name) s c
 right_run known s (computed e) = andthen (value s e) (λ v. given (record { word = Some v; state = s }))
 
@@ -113,11 +109,11 @@ turns zero i turn s = given s
 turns (suc n) i turn s = tick (andthen (turn i s) (λ t. turns n (i + 1) turn t))
 
 -- a name is set to a right side's word
-abbrev pub set_run : Knowledge → State → List ℕ → RightTree → Run State
+abbrev pub set_run : Runnables → State → List ℕ → RightTree → Run State
 set_run known s text right = tick (andthen (right_run known s right) (λ r. given (with_value r.state text (single (word_given r.word)))))
 
 -- an element is set: it is evaluated first, so its index is tested before the right side
-abbrev pub element_run : Knowledge → State → Place → List ℕ → ExprTree → RightTree → Run State
+abbrev pub element_run : Runnables → State → Place → List ℕ → ExprTree → RightTree → Run State
 element_run known s bracket text index right = tick (tick (andthen (value s index) (λ i.
     andthen (ended (element_held bracket (s text) i.value)) (λ old. andthen (right_run known s right) (λ r.
     given (with_some r.state text (with_element (r.state text) i.value (word_given r.word))))))))
@@ -136,7 +132,7 @@ loop_run s low high turn = tick (andthen (value s low) (λ a. andthen (value s h
 
 abbrev mutual
   -- a statement
-  pub run : Knowledge → State → StatementTree → Run State
+  pub run : Runnables → State → StatementTree → Run State
   run known s (declaration place label mutable kind text right) = set_run known s text right
   run known s (array place label mutable kind size text initial) = array_run s text kind size initial
   run known s (assignment place target text right) = set_run known s text right
@@ -146,7 +142,7 @@ abbrev mutual
   run known s (loop place counter text low high body) = loop_run s low high (λ i t. run_all known (counting t text i) body)
 
   -- statements in their order
-  pub run_all : Knowledge → State → BlockTree → Run State
+  pub run_all : Runnables → State → BlockTree → Run State
   run_all known s nothing = given s
   run_all known s (first statement rest) = andthen (run known s statement) (λ t. run_all known t rest)
 
@@ -156,17 +152,16 @@ return_run t None = given (record { word = None; state = t })
 return_run t (Some r) = tick (andthen (value t r.value) (λ w. given (record { word = Some w; state = t })))
 
 -- a procedure's body and its `return`
-abbrev pub body_run : Knowledge → ProcedureTree → State → Run Returned
+abbrev pub body_run : Runnables → ProcedureTree → State → Run Returned
 body_run known p s = andthen (run_all known s p.body) (λ t. return_run t p.returned)
 
--- with one more procedure, which calls the earlier ones
-abbrev pub knowing : Knowledge → ProcedureTree → Knowledge
-knowing known p text = first_known (known text) (if bytes_eq text p.name then Some (record { procedure = p; body = body_run known p }) else None)
+-- a procedure that calls the earlier ones
+abbrev pub runnable : Runnables → ProcedureTree → Runnable
+runnable known p = record { procedure = p; body = body_run known p }
 
--- with more procedures, in their order
-abbrev pub knowing_all : Knowledge → List ProcedureTree → Knowledge
-knowing_all known [] = known
-knowing_all known (p ∷ ps) = knowing_all (knowing known p) ps
+-- the procedures that may be called behind these
+abbrev pub runnables : List ProcedureTree → Runnables
+runnables before = known_of runnable before
 
 -- The program.
 
@@ -176,7 +171,7 @@ results p r = record { returned = option_map (λ (v : Word). v.value) r.word; ar
 
 -- an export on arguments, after the earlier procedures
 abbrev pub export_run : List ProcedureTree → ProcedureTree → List Arg → Run Results
-export_run before p args = andthen (inside (body_run (knowing_all nothing_known before) p (holding p.parameters args))) (λ r. given (results p r))
+export_run before p args = andthen (inside (body_run (runnables before) p (holding p.parameters args))) (λ r. given (results p r))
 
 -- a program on arguments; without an export nothing is run
 abbrev pub found_run : Option (List ProcedureTree × ProcedureTree) → List Arg → Run Results

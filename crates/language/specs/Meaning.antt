@@ -1,5 +1,6 @@
 -- What expressions, statements, calls and a program mean: what a reader of the text works out, with real branches, loops
--- and calls. Each part comes to a result or meets a fault at a node: an index not below the length, or a divisor 0.
+-- and calls. Each part comes to a result or meets a fault at a node: an index not below the length, or a divisor 0. The
+-- premises of a rule stand one a line, its conclusion last.
 use Rattle.std.specs.Prelude.{◌≡◌, ℕ, ◌+◌, ◌<◌, ◌≤◌, ◌==◌, ◌&&◌, Bool, true, false, nat_lt, List, [], ◌∷◌, ◌++◌, length, map, Option, Some, None, slice_index, slice_set, replicate, if◌then◌else◌}
 use Rattle.std.specs.Option.{option_map}
 use Rattle.std.specs.Str.{bytes_eq}
@@ -66,15 +67,27 @@ applied s e vs = gives (record { kind = Boolean; value = 0 })
 mutual
   -- in this state an expression comes to this
   pub data Evaluates (s : State) : ExprTree → Ending Word → Type 0 where
-    by_operands : (e : ExprTree) (vs : List Word) → EvaluatesAll s (operands e) (gives vs) → Evaluates s e (applied s e vs)
-    operand_faults : (e : ExprTree) (place : Place) → EvaluatesAll s (operands e) (faults place) → Evaluates s e (faults place)
+    by_operands : {e : ExprTree} {vs : List Word}
+        → EvaluatesAll s (operands e) (gives vs)
+        → Evaluates s e (applied s e vs)
+    operand_faults : {e : ExprTree} {place : Place}
+        → EvaluatesAll s (operands e) (faults place)
+        → Evaluates s e (faults place)
 
   -- expressions, from left to right
   pub data EvaluatesAll (s : State) : List ExprTree → Ending (List Word) → Type 0 where
     none_left : EvaluatesAll s [] (gives [])
-    one_more : (e : ExprTree) (es : List ExprTree) (v : Word) (vs : List Word) → Evaluates s e (gives v) → EvaluatesAll s es (gives vs) → EvaluatesAll s (e ∷ es) (gives (v ∷ vs))
-    this_faults : (e : ExprTree) (es : List ExprTree) (place : Place) → Evaluates s e (faults place) → EvaluatesAll s (e ∷ es) (faults place)
-    later_faults : (e : ExprTree) (es : List ExprTree) (v : Word) (place : Place) → Evaluates s e (gives v) → EvaluatesAll s es (faults place) → EvaluatesAll s (e ∷ es) (faults place)
+    one_more : {e : ExprTree} {es : List ExprTree} {v : Word} {vs : List Word}
+        → Evaluates s e (gives v)
+        → EvaluatesAll s es (gives vs)
+        → EvaluatesAll s (e ∷ es) (gives (v ∷ vs))
+    this_faults : {e : ExprTree} {es : List ExprTree} {place : Place}
+        → Evaluates s e (faults place)
+        → EvaluatesAll s (e ∷ es) (faults place)
+    later_faults : {e : ExprTree} {es : List ExprTree} {v : Word} {place : Place}
+        → Evaluates s e (gives v)
+        → EvaluatesAll s es (faults place)
+        → EvaluatesAll s (e ∷ es) (faults place)
 
 -- Procedures.
 
@@ -162,54 +175,139 @@ counting s text i = with_value s text (single (record { kind = Uint32; value = i
 mutual
   -- with these earlier procedures, a call in a state
   pub data Calls : List ProcedureTree → State → CallTree → Ending Returned → Type 0 where
-    argument_faults : (ps before : List ProcedureTree) (p : ProcedureTree) (s : State) (c : CallTree) (place : Place) → named [] ps c.name ≡ Some (before, p) → EvaluatesAll s (word_arguments p.parameters c.arguments) (faults place) → Calls ps s c (faults place)
-    body_faults : (ps before : List ProcedureTree) (p : ProcedureTree) (s : State) (c : CallTree) (vs : List Word) (place : Place) → named [] ps c.name ≡ Some (before, p) → EvaluatesAll s (word_arguments p.parameters c.arguments) (gives vs) → Bodies before p (begun s p.parameters c.arguments vs) (faults place) → Calls ps s c (faults place)
-    body_ends : (ps before : List ProcedureTree) (p : ProcedureTree) (s t : State) (c : CallTree) (vs : List Word) (w : Option Word) → named [] ps c.name ≡ Some (before, p) → EvaluatesAll s (word_arguments p.parameters c.arguments) (gives vs) → Bodies before p (begun s p.parameters c.arguments vs) (gives (record { word = w; state = t })) → Calls ps s c (gives (record { word = w; state = copied_out s t p.parameters c.arguments }))
+    argument_faults : {ps before : List ProcedureTree} {p : ProcedureTree} {s : State} {c : CallTree} {place : Place}
+        → named [] ps c.name ≡ Some (before, p)
+        → EvaluatesAll s (word_arguments p.parameters c.arguments) (faults place)
+        → Calls ps s c (faults place)
+    body_faults : {ps before : List ProcedureTree} {p : ProcedureTree} {s : State} {c : CallTree} {vs : List Word} {place : Place}
+        → named [] ps c.name ≡ Some (before, p)
+        → EvaluatesAll s (word_arguments p.parameters c.arguments) (gives vs)
+        → Bodies before p (begun s p.parameters c.arguments vs) (faults place)
+        → Calls ps s c (faults place)
+    body_ends : {ps before : List ProcedureTree} {p : ProcedureTree} {s t : State} {c : CallTree} {vs : List Word} {w : Option Word}
+        → named [] ps c.name ≡ Some (before, p)
+        → EvaluatesAll s (word_arguments p.parameters c.arguments) (gives vs)
+        → Bodies before p (begun s p.parameters c.arguments vs) (gives (record { word = w; state = t }))
+        → Calls ps s c (gives (record { word = w; state = copied_out s t p.parameters c.arguments }))
 
   -- a procedure's body and its `return`, in a map of its own
   pub data Bodies : List ProcedureTree → ProcedureTree → State → Ending Returned → Type 0 where
-    statements_fault : (ps : List ProcedureTree) (p : ProcedureTree) (s : State) (place : Place) → RunsAll ps s p.body (faults place) → Bodies ps p s (faults place)
-    returns_nothing : (ps : List ProcedureTree) (p : ProcedureTree) (s t : State) → RunsAll ps s p.body (gives t) → p.returned ≡ None → Bodies ps p s (gives (record { word = None; state = t }))
-    returns : (ps : List ProcedureTree) (p : ProcedureTree) (s t : State) (r : ReturnTree) (w : Word) → RunsAll ps s p.body (gives t) → p.returned ≡ Some r → Evaluates t r.value (gives w) → Bodies ps p s (gives (record { word = Some w; state = t }))
-    return_faults : (ps : List ProcedureTree) (p : ProcedureTree) (s t : State) (r : ReturnTree) (place : Place) → RunsAll ps s p.body (gives t) → p.returned ≡ Some r → Evaluates t r.value (faults place) → Bodies ps p s (faults place)
+    statements_fault : {ps : List ProcedureTree} {p : ProcedureTree} {s : State} {place : Place}
+        → RunsAll ps s p.body (faults place)
+        → Bodies ps p s (faults place)
+    returns_nothing : {ps : List ProcedureTree} {p : ProcedureTree} {s t : State}
+        → RunsAll ps s p.body (gives t)
+        → p.returned ≡ None
+        → Bodies ps p s (gives (record { word = None; state = t }))
+    returns : {ps : List ProcedureTree} {p : ProcedureTree} {s t : State} {r : ReturnTree} {w : Word}
+        → RunsAll ps s p.body (gives t)
+        → p.returned ≡ Some r
+        → Evaluates t r.value (gives w)
+        → Bodies ps p s (gives (record { word = Some w; state = t }))
+    return_faults : {ps : List ProcedureTree} {p : ProcedureTree} {s t : State} {r : ReturnTree} {place : Place}
+        → RunsAll ps s p.body (gives t)
+        → p.returned ≡ Some r
+        → Evaluates t r.value (faults place)
+        → Bodies ps p s (faults place)
 
   -- a right side
   pub data Rights : List ProcedureTree → State → RightTree → Ending Returned → Type 0 where
-    of_call : (ps : List ProcedureTree) (s : State) (c : CallTree) (ending : Ending Returned) → Calls ps s c ending → Rights ps s (called c) ending
-    of_expr : (ps : List ProcedureTree) (s : State) (e : ExprTree) (v : Word) → Evaluates s e (gives v) → Rights ps s (computed e) (gives (record { word = Some v; state = s }))
-    expr_faults : (ps : List ProcedureTree) (s : State) (e : ExprTree) (place : Place) → Evaluates s e (faults place) → Rights ps s (computed e) (faults place)
+    of_call : {ps : List ProcedureTree} {s : State} {c : CallTree} {ending : Ending Returned}
+        → Calls ps s c ending
+        → Rights ps s (called c) ending
+    of_expr : {ps : List ProcedureTree} {s : State} {e : ExprTree} {v : Word}
+        → Evaluates s e (gives v)
+        → Rights ps s (computed e) (gives (record { word = Some v; state = s }))
+    expr_faults : {ps : List ProcedureTree} {s : State} {e : ExprTree} {place : Place}
+        → Evaluates s e (faults place)
+        → Rights ps s (computed e) (faults place)
 
   -- a statement
   pub data Runs : List ProcedureTree → State → StatementTree → Ending State → Type 0 where
-    declares : (ps : List ProcedureTree) (s : State) (place : Place) (label : Label) (mutable : Bool) (kind : Kind) (text : List ℕ) (right : RightTree) (r : Returned) → Rights ps s right (gives r) → Runs ps s (declaration place label mutable kind text right) (gives (with_value r.state text (single (word_given r.word))))
-    declaration_faults : (ps : List ProcedureTree) (s : State) (place at : Place) (label : Label) (mutable : Bool) (kind : Kind) (text : List ℕ) (right : RightTree) → Rights ps s right (faults at) → Runs ps s (declaration place label mutable kind text right) (faults at)
-    declares_array : (ps : List ProcedureTree) (s : State) (place : Place) (label : Label) (mutable : Bool) (kind : Kind) (size : ℕ) (text : List ℕ) (values : Option (List ExprTree)) (vs : List Word) → EvaluatesAll s (written values) (gives vs) → Runs ps s (array_declaration place label mutable kind size text values) (gives (with_value s text (made_array kind size vs)))
-    first_value_faults : (ps : List ProcedureTree) (s : State) (place at : Place) (label : Label) (mutable : Bool) (kind : Kind) (size : ℕ) (text : List ℕ) (values : Option (List ExprTree)) → EvaluatesAll s (written values) (faults at) → Runs ps s (array_declaration place label mutable kind size text values) (faults at)
-    assigns : (ps : List ProcedureTree) (s : State) (place target : Place) (text : List ℕ) (right : RightTree) (r : Returned) → Rights ps s right (gives r) → Runs ps s (assignment place target text right) (gives (with_value r.state text (single (word_given r.word))))
-    assignment_faults : (ps : List ProcedureTree) (s : State) (place target at : Place) (text : List ℕ) (right : RightTree) → Rights ps s right (faults at) → Runs ps s (assignment place target text right) (faults at)
+    declares : {ps : List ProcedureTree} {s : State} {place : Place} {label : Label} {mutable : Bool} {kind : Kind} {text : List ℕ} {right : RightTree} {r : Returned}
+        → Rights ps s right (gives r)
+        → Runs ps s (declaration place label mutable kind text right) (gives (with_value r.state text (single (word_given r.word))))
+    declaration_faults : {ps : List ProcedureTree} {s : State} {place at : Place} {label : Label} {mutable : Bool} {kind : Kind} {text : List ℕ} {right : RightTree}
+        → Rights ps s right (faults at)
+        → Runs ps s (declaration place label mutable kind text right) (faults at)
+    declares_array : {ps : List ProcedureTree} {s : State} {place : Place} {label : Label} {mutable : Bool} {kind : Kind} {size : ℕ} {text : List ℕ} {values : Option (List ExprTree)} {vs : List Word}
+        → EvaluatesAll s (written values) (gives vs)
+        → Runs ps s (array_declaration place label mutable kind size text values) (gives (with_value s text (made_array kind size vs)))
+    first_value_faults : {ps : List ProcedureTree} {s : State} {place at : Place} {label : Label} {mutable : Bool} {kind : Kind} {size : ℕ} {text : List ℕ} {values : Option (List ExprTree)}
+        → EvaluatesAll s (written values) (faults at)
+        → Runs ps s (array_declaration place label mutable kind size text values) (faults at)
+    assigns : {ps : List ProcedureTree} {s : State} {place target : Place} {text : List ℕ} {right : RightTree} {r : Returned}
+        → Rights ps s right (gives r)
+        → Runs ps s (assignment place target text right) (gives (with_value r.state text (single (word_given r.word))))
+    assignment_faults : {ps : List ProcedureTree} {s : State} {place target at : Place} {text : List ℕ} {right : RightTree}
+        → Rights ps s right (faults at)
+        → Runs ps s (assignment place target text right) (faults at)
     -- the element is evaluated first, as a part of an expression would be: its index is tested before the right side
-    target_faults : (ps : List ProcedureTree) (s : State) (place bracket target at : Place) (text : List ℕ) (index : ExprTree) (right : RightTree) → Evaluates s (element bracket target text index) (faults at) → Runs ps s (element_assignment place bracket target text index right) (faults at)
-    right_faults : (ps : List ProcedureTree) (s : State) (place bracket target at : Place) (text : List ℕ) (index : ExprTree) (right : RightTree) (old : Word) → Evaluates s (element bracket target text index) (gives old) → Rights ps s right (faults at) → Runs ps s (element_assignment place bracket target text index right) (faults at)
-    assigns_element : (ps : List ProcedureTree) (s : State) (place bracket target : Place) (text : List ℕ) (index : ExprTree) (right : RightTree) (old i : Word) (r : Returned) → Evaluates s (element bracket target text index) (gives old) → Evaluates s index (gives i) → Rights ps s right (gives r) → Runs ps s (element_assignment place bracket target text index right) (gives (with_some r.state text (with_element (r.state text) i.value (word_given r.word))))
-    calls : (ps : List ProcedureTree) (s : State) (c : CallTree) (r : Returned) → Calls ps s c (gives r) → Runs ps s (call c) (gives r.state)
-    call_faults : (ps : List ProcedureTree) (s : State) (c : CallTree) (at : Place) → Calls ps s c (faults at) → Runs ps s (call c) (faults at)
-    condition_faults : (ps : List ProcedureTree) (s : State) (place at : Place) (condition : ExprTree) (accepted otherwise : BlockTree) → Evaluates s condition (faults at) → Runs ps s (conditional place condition accepted otherwise) (faults at)
-    accepts : (ps : List ProcedureTree) (s : State) (place : Place) (condition : ExprTree) (accepted otherwise : BlockTree) (c : Word) (ending : Ending State) → Evaluates s condition (gives c) → truth_of c.value ≡ true → RunsAll ps s accepted ending → Runs ps s (conditional place condition accepted otherwise) ending
-    declines : (ps : List ProcedureTree) (s : State) (place : Place) (condition : ExprTree) (accepted otherwise : BlockTree) (c : Word) (ending : Ending State) → Evaluates s condition (gives c) → truth_of c.value ≡ false → RunsAll ps s otherwise ending → Runs ps s (conditional place condition accepted otherwise) ending
-    bounds_fault : (ps : List ProcedureTree) (s : State) (place counter at : Place) (text : List ℕ) (low high : ExprTree) (body : BlockTree) → EvaluatesAll s (low ∷ high ∷ []) (faults at) → Runs ps s (loop place counter text low high body) (faults at)
-    loops : (ps : List ProcedureTree) (s : State) (place counter : Place) (text : List ℕ) (low high : ExprTree) (body : BlockTree) (a b : Word) (ending : Ending State) → EvaluatesAll s (low ∷ high ∷ []) (gives (a ∷ b ∷ [])) → Turns ps s text body a.value b.value ending → Runs ps s (loop place counter text low high body) ending
+    target_faults : {ps : List ProcedureTree} {s : State} {place bracket target at : Place} {text : List ℕ} {index : ExprTree} {right : RightTree}
+        → Evaluates s (element bracket target text index) (faults at)
+        → Runs ps s (element_assignment place bracket target text index right) (faults at)
+    right_faults : {ps : List ProcedureTree} {s : State} {place bracket target at : Place} {text : List ℕ} {index : ExprTree} {right : RightTree} {old : Word}
+        → Evaluates s (element bracket target text index) (gives old)
+        → Rights ps s right (faults at)
+        → Runs ps s (element_assignment place bracket target text index right) (faults at)
+    assigns_element : {ps : List ProcedureTree} {s : State} {place bracket target : Place} {text : List ℕ} {index : ExprTree} {right : RightTree} {old i : Word} {r : Returned}
+        → Evaluates s (element bracket target text index) (gives old)
+        → Evaluates s index (gives i)
+        → Rights ps s right (gives r)
+        → Runs ps s (element_assignment place bracket target text index right) (gives (with_some r.state text (with_element (r.state text) i.value (word_given r.word))))
+    calls : {ps : List ProcedureTree} {s : State} {c : CallTree} {r : Returned}
+        → Calls ps s c (gives r)
+        → Runs ps s (call c) (gives r.state)
+    call_faults : {ps : List ProcedureTree} {s : State} {c : CallTree} {at : Place}
+        → Calls ps s c (faults at)
+        → Runs ps s (call c) (faults at)
+    condition_faults : {ps : List ProcedureTree} {s : State} {place at : Place} {condition : ExprTree} {accepted otherwise : BlockTree}
+        → Evaluates s condition (faults at)
+        → Runs ps s (conditional place condition accepted otherwise) (faults at)
+    accepts : {ps : List ProcedureTree} {s : State} {place : Place} {condition : ExprTree} {accepted otherwise : BlockTree} {c : Word} {ending : Ending State}
+        → Evaluates s condition (gives c)
+        → truth_of c.value ≡ true
+        → RunsAll ps s accepted ending
+        → Runs ps s (conditional place condition accepted otherwise) ending
+    declines : {ps : List ProcedureTree} {s : State} {place : Place} {condition : ExprTree} {accepted otherwise : BlockTree} {c : Word} {ending : Ending State}
+        → Evaluates s condition (gives c)
+        → truth_of c.value ≡ false
+        → RunsAll ps s otherwise ending
+        → Runs ps s (conditional place condition accepted otherwise) ending
+    bounds_fault : {ps : List ProcedureTree} {s : State} {place counter at : Place} {text : List ℕ} {low high : ExprTree} {body : BlockTree}
+        → EvaluatesAll s (low ∷ high ∷ []) (faults at)
+        → Runs ps s (loop place counter text low high body) (faults at)
+    loops : {ps : List ProcedureTree} {s : State} {place counter : Place} {text : List ℕ} {low high : ExprTree} {body : BlockTree} {a b : Word} {ending : Ending State}
+        → EvaluatesAll s (low ∷ high ∷ []) (gives (a ∷ b ∷ []))
+        → Turns ps s text body a.value b.value ending
+        → Runs ps s (loop place counter text low high body) ending
 
   -- the turns of a loop from one number to another
   pub data Turns : List ProcedureTree → State → List ℕ → BlockTree → ℕ → ℕ → Ending State → Type 0 where
-    no_turn : (ps : List ProcedureTree) (s : State) (text : List ℕ) (body : BlockTree) (i n : ℕ) → n ≤ i → Turns ps s text body i n (gives s)
-    turn_faults : (ps : List ProcedureTree) (s : State) (text : List ℕ) (body : BlockTree) (i n : ℕ) (at : Place) → i < n → RunsAll ps (counting s text i) body (faults at) → Turns ps s text body i n (faults at)
-    a_turn : (ps : List ProcedureTree) (s t : State) (text : List ℕ) (body : BlockTree) (i n : ℕ) (ending : Ending State) → i < n → RunsAll ps (counting s text i) body (gives t) → Turns ps t text body (i + 1) n ending → Turns ps s text body i n ending
+    no_turn : {ps : List ProcedureTree} {s : State} {text : List ℕ} {body : BlockTree} {i n : ℕ}
+        → n ≤ i
+        → Turns ps s text body i n (gives s)
+    turn_faults : {ps : List ProcedureTree} {s : State} {text : List ℕ} {body : BlockTree} {i n : ℕ} {at : Place}
+        → i < n
+        → RunsAll ps (counting s text i) body (faults at)
+        → Turns ps s text body i n (faults at)
+    a_turn : {ps : List ProcedureTree} {s t : State} {text : List ℕ} {body : BlockTree} {i n : ℕ} {ending : Ending State}
+        → i < n
+        → RunsAll ps (counting s text i) body (gives t)
+        → Turns ps t text body (i + 1) n ending
+        → Turns ps s text body i n ending
 
   -- statements in their order
   pub data RunsAll : List ProcedureTree → State → BlockTree → Ending State → Type 0 where
-    ends : (ps : List ProcedureTree) (s : State) → RunsAll ps s nothing (gives s)
-    stops : (ps : List ProcedureTree) (s : State) (statement : StatementTree) (rest : BlockTree) (at : Place) → Runs ps s statement (faults at) → RunsAll ps s (first statement rest) (faults at)
-    goes_on : (ps : List ProcedureTree) (s t : State) (statement : StatementTree) (rest : BlockTree) (ending : Ending State) → Runs ps s statement (gives t) → RunsAll ps t rest ending → RunsAll ps s (first statement rest) ending
+    ends : {ps : List ProcedureTree} {s : State}
+        → RunsAll ps s nothing (gives s)
+    stops : {ps : List ProcedureTree} {s : State} {statement : StatementTree} {rest : BlockTree} {at : Place}
+        → Runs ps s statement (faults at)
+        → RunsAll ps s (first statement rest) (faults at)
+    goes_on : {ps : List ProcedureTree} {s t : State} {statement : StatementTree} {rest : BlockTree} {ending : Ending State}
+        → Runs ps s statement (gives t)
+        → RunsAll ps t rest ending
+        → RunsAll ps s (first statement rest) ending
 
 -- The program.
 
@@ -241,5 +339,11 @@ final_arrays t (p ∷ ps) = final_array p.form (t p.name) ++ final_arrays t ps
 
 -- what a program comes to on arguments: its return word and its `mut` arrays, in parameter order, or a fault
 pub data Gives (program : ProgramTree) (args : List Arg) : Ending Results → Type 0 where
-  ends_well : (before : List ProcedureTree) (p : ProcedureTree) (w : Option Word) (t : State) → exported [] program.procedures ≡ Some (before, p) → Bodies before p (holding p.parameters args) (gives (record { word = w; state = t })) → Gives program args (gives (record { returned = option_map (λ (v : Word). v.value) w; arrays = final_arrays t p.parameters }))
-  meets_fault : (before : List ProcedureTree) (p : ProcedureTree) (at : Place) → exported [] program.procedures ≡ Some (before, p) → Bodies before p (holding p.parameters args) (faults at) → Gives program args (faults at)
+  ends_well : {before : List ProcedureTree} {p : ProcedureTree} {w : Option Word} {t : State}
+      → exported [] program.procedures ≡ Some (before, p)
+      → Bodies before p (holding p.parameters args) (gives (record { word = w; state = t }))
+      → Gives program args (gives (record { returned = option_map (λ (v : Word). v.value) w; arrays = final_arrays t p.parameters }))
+  meets_fault : {before : List ProcedureTree} {p : ProcedureTree} {at : Place}
+      → exported [] program.procedures ≡ Some (before, p)
+      → Bodies before p (holding p.parameters args) (faults at)
+      → Gives program args (faults at)

@@ -20,6 +20,7 @@ pub use signature::{Form, Kind, Label, Param};
 pub use tree::{
     ArrayDeclaration, Assignment, BinaryOperator, Call, Counter, Declaration, ElementAssignment,
     Expr, Parameter, PrefixOperator, Procedure, Program, Return, RightSide, Statement,
+    procedure_named,
 };
 pub use typing::{
     ArrayType, Callee, Declared, Operation, ValueType, VariableType, Violation, WordType,

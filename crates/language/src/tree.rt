@@ -1,4 +1,7 @@
-ghost use Rattle.std.specs.Prelude.{◌≡◌};
+ghost use Rattle.std.specs.Prelude.{◌≡◌, [], map};
+ghost use Rattle.std.specs.Option.{option_map};
+ghost use Rattle.language.specs.Meaning.{named};
+ghost use Rattle.language.specs.Tree.{procedure_tree};
 
 use crate::{Form, Kind, Label, Operation, Param, Place, WordType};
 use std::alloc::{AllocError, Global};
@@ -262,9 +265,8 @@ pub struct Procedure<'a> {
 }
 
 impl Procedure<'_> {
-    ghost use Rattle.std.specs.Prelude.{map, IfOk};
+    ghost use Rattle.std.specs.Prelude.{IfOk};
     ghost use Rattle.language.specs.Signature.{param_of};
-    ghost use Rattle.language.specs.Tree.{procedure_tree};
 
     /// Its parameters without their names.
     pub fn params(&self, alloc: Global) -> Result<Vec<Param>, AllocError>
@@ -285,10 +287,8 @@ pub struct Program<'a> {
 }
 
 impl<'a> Program<'a> {
-    ghost use Rattle.std.specs.Prelude.{[], map};
-    ghost use Rattle.std.specs.Option.{option_map};
     ghost use Rattle.language.specs.Signature.{exported};
-    ghost use Rattle.language.specs.Tree.{procedure_tree, program_tree};
+    ghost use Rattle.language.specs.Tree.{program_tree};
 
     /// The first exported procedure, and those before it.
     pub fn exported(&self) -> Option<(&[Procedure<'a>], &Procedure<'a>)>
@@ -301,4 +301,19 @@ impl<'a> Program<'a> {
         }
         None
     }
+}
+
+/// The first procedure of a name, and those before it.
+pub fn procedure_named<'p, 'a>(
+    procedures: &'p [Procedure<'a>],
+    name: &str,
+) -> Option<(&'p [Procedure<'a>], &'p Procedure<'a>)>
+    ensures { option_map (λ found. (map procedure_tree found.0.now, procedure_tree found.1.now)) result ≡ named [] (map procedure_tree procedures.now) name.now }
+{
+    for (index, procedure) in procedures.iter().enumerate() {
+        if procedure.name == name {
+            return Some((&procedures[..index], procedure));
+        }
+    }
+    None
 }

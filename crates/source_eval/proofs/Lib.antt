@@ -1,12 +1,10 @@
 pub mod Rows
 pub mod VariableLemmas
 pub mod RunLemmas
-pub mod ProcedureLemmas
 pub mod LoopLemmas
 pub mod BeginningLemmas
 pub mod Opening
 pub mod RunEnds
-pub mod KnownProcedures
 pub mod WorkedOut
 pub mod EarlierCalls
 pub mod ValuesHad

@@ -4,14 +4,12 @@ use Rattle.std.proofs.lemmas.List.{drop_more, drop_all, take_more, take-append-d
 use Rattle.std.proofs.lemmas.Bool.Decides.{nat_tests}
 use Rattle.std.proofs.lemmas.Result.{err_from_is_err_and}
 use Rattle.std.specs.Result.{IfErr, IsErrAnd}
-use Rattle.std.specs.Str.{bytes_eq}
 use Rattle.language.specs.declared.signature.Form.{Form}
 use Rattle.language.specs.declared.signature.Form.TheVariants.{SingleWord, FixedArray, MutableArray}
 use Rattle.language.specs.declared.tree.Expr.{Expr}
 use Rattle.language.specs.declared.tree.Parameter.{Parameter}
-use Rattle.language.specs.declared.tree.Procedure.{Procedure}
 use Rattle.language.specs.declared.tree.Statement.{Statement}
-use Rattle.language.specs.Evaluation.{Run, Knowledge, body_run, values, value, passed, run, run_all}
+use Rattle.language.specs.Evaluation.{Run, Runnables, body_run, values, value, passed, run, run_all}
 use Rattle.language.specs.Meaning.{word_arguments, is_word, copied_out, made_array}
 use Rattle.language.specs.declared.signature.Kind.{Kind}
 use Rattle.language.specs.State.{State, array}
@@ -22,9 +20,7 @@ use Rattle.source_eval.specs.Views.{word_of}
 use Rattle.source_eval.specs.declared.fault.EvalFault.{EvalFault}
 use Rattle.source_eval.specs.declared.fault.EvalFault.TheVariants.{Budget}
 use Rattle.source_eval.specs.declared.values.Word.{Word}
-use Rattle.source_eval.proofs.ProcedureLemmas.{found_first, missed}
 use Rattle.source_eval.proofs.RunLemmas.{Leads, values_more, values_stop, passed_more, passed_stop, passed_lacks, all_found, block_more, block_stop}
-use Rattle.source_eval.proofs.VariableLemmas.{bytes_eq-symmetric}
 
 -- what a `?` hands on
 pub passes : {T : Type 0} (r : Result T EvalFault) (P : EvalFault → Type 0) (fault : EvalFault) → IsErrAnd r (λ y. y ≡ fault) → P fault → IfErr r P
@@ -35,12 +31,6 @@ passes r P fault h k =
 -- the next of a list
 pub next_of : {A : Type 0} (xs : List A) (i : ℕ) (x : A) → i < length xs → x ≡ get_or xs i x → drop i xs ≡ x ∷ drop (i + 1) xs
 next_of xs i x less is = drop_more xs i x less ∙ ap (λ y. y ∷ drop (i + 1) xs) (sym is)
-
-up_to : {A : Type 0} (xs : List A) (i : ℕ) (x : A) → i < length xs → x ≡ get_or xs i x → take (i + 1) xs ≡ take i xs ++ x ∷ []
-up_to xs i x less is = take_more xs i x less ∙ ap (λ y. take i xs ++ y ∷ []) (sym is)
-
-whole_at : {A : Type 0} (xs : List A) (i : ℕ) (x : A) → i < length xs → x ≡ get_or xs i x → take i xs ++ x ∷ drop (i + 1) xs ≡ xs
-whole_at xs i x less is = ap (λ ys. take i xs ++ ys) (sym (next_of xs i x less is)) ∙ take-append-drop i xs
 
 pushed : (words new : List Word) (v : Word) → new ≡ words ++ v ∷ [] → map word_of words ++ word_of v ∷ [] ≡ map word_of new
 pushed words new v is = sym (map-append word_of words (v ∷ [])) ∙ ap (map word_of) (sym is)
@@ -66,20 +56,8 @@ module _ (s : State) (whole : Run (List state.Word)) (es : List Expr) (start : �
   all_values i now words most leads =
       all_found whole start now (map word_of words) (subst (λ xs. Leads whole start 0 (values s (map expr_tree xs)) now (λ vs. map word_of words ++ vs)) (drop_all i es most) leads)
 
--- the first procedure of a name
-pub find_here : (ps : List Procedure) (i : ℕ) (p : Procedure) (text : List ℕ) → i < length ps → p ≡ get_or ps i p → known_of (take i ps) text ≡ None → bytes_eq p.name.now text ≡ true
-    → known_of ps text ≡ Some (record { procedure = procedure_tree p; body = body_run (known_of (take i ps)) (procedure_tree p) })
-find_here ps i p text less is none same =
-    ap (λ qs. known_of qs text) (sym (whole_at ps i p less is))
-    ∙ found_first (take i ps) (drop (i + 1) ps) p text none (bytes_eq-symmetric text p.name.now ∙ same)
-
-pub find_later : (ps : List Procedure) (i : ℕ) (p : Procedure) (text : List ℕ) → i < length ps → p ≡ get_or ps i p → known_of (take i ps) text ≡ None → bytes_eq p.name.now text ≡ false
-    → known_of (take (i + 1) ps) text ≡ None
-find_later ps i p text less is none other =
-    ap (λ qs. known_of qs text) (up_to ps i p less is) ∙ missed (take i ps) p text none (bytes_eq-symmetric text p.name.now ∙ other)
-
 -- the statements of a block
-module _ (whole : Run State) (known : Knowledge) (start room : ℕ) (ss : List Statement) where
+module _ (whole : Run State) (known : Runnables) (start room : ℕ) (ss : List Statement) where
   pub each_statement : (s t : State) (i : ℕ) (statement : Statement) (now middle : ℕ) → i < length ss → statement ≡ get_or ss i statement
       → Leads whole start room (run_all known s (block_tree (drop i ss))) now (λ u. u) → Ended (run known s (statement_tree statement)) now room t middle
       → Leads whole start room (run_all known t (block_tree (drop (i + 1) ss))) middle (λ u. u)

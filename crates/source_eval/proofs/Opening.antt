@@ -3,8 +3,8 @@ use Rattle.std.proofs.Common.{◌≡◌, ℕ, zero, suc, ◌+◌, ◌-◌, ◌�
 use Rattle.std.proofs.Math.Nat.{max-le, le-max_left, le-max_right}
 use Rattle.std.specs.Str.{bytes_eq}
 use Rattle.language.specs.declared.values.Arg.{Arg}
-use Rattle.language.specs.Evaluation.{Run, Known, Knowledge, given, tick, inside, andthen, continued, value, passed, call_run, right_run, turns, set_run, element_run, branch_run, loop_run, run, run_all, body_run, knowing, knowing_all, nothing_known, first_known, found_run, export_run, program_run}
-use Rattle.language.specs.Known.{known_from, with_known}
+use Rattle.language.specs.Evaluation.{Run, Runnable, Runnables, runnable, runnables, given, tick, inside, andthen, continued, value, passed, call_run, right_run, turns, set_run, element_run, branch_run, loop_run, run, run_all, body_run, found_run, export_run, program_run}
+use Rattle.language.specs.Known.{first_known, known_from, nothing_known, with_known}
 use Rattle.language.specs.Meaning.{Ending, gives, faults, begun, counting, exported, holding, word_arguments}
 use Rattle.language.specs.Operators.{truth_of}
 use Rattle.language.specs.Size.{Extent, Extents, bodies_of, bodies_of_called, right_bodies, statement_bodies, block_bodies, extent_of, extents_of}
@@ -39,16 +39,16 @@ one_open a b accepted otherwise h k false = omega (arith, k, le-max_right a b)
 -- Calls.
 
 -- a known procedure opens as many as are counted for it
-abbrev IsOpened : Option Known → Option Extent → Type 0
+abbrev IsOpened : Option Runnable → Option Extent → Type 0
 IsOpened None None = Unit {0}
 IsOpened None (Some extent) = ⊥
 IsOpened (Some known) None = ⊥
 IsOpened (Some known) (Some extent) = (s : State) → (known.body s).bodies + 1 ≤ extent.bodies
 
-abbrev AreOpened : Knowledge → Extents → Type 0
+abbrev AreOpened : Runnables → Extents → Type 0
 AreOpened known extents = (name : List ℕ) → IsOpened (known name) (extents name)
 
-call_open : (known : Option Known) (extent : Option Extent) → IsOpened known extent → (s : State) (c : CallTree) → (call_run known s c).bodies ≤ bodies_of_called extent
+call_open : (known : Option Runnable) (extent : Option Extent) → IsOpened known extent → (s : State) (c : CallTree) → (call_run known s c).bodies ≤ bodies_of_called extent
 unfolding tick inside
 call_open None None opened s c = omega arith
 call_open None (Some extent) opened s c = absurd opened
@@ -58,7 +58,7 @@ call_open (Some known) (Some extent) opened s c =
     then_open extent.bodies (passed s words) _ (none_open extent.bodies (passed s words).bodies (passed_open s words)) (λ vs.
     then_open extent.bodies (inside (known.body (begun s known.procedure.parameters c.arguments vs))) _ (opened (begun s known.procedure.parameters c.arguments vs)) (λ r. omega arith))
 
-module _ (known : Knowledge) (extents : Extents) (opened : AreOpened known extents) where
+module _ (known : Runnables) (extents : Extents) (opened : AreOpened known extents) where
   value_open : (most : ℕ) (s : State) (e : ExprTree) → (value s e).bodies ≤ most
   value_open most s e = none_open most (value s e).bodies (value_opens s e)
 
@@ -99,11 +99,11 @@ module _ (known : Knowledge) (extents : Extents) (opened : AreOpened known exten
   body_open p s = then_open (block_bodies extents p.body) (run_all known s p.body) _ (block_open p.body s) (λ t. none_open (block_bodies extents p.body) _ (return_opens t p.returned))
 
   -- with one more procedure
-  one_more_opened : (p : ProcedureTree) → AreOpened (knowing known p) (with_known extents p.name (extent_of extents p))
+  one_more_opened : (p : ProcedureTree) → AreOpened (with_known known p.name (runnable known p)) (with_known extents p.name (extent_of extents p))
   one_more_opened p name = by_name (known name) (extents name) (opened name) (bytes_eq name p.name)
     where
-      by_name : (one : Option Known) (extent : Option Extent) → IsOpened one extent → (same : Bool)
-          → IsOpened (first_known one (if same then Some (record { procedure = p; body = body_run known p }) else None)) (first_known extent (if same then Some (extent_of extents p) else None))
+      by_name : (one : Option Runnable) (extent : Option Extent) → IsOpened one extent → (same : Bool)
+          → IsOpened (first_known one (if same then Some (runnable known p) else None)) (first_known extent (if same then Some (extent_of extents p) else None))
       by_name None None both true = λ s. omega (arith, body_open p s)
       by_name None None both false = tt
       by_name None (Some extent) both same = absurd both
@@ -112,15 +112,15 @@ module _ (known : Knowledge) (extents : Extents) (opened : AreOpened known exten
 
 -- Programs.
 
-all_opened : (ps : List ProcedureTree) (known : Knowledge) (extents : Extents) → AreOpened known extents → AreOpened (knowing_all known ps) (known_from extent_of extents ps)
+all_opened : (ps : List ProcedureTree) (known : Runnables) (extents : Extents) → AreOpened known extents → AreOpened (known_from runnable known ps) (known_from extent_of extents ps)
 all_opened [] known extents opened = opened
 all_opened (p ∷ ps) known extents opened =
-    all_opened ps (knowing known p) (with_known extents p.name (extent_of extents p)) (one_more_opened known extents opened p)
+    all_opened ps (with_known known p.name (runnable known p)) (with_known extents p.name (extent_of extents p)) (one_more_opened known extents opened p)
 
 export_opens : (before : List ProcedureTree) (p : ProcedureTree) (args : List Arg) → (export_run before p args).bodies ≤ bodies_of (extents_of before) p
 unfolding inside
 export_opens before p args =
-    let known = knowing_all nothing_known before in
+    let known = runnables before in
     let opened = all_opened before nothing_known (λ text. None) (λ name. tt) in
     then_open (bodies_of (extents_of before) p) (inside (body_run known p (holding p.parameters args))) _
     (omega (arith, body_open known (extents_of before) opened p (holding p.parameters args))) (λ r. omega arith)

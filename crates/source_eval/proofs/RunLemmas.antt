@@ -1,7 +1,7 @@
 -- How runs spend a budget, part by part.
 use Rattle.std.proofs.Common.{◌≡◌, ℕ, suc, ◌+◌, ◌-◌, ◌<◌, ◌≤◌, inl, inr, List, [], ◌∷◌, ◌++◌, Option, Some, None, append_assoc, append-nil, refl, sym, subst, arith}
 use Rattle.language.specs.declared.signature.Kind.{Kind}
-use Rattle.language.specs.Evaluation.{Run, given, tick, andthen, later, continued, value, values, passed, turns, array_run, loop_run, return_run, run, run_all, Knowledge}
+use Rattle.language.specs.Evaluation.{Run, given, tick, andthen, later, continued, value, values, passed, turns, array_run, loop_run, return_run, run, run_all, Runnables}
 use Rattle.language.specs.Meaning.{Ending, gives, faults, written}
 use Rattle.language.specs.State.{State, Word}
 use Rattle.source_eval.specs.Metering.{Ended, Stopped}
@@ -217,7 +217,7 @@ bounds_end s low high turn start one two three room a b counts h k = record {
 }
 
 -- statements
-module _ (whole : Run State) (known : Knowledge) (start room : ℕ) where
+module _ (whole : Run State) (known : Runnables) (start room : ℕ) where
   pub block_more : (s t : State) (statement : StatementTree) (rest : BlockTree) (now middle : ℕ) → Leads whole start room (run_all known s (first statement rest)) now (λ u. u) → Ended (run known s statement) now room t middle
       → Leads whole start room (run_all known t rest) middle (λ u. u)
   block_more s t statement rest now middle leads h = record {

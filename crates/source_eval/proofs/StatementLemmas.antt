@@ -1,5 +1,5 @@
 -- How the running of a call, of a loop and of a conditional spends a budget.
-use Rattle.std.proofs.Common.{◌≡◌, ℕ, ◌+◌, ◌-◌, ◌<◌, List, Option, Some, None, Result, map, Vec, Global, inl, inr, refl, sym, ap, ap₂, subst, ◌∙◌, arith}
+use Rattle.std.proofs.Common.{◌≡◌, ℕ, ◌+◌, ◌-◌, ◌<◌, List, [], Option, Some, None, Result, map, Vec, Global, inl, inr, refl, sym, ap, ap₂, subst, ◌∙◌, arith}
 use Rattle.std.proofs.lemmas.Result.{on_ok_weaker}
 use Rattle.std.specs.Option.{option_map}
 use Rattle.std.specs.Result.{OnOk}
@@ -10,14 +10,15 @@ use Rattle.language.specs.declared.tree.Parameter.{Parameter}
 use Rattle.language.specs.declared.tree.Procedure.{Procedure}
 use Rattle.language.specs.declared.tree.Statement.{Statement, If, For}
 use Rattle.language.specs.declared.tree.Counter.{Counter}
-use Rattle.language.specs.Evaluation.{Run, Known, Knowledge, given, inside, passed, value, body_run, branch_run, call_run, called_run, loop_run, export_run, results, turns, run, run_all}
-use Rattle.language.specs.Meaning.{Returned, word_arguments, begun, copied_out, counting, final_arrays, holding}
+use Rattle.language.specs.Evaluation.{Run, Runnable, Runnables, runnable, given, inside, passed, value, body_run, branch_run, call_run, called_run, loop_run, export_run, results, turns, run, run_all}
+use Rattle.language.specs.Meaning.{named, Returned, word_arguments, begun, copied_out, counting, final_arrays, holding}
 use Rattle.language.specs.declared.values.Arg.{Arg}
 use Rattle.language.specs.Results.{Results}
 use Rattle.language.specs.State.{State, Word}
 use Rattle.language.specs.Tree.{CallTree, ExprTree, BlockTree, block_tree, call_tree, expr_tree, parameter_tree, procedure_tree, statement_tree}
 use Rattle.source_eval.specs.Metering.{Ended, Stopped, known_of}
 use Rattle.language.proofs.BlockLemmas.{conditional_tree, loop_tree}
+use Rattle.language.proofs.KnownLemmas.{known-named}
 use Rattle.source_eval.specs.declared.fault.EvalFault.{EvalFault}
 use Rattle.source_eval.specs.declared.fault.EvalFault.TheVariants.{Argument, NoMeaning, Budget, Memory}
 use Rattle.source_eval.proofs.RunLemmas.{Leads, then_ends, then_stops, stops_then, tick_ends, tick_stops, roomy_ends, roomy_stops, passed_open, value_opens, turns_more, turns_stop}
@@ -42,12 +43,12 @@ given_ends : {A : Type 0} (a : A) (left room : ℕ) → Ended (given a) left roo
 given_ends a left room = record { gives_it = refl; spends = omega arith; opens = omega arith }
 
 -- calls
-pub call_none : (o : Option Known) (s : State) (c : CallTree) (before left room : ℕ) → o ≡ None → before ≡ left + 1 → Ended (call_run o s c) before room (record { word = None; state = s }) left
+pub call_none : (o : Option Runnable) (s : State) (c : CallTree) (before left room : ℕ) → o ≡ None → before ≡ left + 1 → Ended (call_run o s c) before room (record { word = None; state = s }) left
 call_none o s c before left room is one =
     subst (λ x. Ended (call_run x s c) before room (record { word = None; state = s }) left) (sym is)
     (tick_ends _ before left room _ left one (given_ends _ left room))
 
-module _ (o : Option Known) (k : Known) (s : State) (c : CallTree) (before left room : ℕ) (is : o ≡ Some k) (one : before ≡ left + 1) where
+module _ (o : Option Runnable) (k : Runnable) (s : State) (c : CallTree) (before left room : ℕ) (is : o ≡ Some k) (one : before ≡ left + 1) where
   stops_so : (fault : EvalFault) → Stopped (called_run (Some k) s c) left room fault → Stopped (call_run o s c) before room fault
   stops_so fault h = subst (λ x. Stopped (call_run x s c) before room fault) (sym is) (tick_stops _ before left room fault one h)
 
@@ -85,7 +86,7 @@ module _ (s : State) (low high : ExprTree) (turn : ℕ → State → Run State) 
       tick_stops _ start one room fault counts (then_stops _ _ one two room a fault (roomy_ends _ one room a two h) (stops_then _ _ two room fault (roomy_stops _ two room fault (value_opens s high) k)))
 
 -- its turns, from states in which the counter was set
-module _ (whole : Run State) (known : Knowledge) (text : List ℕ) (body : BlockTree) (start room : ℕ) where
+module _ (whole : Run State) (known : Runnables) (text : List ℕ) (body : BlockTree) (start room : ℕ) where
   abbrev turn : ℕ → State → Run State
   turn i t = run_all known (counting t text i) body
 
@@ -100,8 +101,8 @@ module _ (whole : Run State) (known : Knowledge) (text : List ℕ) (body : Block
       turns_stop whole turn start room s i n before now fault less leads one (subst (λ u. Stopped (run_all known u body) now room fault) is h)
 
 -- a call, over the lists that the code goes through
-module _ (o : Option Known) (callee : Procedure) (known : Knowledge) (s : State) (c : Call) (ps : List Parameter) (es : List Expr) (before left room : ℕ)
-    (is : o ≡ Some (record { procedure = procedure_tree callee; body = body_run known (procedure_tree callee) })) (one : before ≡ left + 1)
+module _ (earlier front : List Procedure) (callee : Procedure) (s : State) (c : Call) (ps : List Parameter) (es : List Expr) (before left room : ℕ)
+    (found : Some (map procedure_tree front, procedure_tree callee) ≡ named [] (map procedure_tree earlier) c.name.now) (one : before ≡ left + 1)
     (parameters : ps ≡ callee.parameters.items) (arguments : es ≡ c.arguments.items) where
   abbrev words_of : List Parameter → List Expr → List ExprTree
   words_of xs ys = word_arguments (map parameter_tree xs) (map expr_tree ys)
@@ -109,8 +110,17 @@ module _ (o : Option Known) (callee : Procedure) (known : Knowledge) (s : State)
   abbrev same_words : words_of ps es ≡ words_of callee.parameters.items c.arguments.items
   same_words = ap₂ words_of parameters arguments
 
-  abbrev k : Known
-  k = record { procedure = procedure_tree callee; body = body_run known (procedure_tree callee) }
+  abbrev o : Option Runnable
+  o = known_of earlier c.name.now
+
+  abbrev known : Runnables
+  known = known_of front
+
+  abbrev k : Runnable
+  k = runnable known (procedure_tree callee)
+
+  is : o ≡ Some k
+  is = known-named runnable (map procedure_tree earlier) (map procedure_tree front) (procedure_tree callee) c.name.now (sym found)
 
   pub argument_stops : (fault : EvalFault) → Stopped (passed s (words_of ps es)) left 0 fault → Stopped (call_run o s (call_tree c)) before room fault
   argument_stops fault h = call_argument_stops o k s (call_tree c) before left room is one fault (subst (λ ws. Stopped (passed s ws) left 0 fault) same_words h)
@@ -136,14 +146,14 @@ module _ (o : Option Known) (callee : Procedure) (known : Knowledge) (s : State)
           (out ∙ ap₂ (λ xs ys. copied_out s t (map parameter_tree xs) (map expr_tree ys)) parameters arguments)
 
 -- a conditional and a loop of the tree
-pub if_run : (known : Knowledge) (s : State) (statement : Statement) (place : Place) (condition : Expr) (accepted otherwise : Vec Statement Global) (a b : List Statement)
+pub if_run : (known : Runnables) (s : State) (statement : Statement) (place : Place) (condition : Expr) (accepted otherwise : Vec Statement Global) (a b : List Statement)
     → statement ≡ If place condition accepted otherwise → a ≡ accepted.items → b ≡ otherwise.items
     → branch_run s (expr_tree condition) (run_all known s (block_tree a)) (run_all known s (block_tree b)) ≡ run known s (statement_tree statement)
 if_run known s statement place condition accepted otherwise a b is one other =
     ap₂ (λ xs ys. branch_run s (expr_tree condition) (run_all known s (block_tree xs)) (run_all known s (block_tree ys))) one other
     ∙ sym (ap (run known s) (ap statement_tree is ∙ conditional_tree place condition accepted otherwise))
 
-pub for_run : (known : Knowledge) (s : State) (statement : Statement) (place : Place) (counter : Counter) (low high : Expr) (body : Vec Statement Global) (b : List Statement)
+pub for_run : (known : Runnables) (s : State) (statement : Statement) (place : Place) (counter : Counter) (low high : Expr) (body : Vec Statement Global) (b : List Statement)
     → statement ≡ For place counter low high body → b ≡ body.items
     → loop_run s (expr_tree low) (expr_tree high) (λ i t. run_all known (counting t counter.name.now i) (block_tree b)) ≡ run known s (statement_tree statement)
 for_run known s statement place counter low high body b is one =

@@ -9,13 +9,13 @@ use Rattle.source_eval.proofs.RunEnds.{then-either, value-by-operands}
 node-had : (s : State) (e : ExprTree) → EvaluatesAll s (operands e) (values s (operands e)).ends → Evaluates s e (value s e).ends
 node-had s e all =
     subst (Evaluates s e) (sym (value-by-operands s e))
-    (then-either (EvaluatesAll s (operands e)) (Evaluates s e) (values s (operands e)) (λ vs. ended (applied s e vs)) all (λ vs d. by_operands e vs d) (λ place d. operand_faults e place d))
+    (then-either (EvaluatesAll s (operands e)) (Evaluates s e) (values s (operands e)) (λ vs. ended (applied s e vs)) all (λ vs d. by_operands d) (λ place d. operand_faults d))
 
 more-had : (s : State) (e : ExprTree) (es : List ExprTree) → Evaluates s e (value s e).ends → EvaluatesAll s es (values s es).ends → EvaluatesAll s (e ∷ es) (values s (e ∷ es)).ends
 more-had s e es this later =
     then-either (Evaluates s e) (EvaluatesAll s (e ∷ es)) (value s e) _ this
-    (λ v d. then-either (EvaluatesAll s es) (EvaluatesAll s (e ∷ es)) (values s es) _ later (λ vs ds. one_more e es v vs d ds) (λ place ds. later_faults e es v place d ds))
-    (λ place d. this_faults e es place d)
+    (λ v d. then-either (EvaluatesAll s es) (EvaluatesAll s (e ∷ es)) (values s es) _ later (λ vs ds. one_more d ds) (λ place ds. later_faults d ds))
+    (λ place d. this_faults d)
 
 pub value-had : (s : State) (e : ExprTree) → Evaluates s e (value s e).ends
 value-had s (number place v kind) = node-had s (number place v kind) none_left
@@ -37,5 +37,5 @@ unfolding tick
 passed-had s [] = none_left
 passed-had s (e ∷ es) =
     then-either (Evaluates s e) (EvaluatesAll s (e ∷ es)) (value s e) _ (value-had s e)
-    (λ v d. then-either (EvaluatesAll s es) (EvaluatesAll s (e ∷ es)) (passed s es) _ (passed-had s es) (λ vs ds. one_more e es v vs d ds) (λ place ds. later_faults e es v place d ds))
-    (λ place d. this_faults e es place d)
+    (λ v d. then-either (EvaluatesAll s es) (EvaluatesAll s (e ∷ es)) (passed s es) _ (passed-had s es) (λ vs ds. one_more d ds) (λ place ds. later_faults d ds))
+    (λ place d. this_faults d)

@@ -2,46 +2,46 @@
 use Rattle.std.proofs.Common.{◌≡◌, ℕ, ◌+◌, ◌-◌, suc, ◌<◌, ◌≤◌, if◌then◌else◌, List, [], ◌∷◌, Some, refl, sym, ap, ◌∙◌, arith}
 use Rattle.word.specs.declared.place.Place.{Place}
 use Rattle.language.specs.declared.values.Arg.{Arg}
-use Rattle.language.specs.Evaluation.{Run, ended, tick, inside, andthen, value, values, passed, call_run, right_run, turns, run, run_all, return_run, body_run, found_run, program_run}
+use Rattle.language.specs.Evaluation.{Run, ended, tick, inside, andthen, value, values, passed, call_run, right_run, turns, run, run_all, return_run, body_run, found_run, program_run, runnable, runnables}
 use Rattle.language.specs.Meaning.{Ending, gives, faults, operands, applied, named, element_held, Evaluates, by_operands, operand_faults, EvaluatesAll, none_left, one_more, this_faults, later_faults, Returned, word_arguments, begun, holding, written, counting, Calls, argument_faults, body_faults, body_ends, Bodies, statements_fault, returns_nothing, returns, return_faults, Rights, of_call, of_expr, expr_faults, Runs, declares, declaration_faults, declares_array, first_value_faults, assigns, assignment_faults, target_faults, right_faults, assigns_element, calls, call_faults, condition_faults, accepts, declines, bounds_fault, loops, Turns, no_turn, turn_faults, a_turn, RunsAll, ends, stops, goes_on, Gives, ends_well, meets_fault}
 use Rattle.language.specs.Results.{Results}
 use Rattle.language.specs.State.{State, Word}
 use Rattle.language.specs.Tree.{ExprTree, element, CallTree, RightTree, called, computed, StatementTree, declaration, array, assignment, element_assignment, call, conditional, loop, BlockTree, nothing, first, ProcedureTree, ProgramTree}
-use Rattle.source_eval.proofs.KnownProcedures.{known_of, known_after, known-named}
+use Rattle.language.proofs.KnownLemmas.{known-named}
 use Rattle.source_eval.proofs.RunEnds.{then-gives, then-faults, first-faults, first-gives, value-by-operands}
 
 mutual
   pub value-worked : (s : State) (e : ExprTree) (ending : Ending Word) → Evaluates s e ending → (value s e).ends ≡ ending
-  value-worked s e ending (by_operands e1 vs d) = value-by-operands s e ∙ then-gives (values s (operands e)) (λ ws. ended (applied s e ws)) vs (values-worked s (operands e) (gives vs) d)
-  value-worked s e ending (operand_faults e1 place d) = value-by-operands s e ∙ then-faults (values s (operands e)) (λ ws. ended (applied s e ws)) place (values-worked s (operands e) (faults place) d)
+  value-worked s e ending (by_operands {vs = vs} d) = value-by-operands s e ∙ then-gives (values s (operands e)) (λ ws. ended (applied s e ws)) vs (values-worked s (operands e) (gives vs) d)
+  value-worked s e ending (operand_faults {place = place} d) = value-by-operands s e ∙ then-faults (values s (operands e)) (λ ws. ended (applied s e ws)) place (values-worked s (operands e) (faults place) d)
 
   values-worked : (s : State) (es : List ExprTree) (ending : Ending (List Word)) → EvaluatesAll s es ending → (values s es).ends ≡ ending
   values-worked s [] ending none_left = refl
-  values-worked s (e ∷ es) ending (one_more e1 es1 v vs d ds) =
+  values-worked s (e ∷ es) ending (one_more {v = v} {vs = vs} d ds) =
       then-gives (value s e) _ v (value-worked s e (gives v) d) ∙ then-gives (values s es) _ vs (values-worked s es (gives vs) ds)
-  values-worked s (e ∷ es) ending (this_faults e1 es1 place d) = then-faults (value s e) _ place (value-worked s e (faults place) d)
-  values-worked s (e ∷ es) ending (later_faults e1 es1 v place d ds) =
+  values-worked s (e ∷ es) ending (this_faults {place = place} d) = then-faults (value s e) _ place (value-worked s e (faults place) d)
+  values-worked s (e ∷ es) ending (later_faults {v = v} {place = place} d ds) =
       then-gives (value s e) _ v (value-worked s e (gives v) d) ∙ then-faults (values s es) _ place (values-worked s es (faults place) ds)
 
 pub passed-worked : (s : State) (es : List ExprTree) (ending : Ending (List Word)) → EvaluatesAll s es ending → (passed s es).ends ≡ ending
 unfolding tick
 passed-worked s [] ending none_left = refl
-passed-worked s (e ∷ es) ending (one_more e1 es1 v vs d ds) =
+passed-worked s (e ∷ es) ending (one_more {v = v} {vs = vs} d ds) =
     then-gives (value s e) _ v (value-worked s e (gives v) d) ∙ then-gives (passed s es) _ vs (passed-worked s es (gives vs) ds)
-passed-worked s (e ∷ es) ending (this_faults e1 es1 place d) = then-faults (value s e) _ place (value-worked s e (faults place) d)
-passed-worked s (e ∷ es) ending (later_faults e1 es1 v place d ds) =
+passed-worked s (e ∷ es) ending (this_faults {place = place} d) = then-faults (value s e) _ place (value-worked s e (faults place) d)
+passed-worked s (e ∷ es) ending (later_faults {v = v} {place = place} d ds) =
     then-gives (value s e) _ v (value-worked s e (gives v) d) ∙ then-faults (passed s es) _ place (passed-worked s es (faults place) ds)
 
 -- The bounds of a loop, and its turns.
 
 bounds-fault : {A : Type 0} (s : State) (low high : ExprTree) (next : Word → Word → Run A) (at : Place) → EvaluatesAll s (low ∷ high ∷ []) (faults at) → (andthen (value s low) (λ a. andthen (value s high) (next a))).ends ≡ faults at
-bounds-fault s low high next at (this_faults e1 es1 place d) = then-faults (value s low) _ at (value-worked s low (faults at) d)
-bounds-fault s low high next at (later_faults e1 es1 v place d (this_faults e2 es2 q f)) =
+bounds-fault s low high next at (this_faults d) = then-faults (value s low) _ at (value-worked s low (faults at) d)
+bounds-fault s low high next at (later_faults {v = v} d (this_faults f)) =
     then-gives (value s low) _ v (value-worked s low (gives v) d) ∙ then-faults (value s high) _ at (value-worked s high (faults at) f)
-bounds-fault s low high next at (later_faults e1 es1 v place d (later_faults e2 es2 w q f g)) = elim g [ ]
+bounds-fault s low high next at (later_faults d (later_faults f g)) = elim g [ ]
 
 bounds-give : {A : Type 0} (s : State) (low high : ExprTree) (next : Word → Word → Run A) (a b : Word) → EvaluatesAll s (low ∷ high ∷ []) (gives (a ∷ b ∷ [])) → (andthen (value s low) (λ v. andthen (value s high) (next v))).ends ≡ (next a b).ends
-bounds-give s low high next a b (one_more e1 es1 v vs d (one_more e2 es2 w ws f g)) =
+bounds-give s low high next a b (one_more d (one_more f g)) =
     then-gives (value s low) _ a (value-worked s low (gives a) d) ∙ then-gives (value s high) _ b (value-worked s high (gives b) f)
 
 no-more-turns : (turn : ℕ → State → Run State) (s : State) (i n : ℕ) → n ≤ i → (turns (n - i) i turn s).ends ≡ gives s
@@ -53,94 +53,94 @@ one-turn turn s i n low = let more : n - i ≡ suc (n - (i + 1)) = omega (arith,
 
 -- Calls, bodies and statements.
 
-call-known : (ps before : List ProcedureTree) (p : ProcedureTree) (s : State) (c : CallTree) → named [] ps c.name ≡ Some (before, p) → (call_run (known_of ps c.name) s c).ends ≡ (call_run (Some (known_after before p)) s c).ends
-call-known ps before p s c is = ap (λ o. (call_run o s c).ends) (known-named ps before p c.name is)
+call-known : (ps before : List ProcedureTree) (p : ProcedureTree) (s : State) (c : CallTree) → named [] ps c.name ≡ Some (before, p) → (call_run (runnables ps c.name) s c).ends ≡ (call_run (Some (runnable (runnables before) p)) s c).ends
+call-known ps before p s c is = ap (λ o. (call_run o s c).ends) (known-named runnable ps before p c.name is)
 
 mutual
   unfolding tick inside
 
-  call-worked : (ps : List ProcedureTree) (s : State) (c : CallTree) (ending : Ending Returned) → Calls ps s c ending → (call_run (known_of ps c.name) s c).ends ≡ ending
-  call-worked ps s c ending (argument_faults ps1 before p s1 c1 place is d) =
+  call-worked : (ps : List ProcedureTree) (s : State) (c : CallTree) (ending : Ending Returned) → Calls ps s c ending → (call_run (runnables ps c.name) s c).ends ≡ ending
+  call-worked ps s c ending (argument_faults {before = before} {p = p} {place = place} is d) =
       call-known ps before p s c is ∙ then-faults (passed s (word_arguments p.parameters c.arguments)) _ place (passed-worked s (word_arguments p.parameters c.arguments) (faults place) d)
-  call-worked ps s c ending (body_faults ps1 before p s1 c1 vs place is d body) =
+  call-worked ps s c ending (body_faults {before = before} {p = p} {vs = vs} {place = place} is d body) =
       call-known ps before p s c is
       ∙ (then-gives (passed s (word_arguments p.parameters c.arguments)) _ vs (passed-worked s (word_arguments p.parameters c.arguments) (gives vs) d)
-      ∙ then-faults (inside (body_run (known_of before) p (begun s p.parameters c.arguments vs))) _ place (body-worked before p (begun s p.parameters c.arguments vs) (faults place) body))
-  call-worked ps s c ending (body_ends ps1 before p s1 t c1 vs w is d body) =
+      ∙ then-faults (inside (body_run (runnables before) p (begun s p.parameters c.arguments vs))) _ place (body-worked before p (begun s p.parameters c.arguments vs) (faults place) body))
+  call-worked ps s c ending (body_ends {before = before} {p = p} {t = t} {vs = vs} {w = w} is d body) =
       let r : Returned = record { word = w; state = t } in
       call-known ps before p s c is
       ∙ (then-gives (passed s (word_arguments p.parameters c.arguments)) _ vs (passed-worked s (word_arguments p.parameters c.arguments) (gives vs) d)
-      ∙ then-gives (inside (body_run (known_of before) p (begun s p.parameters c.arguments vs))) _ r (body-worked before p (begun s p.parameters c.arguments vs) (gives r) body))
+      ∙ then-gives (inside (body_run (runnables before) p (begun s p.parameters c.arguments vs))) _ r (body-worked before p (begun s p.parameters c.arguments vs) (gives r) body))
 
-  body-worked : (ps : List ProcedureTree) (p : ProcedureTree) (s : State) (ending : Ending Returned) → Bodies ps p s ending → (body_run (known_of ps) p s).ends ≡ ending
-  body-worked ps p s ending (statements_fault ps1 p1 s1 place d) = then-faults (run_all (known_of ps) s p.body) _ place (block-worked ps s p.body (faults place) d)
-  body-worked ps p s ending (returns_nothing ps1 p1 s1 t d is) =
-      then-gives (run_all (known_of ps) s p.body) _ t (block-worked ps s p.body (gives t) d) ∙ ap (λ o. (return_run t o).ends) is
-  body-worked ps p s ending (returns ps1 p1 s1 t r w d is v) =
-      then-gives (run_all (known_of ps) s p.body) _ t (block-worked ps s p.body (gives t) d)
+  body-worked : (ps : List ProcedureTree) (p : ProcedureTree) (s : State) (ending : Ending Returned) → Bodies ps p s ending → (body_run (runnables ps) p s).ends ≡ ending
+  body-worked ps p s ending (statements_fault {place = place} d) = then-faults (run_all (runnables ps) s p.body) _ place (block-worked ps s p.body (faults place) d)
+  body-worked ps p s ending (returns_nothing {t = t} d is) =
+      then-gives (run_all (runnables ps) s p.body) _ t (block-worked ps s p.body (gives t) d) ∙ ap (λ o. (return_run t o).ends) is
+  body-worked ps p s ending (returns {t = t} {r = r} {w = w} d is v) =
+      then-gives (run_all (runnables ps) s p.body) _ t (block-worked ps s p.body (gives t) d)
       ∙ (ap (λ o. (return_run t o).ends) is ∙ then-gives (value t r.value) _ w (value-worked t r.value (gives w) v))
-  body-worked ps p s ending (return_faults ps1 p1 s1 t r place d is v) =
-      then-gives (run_all (known_of ps) s p.body) _ t (block-worked ps s p.body (gives t) d)
+  body-worked ps p s ending (return_faults {t = t} {r = r} {place = place} d is v) =
+      then-gives (run_all (runnables ps) s p.body) _ t (block-worked ps s p.body (gives t) d)
       ∙ (ap (λ o. (return_run t o).ends) is ∙ then-faults (value t r.value) _ place (value-worked t r.value (faults place) v))
 
-  right-worked : (ps : List ProcedureTree) (s : State) (right : RightTree) (ending : Ending Returned) → Rights ps s right ending → (right_run (known_of ps) s right).ends ≡ ending
-  right-worked ps s (called c) ending (of_call ps1 s1 c1 e1 d) = call-worked ps s c ending d
-  right-worked ps s (computed e) ending (of_expr ps1 s1 e1 v d) = then-gives (value s e) _ v (value-worked s e (gives v) d)
-  right-worked ps s (computed e) ending (expr_faults ps1 s1 e1 place d) = then-faults (value s e) _ place (value-worked s e (faults place) d)
+  right-worked : (ps : List ProcedureTree) (s : State) (right : RightTree) (ending : Ending Returned) → Rights ps s right ending → (right_run (runnables ps) s right).ends ≡ ending
+  right-worked ps s (called c) ending (of_call d) = call-worked ps s c ending d
+  right-worked ps s (computed e) ending (of_expr {v = v} d) = then-gives (value s e) _ v (value-worked s e (gives v) d)
+  right-worked ps s (computed e) ending (expr_faults {place = place} d) = then-faults (value s e) _ place (value-worked s e (faults place) d)
 
-  pub statement-worked : (ps : List ProcedureTree) (s : State) (statement : StatementTree) (ending : Ending State) → Runs ps s statement ending → (run (known_of ps) s statement).ends ≡ ending
-  statement-worked ps s (declaration place label mutable kind text right) ending (declares a1 a2 a3 a4 a5 a6 a7 a8 r d) = then-gives (right_run (known_of ps) s right) _ r (right-worked ps s right (gives r) d)
-  statement-worked ps s (declaration place label mutable kind text right) ending (declaration_faults a1 a2 a3 at a5 a6 a7 a8 a9 d) = then-faults (right_run (known_of ps) s right) _ at (right-worked ps s right (faults at) d)
-  statement-worked ps s (array place label mutable kind size text initial) ending (declares_array a1 a2 a3 a4 a5 a6 a7 a8 a9 vs d) = then-gives (values s (written initial)) _ vs (values-worked s (written initial) (gives vs) d)
-  statement-worked ps s (array place label mutable kind size text initial) ending (first_value_faults a1 a2 a3 at a5 a6 a7 a8 a9 a10 d) = then-faults (values s (written initial)) _ at (values-worked s (written initial) (faults at) d)
-  statement-worked ps s (assignment place target text right) ending (assigns a1 a2 a3 a4 a5 a6 r d) = then-gives (right_run (known_of ps) s right) _ r (right-worked ps s right (gives r) d)
-  statement-worked ps s (assignment place target text right) ending (assignment_faults a1 a2 a3 a4 at a6 a7 d) = then-faults (right_run (known_of ps) s right) _ at (right-worked ps s right (faults at) d)
-  statement-worked ps s (element_assignment place bracket target text index right) ending (target_faults a1 a2 a3 a4 a5 at a7 a8 a9 d) =
+  pub statement-worked : (ps : List ProcedureTree) (s : State) (statement : StatementTree) (ending : Ending State) → Runs ps s statement ending → (run (runnables ps) s statement).ends ≡ ending
+  statement-worked ps s (declaration place label mutable kind text right) ending (declares {r = r} d) = then-gives (right_run (runnables ps) s right) _ r (right-worked ps s right (gives r) d)
+  statement-worked ps s (declaration place label mutable kind text right) ending (declaration_faults {at = at} d) = then-faults (right_run (runnables ps) s right) _ at (right-worked ps s right (faults at) d)
+  statement-worked ps s (array place label mutable kind size text initial) ending (declares_array {vs = vs} d) = then-gives (values s (written initial)) _ vs (values-worked s (written initial) (gives vs) d)
+  statement-worked ps s (array place label mutable kind size text initial) ending (first_value_faults {at = at} d) = then-faults (values s (written initial)) _ at (values-worked s (written initial) (faults at) d)
+  statement-worked ps s (assignment place target text right) ending (assigns {r = r} d) = then-gives (right_run (runnables ps) s right) _ r (right-worked ps s right (gives r) d)
+  statement-worked ps s (assignment place target text right) ending (assignment_faults {at = at} d) = then-faults (right_run (runnables ps) s right) _ at (right-worked ps s right (faults at) d)
+  statement-worked ps s (element_assignment place bracket target text index right) ending (target_faults {at = at} d) =
       first-faults (value s index) (λ i. ended (element_held bracket (s text) i.value)) _ at (value-worked s (element bracket target text index) (faults at) d)
-  statement-worked ps s (element_assignment place bracket target text index right) ending (right_faults a1 a2 a3 a4 a5 at a7 a8 a9 old d f) =
+  statement-worked ps s (element_assignment place bracket target text index right) ending (right_faults {at = at} {old = old} d f) =
       first-gives (value s index) (λ i. ended (element_held bracket (s text) i.value)) _ old ending (value-worked s (element bracket target text index) (gives old) d)
-      (λ i. then-faults (right_run (known_of ps) s right) _ at (right-worked ps s right (faults at) f))
-  statement-worked ps s (element_assignment place bracket target text index right) ending (assigns_element a1 a2 a3 a4 a5 a6 a7 a8 old i r d e f) =
+      (λ i. then-faults (right_run (runnables ps) s right) _ at (right-worked ps s right (faults at) f))
+  statement-worked ps s (element_assignment place bracket target text index right) ending (assigns_element {old = old} {i = i} {r = r} d e f) =
       let at_index = value-worked s index (gives i) e in
       then-gives (value s index) _ i at_index
       ∙ (then-gives (ended (element_held bracket (s text) i.value)) _ old
       (sym (then-gives (value s index) (λ j. ended (element_held bracket (s text) j.value)) i at_index) ∙ value-worked s (element bracket target text index) (gives old) d)
-      ∙ then-gives (right_run (known_of ps) s right) _ r (right-worked ps s right (gives r) f))
-  statement-worked ps s (call c) ending (calls a1 a2 a3 r d) = then-gives (call_run (known_of ps c.name) s c) _ r (call-worked ps s c (gives r) d)
-  statement-worked ps s (call c) ending (call_faults a1 a2 a3 at d) = then-faults (call_run (known_of ps c.name) s c) _ at (call-worked ps s c (faults at) d)
-  statement-worked ps s (conditional place condition accepted otherwise) ending (condition_faults a1 a2 a3 at a5 a6 a7 d) = then-faults (value s condition) _ at (value-worked s condition (faults at) d)
-  statement-worked ps s (conditional place condition accepted otherwise) ending (accepts a1 a2 a3 a4 a5 a6 c e1 d holds f) =
+      ∙ then-gives (right_run (runnables ps) s right) _ r (right-worked ps s right (gives r) f))
+  statement-worked ps s (call c) ending (calls {r = r} d) = then-gives (call_run (runnables ps c.name) s c) _ r (call-worked ps s c (gives r) d)
+  statement-worked ps s (call c) ending (call_faults {at = at} d) = then-faults (call_run (runnables ps c.name) s c) _ at (call-worked ps s c (faults at) d)
+  statement-worked ps s (conditional place condition accepted otherwise) ending (condition_faults {at = at} d) = then-faults (value s condition) _ at (value-worked s condition (faults at) d)
+  statement-worked ps s (conditional place condition accepted otherwise) ending (accepts {c = c} d holds f) =
       then-gives (value s condition) _ c (value-worked s condition (gives c) d)
-      ∙ (ap (λ b. (if b then run_all (known_of ps) s accepted else run_all (known_of ps) s otherwise).ends) holds ∙ block-worked ps s accepted ending f)
-  statement-worked ps s (conditional place condition accepted otherwise) ending (declines a1 a2 a3 a4 a5 a6 c e1 d fails f) =
+      ∙ (ap (λ b. (if b then run_all (runnables ps) s accepted else run_all (runnables ps) s otherwise).ends) holds ∙ block-worked ps s accepted ending f)
+  statement-worked ps s (conditional place condition accepted otherwise) ending (declines {c = c} d fails f) =
       then-gives (value s condition) _ c (value-worked s condition (gives c) d)
-      ∙ (ap (λ b. (if b then run_all (known_of ps) s accepted else run_all (known_of ps) s otherwise).ends) fails ∙ block-worked ps s otherwise ending f)
-  statement-worked ps s (loop place counter text low high body) ending (bounds_fault a1 a2 a3 a4 at a6 a7 a8 a9 d) = bounds-fault s low high _ at d
-  statement-worked ps s (loop place counter text low high body) ending (loops a1 a2 a3 a4 a5 a6 a7 a8 a b e1 d f) = bounds-give s low high _ a b d ∙ turns-worked ps s text body a.value b.value ending f
+      ∙ (ap (λ b. (if b then run_all (runnables ps) s accepted else run_all (runnables ps) s otherwise).ends) fails ∙ block-worked ps s otherwise ending f)
+  statement-worked ps s (loop place counter text low high body) ending (bounds_fault {at = at} d) = bounds-fault s low high _ at d
+  statement-worked ps s (loop place counter text low high body) ending (loops {a = a} {b = b} d f) = bounds-give s low high _ a b d ∙ turns-worked ps s text body a.value b.value ending f
 
   turns-worked : (ps : List ProcedureTree) (s : State) (text : List ℕ) (body : BlockTree) (i n : ℕ) (ending : Ending State) → Turns ps s text body i n ending
-      → (turns (n - i) i (λ k t. run_all (known_of ps) (counting t text k) body) s).ends ≡ ending
-  turns-worked ps s text body i n ending (no_turn a1 a2 a3 a4 a5 a6 past) = no-more-turns (λ j t. run_all (known_of ps) (counting t text j) body) s i n past
-  turns-worked ps s text body i n ending (turn_faults a1 a2 a3 a4 a5 a6 at low d) =
-      one-turn (λ k t. run_all (known_of ps) (counting t text k) body) s i n low
-      ∙ then-faults (run_all (known_of ps) (counting s text i) body) _ at (block-worked ps (counting s text i) body (faults at) d)
-  turns-worked ps s text body i n ending (a_turn a1 a2 t a4 a5 a6 a7 e1 low d more) =
-      one-turn (λ k t. run_all (known_of ps) (counting t text k) body) s i n low
-      ∙ (then-gives (run_all (known_of ps) (counting s text i) body) _ t (block-worked ps (counting s text i) body (gives t) d)
+      → (turns (n - i) i (λ k t. run_all (runnables ps) (counting t text k) body) s).ends ≡ ending
+  turns-worked ps s text body i n ending (no_turn past) = no-more-turns (λ j t. run_all (runnables ps) (counting t text j) body) s i n past
+  turns-worked ps s text body i n ending (turn_faults {at = at} low d) =
+      one-turn (λ k t. run_all (runnables ps) (counting t text k) body) s i n low
+      ∙ then-faults (run_all (runnables ps) (counting s text i) body) _ at (block-worked ps (counting s text i) body (faults at) d)
+  turns-worked ps s text body i n ending (a_turn {t = t} low d more) =
+      one-turn (λ k t. run_all (runnables ps) (counting t text k) body) s i n low
+      ∙ (then-gives (run_all (runnables ps) (counting s text i) body) _ t (block-worked ps (counting s text i) body (gives t) d)
       ∙ turns-worked ps t text body (i + 1) n ending more)
 
-  pub block-worked : (ps : List ProcedureTree) (s : State) (block : BlockTree) (ending : Ending State) → RunsAll ps s block ending → (run_all (known_of ps) s block).ends ≡ ending
-  block-worked ps s nothing ending (ends a1 a2) = refl
-  block-worked ps s (first statement rest) ending (stops a1 a2 a3 a4 at d) = then-faults (run (known_of ps) s statement) _ at (statement-worked ps s statement (faults at) d)
-  block-worked ps s (first statement rest) ending (goes_on a1 a2 t a4 a5 e1 d more) =
-      then-gives (run (known_of ps) s statement) _ t (statement-worked ps s statement (gives t) d) ∙ block-worked ps t rest ending more
+  pub block-worked : (ps : List ProcedureTree) (s : State) (block : BlockTree) (ending : Ending State) → RunsAll ps s block ending → (run_all (runnables ps) s block).ends ≡ ending
+  block-worked ps s nothing ending ends = refl
+  block-worked ps s (first statement rest) ending (stops {at = at} d) = then-faults (run (runnables ps) s statement) _ at (statement-worked ps s statement (faults at) d)
+  block-worked ps s (first statement rest) ending (goes_on {t = t} d more) =
+      then-gives (run (runnables ps) s statement) _ t (statement-worked ps s statement (gives t) d) ∙ block-worked ps t rest ending more
 
 pub worked-out : (program : ProgramTree) (args : List Arg) (ending : Ending Results) → Gives program args ending → (program_run program args).ends ≡ ending
 unfolding inside
-worked-out program args ending (ends_well before p w t is d) =
+worked-out program args ending (ends_well {before = before} {p = p} {w = w} {t = t} is d) =
     let r : Returned = record { word = w; state = t } in
     ap (λ o. (found_run o args).ends) is
-    ∙ then-gives (inside (body_run (known_of before) p (holding p.parameters args))) _ r (body-worked before p (holding p.parameters args) (gives r) d)
-worked-out program args ending (meets_fault before p at is d) =
+    ∙ then-gives (inside (body_run (runnables before) p (holding p.parameters args))) _ r (body-worked before p (holding p.parameters args) (gives r) d)
+worked-out program args ending (meets_fault {before = before} {p = p} {at = at} is d) =
     ap (λ o. (found_run o args).ends) is
-    ∙ then-faults (inside (body_run (known_of before) p (holding p.parameters args))) _ at (body-worked before p (holding p.parameters args) (faults at) d)
+    ∙ then-faults (inside (body_run (runnables before) p (holding p.parameters args))) _ at (body-worked before p (holding p.parameters args) (faults at) d)

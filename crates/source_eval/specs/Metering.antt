@@ -1,7 +1,7 @@
 -- How the running of a part spends a budget. The contracts of private functions cite it, and no public one does.
 use Rattle.std.specs.Prelude.{◌≡◌, ℕ, ◌+◌, ◌<◌, ◌≤◌, ◌⊎◌, List, Option, map}
 use Rattle.std.specs.Option.{option_map}
-use Rattle.language.specs.Evaluation.{Run, Knowledge, knowing_all, nothing_known}
+use Rattle.language.specs.Evaluation.{Run, Runnables, runnables}
 use Rattle.language.specs.Meaning.{Ending, gives, faults, Returned}
 use Rattle.language.specs.State.{State}
 use Rattle.language.specs.Tree.{procedure_tree}
@@ -30,8 +30,8 @@ IsFault (gives a) fault = ⊥
 IsFault (faults place) fault = fault ≡ NoMeaning place
 
 -- what may be called after these procedures
-abbrev pub known_of : List Procedure → Knowledge
-known_of procedures = knowing_all nothing_known (map procedure_tree procedures)
+abbrev pub known_of : List Procedure → Runnables
+known_of procedures = runnables (map procedure_tree procedures)
 
 -- a word where there is one, and the state after it
 abbrev pub returned : Option Word → State → Returned

@@ -1,7 +1,7 @@
 // Statements, calls and bodies. Each evaluates its nodes in the order of the text; `left` is how many more may be
 // evaluated, `room` how many more bodies may be opened, `earlier` the procedures that may be called.
 
-ghost use Rattle.std.specs.Prelude.{◌≡◌, ◌≤◌, ◌<◌, map, Some, None, MatchOption, OnOk, IfOk, IfErr};
+ghost use Rattle.std.specs.Prelude.{◌≡◌, ◌≤◌, ◌<◌, map, Some, None, OnOk, IfOk, IfErr};
 ghost use Rattle.std.specs.Option.{option_map};
 ghost use Rattle.language.specs.Evaluation.{array_run, body_run, branch_run, call_run, element_run, loop_run, return_run, right_run, run, run_all, set_run};
 ghost use Rattle.language.specs.Meaning.{counting, made_array, word_given};
@@ -19,7 +19,7 @@ use crate::values::{Value, Word};
 use crate::variables::Variables;
 use language::{
     ArrayDeclaration, Call, Counter, ElementAssignment, Expr, Kind, Procedure, Return, RightSide,
-    Statement,
+    Statement, procedure_named,
 };
 use std::alloc::Global;
 
@@ -56,21 +56,6 @@ fn declare_array<'a>(
     variables.set(declaration.name, array)
 }
 
-/// The first procedure of this name, and those before it.
-fn find<'p, 'a>(
-    procedures: &'p [Procedure<'a>],
-    name: &str,
-) -> Option<(&'p [Procedure<'a>], &'p Procedure<'a>)>
-    ensures { MatchOption result (known_of procedures.now name.now ≡ None) (λ found. known_of procedures.now name.now ≡ Some (record { procedure = procedure_tree found.1.now; body = body_run (known_of found.0.now) (procedure_tree found.1.now) })) }
-{
-    for (index, procedure) in procedures.iter().enumerate() {
-        if procedure.name == name {
-            return Some((&procedures[..index], procedure));
-        }
-    }
-    None
-}
-
 /// A call.
 #[cycle(statement)]
 fn call<'a>(
@@ -85,7 +70,7 @@ fn call<'a>(
     ensures err { IfErr result (λ fault. Stopped (call_run (known_of earlier.now call.now.name.now) (held variables.old) (call_tree call.now)) left.old room fault) }
 {
     spend(left)?;
-    let Some((before, callee)) = find(earlier, call.name) else {
+    let Some((before, callee)) = procedure_named(earlier, call.name) else {
         return Ok(None);
     };
     let parameters = callee.parameters.as_slice();

@@ -1,9 +1,10 @@
-use Rattle.std.proofs.Common.{ℕ, map, arith, ap, ◌∙◌}
+use Rattle.std.proofs.Common.{ℕ, map, arith, sym, ap, ◌∙◌}
 use Rattle.std.proofs.lemmas.Result.{IfErr-weaker}
-use Rattle.language.specs.Evaluation.{run_all}
+use Rattle.language.specs.Evaluation.{run_all, runnable}
 use Rattle.language.specs.State.{State}
 use Rattle.language.specs.Meaning.{begun, counting}
-use Rattle.language.specs.Tree.{block_tree, expr_tree, parameter_tree}
+use Rattle.language.specs.Tree.{block_tree, call_tree, expr_tree, parameter_tree, procedure_tree}
+use Rattle.language.proofs.KnownLemmas.{known-none}
 use Rattle.source_eval.specs.Metering.{known_of}
 use Rattle.source_eval.specs.Views.{held, word_of}
 use Rattle.source_eval.proofs.LoopLemmas.{all_statements, each_statement, passes, statement_halts}
@@ -36,15 +37,15 @@ call-returns-in_err-spend-clause-err t c =
 
 pub call-returns-in_default-clause-ok : goal.call-returns-in_default-clause-ok
 call-returns-in_default-clause-ok t c =
-    call_none _ _ _ _ _ _ c.in_default.ensures c.in_ok-spend.ensures.ok
+    call_none _ _ (call_tree c.args.call.now) _ _ _ (known-none runnable (map procedure_tree c.args.earlier.now) c.args.call.now.name.now (sym c.in_default.ensures)) c.in_ok-spend.ensures.ok
 
 pub call-returns-in_err-words-clause-err : goal.call-returns-in_err-words-clause-err
 call-returns-in_err-words-clause-err t c =
-    passes _ _ _ c.from_residual-in_err-words.ensures.1 (argument_stops _ c.in-Some.callee.now (known_of c.in-Some.before.now) (held c.args.variables.now) c.args.call.now c.as_slice-parameters.result.now c.as_slice-arguments.result.now _ _ c.args.room c.in-Some.ensures c.in_ok-spend.ensures.ok c.as_slice-parameters.ensures.value c.as_slice-arguments.ensures.value _ c.in_err-words.ensures.err)
+    passes _ _ _ c.from_residual-in_err-words.ensures.1 (argument_stops c.args.earlier.now c.in-Some.before.now c.in-Some.callee.now (held c.args.variables.now) c.args.call.now c.as_slice-parameters.result.now c.as_slice-arguments.result.now _ _ c.args.room c.in-Some.ensures c.in_ok-spend.ensures.ok c.as_slice-parameters.ensures.value c.as_slice-arguments.ensures.value _ c.in_err-words.ensures.err)
 
 pub call-returns-in_default-checked_sub-clause-err : goal.call-returns-in_default-checked_sub-clause-err
 call-returns-in_default-checked_sub-clause-err t c =
-    room_lacks _ c.in-Some.callee.now (known_of c.in-Some.before.now) (held c.args.variables.now) c.args.call.now c.as_slice-parameters.result.now c.as_slice-arguments.result.now _ _ c.args.room c.in-Some.ensures c.in_ok-spend.ensures.ok c.as_slice-parameters.ensures.value c.as_slice-arguments.ensures.value (map word_of c.in_ok-words.words.items) _ c.in_ok-words.ensures.ok (omega (arith, c.in_default-checked_sub.ensures))
+    room_lacks c.args.earlier.now c.in-Some.before.now c.in-Some.callee.now (held c.args.variables.now) c.args.call.now c.as_slice-parameters.result.now c.as_slice-arguments.result.now _ _ c.args.room c.in-Some.ensures c.in_ok-spend.ensures.ok c.as_slice-parameters.ensures.value c.as_slice-arguments.ensures.value (map word_of c.in_ok-words.words.items) _ c.in_ok-words.ensures.ok (omega (arith, c.in_default-checked_sub.ensures))
 
 pub call-returns-in_err-inner-clause-err : goal.call-returns-in_err-inner-clause-err
 call-returns-in_err-inner-clause-err t c =
@@ -53,7 +54,7 @@ call-returns-in_err-inner-clause-err t c =
 pub call-returns-in_err-word-clause-err : goal.call-returns-in_err-word-clause-err
 call-returns-in_err-word-clause-err t c =
     let begins = c.in_ok-inner.ensures.ok ∙ ap (λ ws. begun (held c.args.variables.now) (map parameter_tree c.as_slice-parameters.result.now) (map expr_tree c.as_slice-arguments.result.now) (map word_of ws)) c.as_slice.ensures.value in
-    passes _ _ _ c.from_residual-in_err-word.ensures.1 (body_stops _ c.in-Some.callee.now (known_of c.in-Some.before.now) (held c.args.variables.now) c.args.call.now c.as_slice-parameters.result.now c.as_slice-arguments.result.now _ _ c.args.room c.in-Some.ensures c.in_ok-spend.ensures.ok c.as_slice-parameters.ensures.value c.as_slice-arguments.ensures.value (map word_of c.in_ok-words.words.items) _ c.in_ok-words.ensures.ok c.in-Some-checked_sub.room _ (omega (arith, c.in-Some-checked_sub.ensures)) begins _ c.in_err-word.ensures.err)
+    passes _ _ _ c.from_residual-in_err-word.ensures.1 (body_stops c.args.earlier.now c.in-Some.before.now c.in-Some.callee.now (held c.args.variables.now) c.args.call.now c.as_slice-parameters.result.now c.as_slice-arguments.result.now _ _ c.args.room c.in-Some.ensures c.in_ok-spend.ensures.ok c.as_slice-parameters.ensures.value c.as_slice-arguments.ensures.value (map word_of c.in_ok-words.words.items) _ c.in_ok-words.ensures.ok c.in-Some-checked_sub.room _ (omega (arith, c.in-Some-checked_sub.ensures)) begins _ c.in_err-word.ensures.err)
 
 pub call-returns-in_err-copy_out-clause-err : goal.call-returns-in_err-copy_out-clause-err
 call-returns-in_err-copy_out-clause-err t c =
@@ -62,7 +63,7 @@ call-returns-in_err-copy_out-clause-err t c =
 pub call-returns-clause-ok : goal.call-returns-clause-ok
 call-returns-clause-ok t c =
     let begins = c.in_ok-inner.ensures.ok ∙ ap (λ ws. begun (held c.args.variables.now) (map parameter_tree c.as_slice-parameters.result.now) (map expr_tree c.as_slice-arguments.result.now) (map word_of ws)) c.as_slice.ensures.value in
-    whole_ends _ c.in-Some.callee.now (known_of c.in-Some.before.now) (held c.args.variables.now) c.args.call.now c.as_slice-parameters.result.now c.as_slice-arguments.result.now _ _ c.args.room c.in-Some.ensures c.in_ok-spend.ensures.ok c.as_slice-parameters.ensures.value c.as_slice-arguments.ensures.value (map word_of c.in_ok-words.words.items) _ c.in_ok-words.ensures.ok c.in-Some-checked_sub.room _ (omega (arith, c.in-Some-checked_sub.ensures)) begins _ (held c.body.new.variables) _ _ c.in_ok-word.ensures.ok c.in_ok-copy_out.ensures.ok
+    whole_ends c.args.earlier.now c.in-Some.before.now c.in-Some.callee.now (held c.args.variables.now) c.args.call.now c.as_slice-parameters.result.now c.as_slice-arguments.result.now _ _ c.args.room c.in-Some.ensures c.in_ok-spend.ensures.ok c.as_slice-parameters.ensures.value c.as_slice-arguments.ensures.value (map word_of c.in_ok-words.words.items) _ c.in_ok-words.ensures.ok c.in-Some-checked_sub.room _ (omega (arith, c.in-Some-checked_sub.ensures)) begins _ (held c.body.new.variables) _ _ c.in_ok-word.ensures.ok c.in_ok-copy_out.ensures.ok
 
 pub repeat-returns-in_err-spend-clause-err : goal.repeat-returns-in_err-spend-clause-err
 repeat-returns-in_err-spend-clause-err t c =

@@ -1,4 +1,4 @@
--- What is known of a name is made from what is known of the procedures before the first of that name.
+-- What is known of a name is made of the first procedure that has it, from what is known of those before it.
 use Rattle.std.proofs.Common.{◌≡◌, ℕ, Bool, true, false, if◌then◌else◌, List, [], ◌∷◌, ◌++◌, Option, Some, None, refl, sym, ap, ◌∙◌}
 use Rattle.std.specs.Option.{option_map}
 use Rattle.std.specs.Str.{bytes_eq}
@@ -6,11 +6,11 @@ use Rattle.language.specs.Known.{Known, nothing_known, first_known, with_known, 
 use Rattle.language.specs.Meaning.{named}
 use Rattle.language.specs.Tree.{ProcedureTree}
 
+-- a procedure, and those before it
 abbrev pub Found : Type 0
 Found = List ProcedureTree × ProcedureTree
 
 module _ {A : Type 0} (make : Known A → ProcedureTree → A) where
-  -- a procedure behind those before it
   abbrev pub made : Found → A
   made found = make (known_of make found.0) found.1
 
@@ -44,6 +44,12 @@ module _ {A : Type 0} (make : Known A → ProcedureTree → A) where
       by_name true = first-kept (known_of make before text) (option_map made (named (before ++ p ∷ []) ps text)) (made (before, p))
       by_name false = first-passed (known_of make before text) (option_map made (named (before ++ p ∷ []) ps text))
 
-  -- what is known of a name is made of the first procedure that has it
   pub known_by_name : (ps : List ProcedureTree) (text : List ℕ) → known_of make ps text ≡ option_map made (named [] ps text)
   known_by_name ps text = known-after [] ps text
+
+  pub known-named : (ps before : List ProcedureTree) (p : ProcedureTree) (text : List ℕ) → named [] ps text ≡ Some (before, p) → known_of make ps text ≡ Some (make (known_of make before) p)
+  known-named ps before p text is = known_by_name ps text ∙ ap (option_map made) is
+
+  -- and else it stands for nothing
+  pub known-none : (ps : List ProcedureTree) (text : List ℕ) → named [] ps text ≡ None → known_of make ps text ≡ None
+  known-none ps text is = known_by_name ps text ∙ ap (option_map made) is

@@ -1,7 +1,7 @@
 use Rattle.std.proofs.Common.{◌≡◌, [], drop, map, take}
 use Rattle.language.specs.Meaning.{named}
 use Rattle.language.specs.Tree.{procedure_tree}
-use Rattle.inline.proofs.calls.find.Given as goal
+use Rattle.language.proofs.tree.procedure_named.Given as goal
 
 -- it is among the procedures left
 abbrev pub invariant-loop-index : goal.invariant-loop-index
