@@ -1,6 +1,6 @@
 use Rattle.std.proofs.Common.{◌≡◌, ℕ, ◌-◌, length, Ok, Err, ap, sym, ◌∙◌, arith}
 use Rattle.image.specs.declared.fault.ImageFault.TheVariants.{Field}
-use Rattle.image.specs.Fields.{Fields}
+use Rattle.image_fields.specs.Fields.{Fields}
 use Rattle.image.specs.private.Parts.{layout_fields, code_fields, fields_of}
 use Rattle.image.proofs.FormatLemmas.{reading_fails, reading_found}
 use Rattle.image.proofs.Images.{all_takes}
