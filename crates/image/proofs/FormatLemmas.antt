@@ -16,7 +16,8 @@ use Rattle.image.specs.declared.fault.ImageFault.{ImageFault}
 use Rattle.image.specs.declared.fault.ImageFault.TheVariants.{Field}
 use Rattle.image.specs.declared.preamble.TheConstants.{MAGIC, VERSION, PROFILE}
 use Rattle.image.specs.declared.fields.Fault.{Fault}
-use Rattle.image_fields.specs.Fields.{Fields, slot_end, slots_end, is_length, MOST_PARAMETERS}
+use Rattle.image_fields.specs.Fields.{Fields, slot_end, slots_end, is_length}
+use Rattle.image_fields.specs.declared.limits.TheConstants.{MOST_PARAMETERS}
 use Rattle.image.specs.Format.{Format, ends, field, read_by, fault_at}
 use Rattle.image.specs.Reading.{coded_kind, coded_label, coded_form, is_offset, is_frame_size, is_step_limit, is_word_count, layout_end, slot_format, slots_format, flagged_format, result_format, words_format, image_format, reading}
 use Rattle.image.specs.private.Parts.{◌>>=◌, byte_at, number_at, field_at, found_at, coded_at, kind_of, label_of, form_of, preamble_at, slot_at, slots_at, result_slot_at, returned_at, words_at, LayoutFields, layout_at, CodeFields, code_at, fields_of, fields_at, all_of}

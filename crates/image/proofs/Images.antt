@@ -11,7 +11,8 @@ use Rattle.image.specs.declared.fault.ImageRule.TheVariants.{Magic, Version, Pro
 use Rattle.image.specs.declared.fault.ImageFault.{ImageFault}
 use Rattle.image.specs.declared.preamble.TheConstants.{MAGIC, VERSION, PROFILE}
 use Rattle.image.specs.declared.fields.Fault.{Fault}
-use Rattle.image_fields.specs.Fields.{Fields, slot_end, slots_end, result_end, AreSlots, IsResultSlot, IsImage, MOST_PARAMETERS, MOST_FRAME_BYTES, MOST_STEPS, MOST_WORDS}
+use Rattle.image_fields.specs.Fields.{Fields, slot_end, slots_end, result_end, AreSlots, IsResultSlot, IsImage}
+use Rattle.image_fields.specs.declared.limits.TheConstants.{MOST_PARAMETERS, MOST_FRAME_BYTES, MOST_STEPS, MOST_WORDS}
 use Rattle.image.specs.private.Spelling.{preamble, spelled_slot, spelled_result, spelling}
 use Rattle.image.specs.Reading.{is_frame_size, is_step_limit, is_word_count, layout_end, reading, Spells, IsUnlessMemory}
 use Rattle.image.specs.private.Parts.{◌>>=◌, number_at, field_at, preamble_at, slots_at, returned_at, words_at, LayoutFields, layout_at, CodeFields, code_at, fields_of, fields_at, all_of}

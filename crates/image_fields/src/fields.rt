@@ -34,7 +34,8 @@ impl ImageFields {
         words: Vec<u32>,
     ) -> Self
         requires { IsImage (record { slots = slots.items; returned = returned; frame_bytes = frame_bytes; max_steps = max_steps; words = words.items }) }
-        ensures { result ≡ record { slots = slots.items; returned = returned; frame_bytes = frame_bytes; max_steps = max_steps; words = words.items } }
+        ensures fields { result ≡ record { slots = slots.items; returned = returned; frame_bytes = frame_bytes; max_steps = max_steps; words = words.items } }
+        ensures allowed { IsImage result }
     {
         ImageFields {
             slots,

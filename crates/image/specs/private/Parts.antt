@@ -17,7 +17,8 @@ use Rattle.image.specs.declared.fields.ReadError.{ReadError}
 use Rattle.image.specs.declared.fields.ReadError.TheVariants as errors
 use Rattle.image.specs.declared.reading.Layout.{Layout}
 use Rattle.image.specs.declared.reading.CodePart.{CodePart}
-use Rattle.image_fields.specs.Fields.{Fields, slot_end, slots_end, is_length, MOST_PARAMETERS}
+use Rattle.image_fields.specs.Fields.{Fields, slot_end, slots_end, is_length}
+use Rattle.image_fields.specs.declared.limits.TheConstants.{MOST_PARAMETERS}
 use Rattle.image.specs.Reading.{is_offset, is_frame_size, is_step_limit, is_word_count, layout_end}
 
 infixl 10 ◌>>=◌
