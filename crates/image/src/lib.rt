@@ -2,7 +2,7 @@
 // Bytes and fields determine each other: `write` gives the one spelling of the fields of generated code, and
 // `read` gives the image of each spelling, and of other bytes the first fault from the left. Both are
 // stated by one format, the fields in their order.
-// It stands on the fields of `image_fields`, and writes and reads numbers by `byteorder`.
+// It stands on the fields of `image_fields` and the code of `codegen`, and writes and reads numbers by `byteorder`.
 #![tactic(auto)]
 
 mod fault;

@@ -8,6 +8,7 @@ ghost use Rattle.image.specs.private.Spelling.{preamble, kind_code, label_code, 
 use crate::limits::{FIXED_BYTES, LONGEST_IMAGE, PARAMETER_BYTES, WORD_BYTES};
 use crate::preamble::{MAGIC, PROFILE, VERSION};
 use byteorder::{ByteOrder, LittleEndian};
+use codegen::Code;
 use image_fields::{ImageFields, ResultSlot, Slot};
 use language::{Form, Kind, Label, Refusal};
 use std::alloc::{AllocError, Global};
@@ -155,11 +156,11 @@ fn spelled(alloc: Global, fields: &ImageFields) -> Result<Vec<u8>, AllocError>
     Ok(out)
 }
 
-/// The one spelling of the fields of generated code.
-pub fn write(alloc: Global, code: &ImageFields) -> Result<Vec<u8>, Refusal>
+/// The one spelling of generated code.
+pub fn write(alloc: Global, code: &Code) -> Result<Vec<u8>, Refusal>
     ensures spelled { IfOk result (λ bytes. Spells bytes.items code.now) }
     ensures short { IfOk result (λ bytes. length bytes.items ≤ LONGEST_IMAGE) }
     ensures memory { IfErr result (λ refusal. IsWantOfMemory refusal.rule refusal.place) }
 {
-    Ok(spelled(alloc, code)?)
+    Ok(spelled(alloc, code.fields())?)
 }
