@@ -12,7 +12,7 @@ use Rattle.language.specs.declared.signature.Label.{Label}
 use Rattle.language.specs.declared.signature.Label.TheVariants.{Public, Secret}
 use Rattle.word.specs.declared.place.Place.{Place}
 use Rattle.branch_removal.specs.Bounds.{statement_nodes, block_nodes, statement_work, block_work, taken_in_all, IsBounded}
-use Rattle.branch_removal.specs.Removal.{set_within, put_within, removed, removed_all, controls_in, controls_in_all, straightened}
+use Rattle.branch_removal.specs.private.Removal.{set_within, put_within, removed, removed_all, controls_in, controls_in_all, straightened}
 use Rattle.branch_removal.specs.Straight.{StraightBlock, chain}
 use Rattle.branch_removal.specs.Straight as straight
 

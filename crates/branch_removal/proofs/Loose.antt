@@ -10,7 +10,7 @@ use Rattle.language.specs.WellTyped.{labelled}
 use Rattle.language.specs.declared.signature.Kind.TheVariants.{Boolean}
 use Rattle.language.specs.declared.signature.Label.{Label}
 use Rattle.language.specs.declared.signature.Label.TheVariants.{Public, Secret}
-use Rattle.branch_removal.specs.Removal.{take_within, removed, removed_all}
+use Rattle.branch_removal.specs.private.Removal.{take_within, removed, removed_all}
 use Rattle.branch_removal.specs.Straight.{take, StraightBlock}
 use Rattle.branch_removal.specs.Straight as straight
 use Rattle.branch_removal.specs.StraightMeaning.{StraightState, with_variable, value_at, counted, after, after_all}

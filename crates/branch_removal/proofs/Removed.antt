@@ -15,8 +15,9 @@ use Rattle.intervals.specs.Work.{ranged}
 use Rattle.language.specs.declared.signature.Label.TheVariants.{Public}
 use Rattle.language.specs.declared.signature.Param.{Param}
 use Rattle.language.specs.declared.values.Arg.{Arg}
-use Rattle.branch_removal.specs.Removal.{controls_in_all, removed_all, straightened}
+use Rattle.branch_removal.specs.private.Removal.{controls_in_all, removed_all, straightened}
 use Rattle.branch_removal.specs.Removed.{IsRemoved}
+use Rattle.branch_removal.specs.Straight.{StraightBlock}
 use Rattle.branch_removal.specs.StraightMeaning.{start, end_of, path_along, outcome_of, path_of}
 use Rattle.branch_removal.specs.StraightTyping.{IsTypedStraight}
 use Rattle.branch_removal.proofs.Agreement.{Agree, everything, what_is_public}
@@ -110,6 +111,21 @@ is_removed p typed sized safe fits = record {
         end_agree p typed one other agree k (declaration_of parameter) (first_among p typed k (declaration_of parameter) (parameter_at p.parameters k parameter there)) public);
   };
 }
+
+-- straight code of these controls and statements
+pub straight_of : (r : RangedProgram) (controls : ℕ) (body : StraightBlock) → controls ≡ controls_in_all r.flat.body → body ≡ removed_all None 0 r.flat.body
+    → record {
+      parameters = r.flat.parameters;
+      returned = r.flat.returned;
+      nodes = r.flat.nodes;
+      work = r.work;
+      turns = r.turns;
+      declared = r.flat.declared;
+      controls = controls;
+      body = body;
+      value = r.flat.value;
+    } ≡ straightened r
+straight_of r controls body counted same = rw (counted, same) refl
 
 -- so of a body with what is counted for it
 pub removed_as_promised : (r : RangedProgram) → IsTypedProgram r.flat → IsSized r.flat → r ≡ ranged r.flat → IsSafe r.flat r.turns → r.work ≤ MOST_WORK → IsRemoved r (straightened r)

@@ -5,7 +5,7 @@ use Rattle.inline.specs.Flat.{FlatTree, declare, array, assign, put, hold, skip,
 use Rattle.inline.specs.FlatMeaning.{turns, path_of_turns}
 use Rattle.inline.specs.Path.{Path}
 use Rattle.language.specs.declared.signature.Label.TheVariants.{Public, Secret}
-use Rattle.branch_removal.specs.Removal.{take_within, removed, removed_all}
+use Rattle.branch_removal.specs.private.Removal.{take_within, removed, removed_all}
 use Rattle.branch_removal.specs.Straight.{StraightTree, take, StraightBlock, chain}
 use Rattle.branch_removal.specs.Straight as straight
 use Rattle.branch_removal.specs.StraightMeaning.{StraightState, with_variable, with_controls, value_at, counted, after, after_all, path_at, path_along}

@@ -9,7 +9,7 @@ use Rattle.inline.specs.FlatTyping.{Types, with_type, IsTyped, AreTyped, types_a
 use Rattle.language.specs.declared.signature.Label.{Label}
 use Rattle.language.specs.declared.signature.Label.TheVariants.{Public, Secret}
 use Rattle.word.specs.declared.place.Place.{Place}
-use Rattle.branch_removal.specs.Removal.{take_within, removed, removed_all}
+use Rattle.branch_removal.specs.private.Removal.{take_within, removed, removed_all}
 use Rattle.branch_removal.specs.Straight.{StraightBlock}
 use Rattle.branch_removal.specs.StraightMeaning.{StraightState, holds, with_variable, with_element, value_at, counted, after, after_all}
 use Rattle.branch_removal.proofs.Agreement.{Sees, Agree, everything, set_in_both, declared_in_both}

@@ -11,7 +11,7 @@ use Rattle.language.specs.declared.signature.Label.{Label}
 use Rattle.language.specs.declared.signature.Label.TheVariants.{Public, Secret}
 use Rattle.branch_removal.specs.declared.straight.StraightStatement.{StraightStatement}
 use Rattle.branch_removal.specs.declared.straight.StraightStatement as code
-use Rattle.branch_removal.specs.Removal.{take_within, controls_in, controls_in_all, own_controls, removed, removed_all}
+use Rattle.branch_removal.specs.private.Removal.{take_within, controls_in, controls_in_all, own_controls, removed, removed_all}
 use Rattle.branch_removal.specs.Straight.{StraightTree, StraightBlock, nothing, first, chain, branch, repeats, straight_tree, straight_row, straight_block}
 
 -- Statements of the body.

@@ -8,7 +8,7 @@ use Rattle.inline.specs.FlatTyping.{Types, with_type, types_of, types_after, cou
 use Rattle.inline.specs.FlatTyping as flat
 use Rattle.language.specs.declared.signature.Label.{Label}
 use Rattle.language.specs.declared.signature.Label.TheVariants.{Public, Secret}
-use Rattle.branch_removal.specs.Removal.{removed, removed_all, controls_in, controls_in_all}
+use Rattle.branch_removal.specs.private.Removal.{removed, removed_all, controls_in, controls_in_all}
 use Rattle.branch_removal.specs.Straight.{StraightTree, set, clear, fill, take, set_under, put_under, repeats, StraightBlock, chain}
 use Rattle.branch_removal.specs.Straight as straight
 use Rattle.branch_removal.specs.StraightTyping.{AreTyped, IsAmong, types_but}

@@ -8,7 +8,7 @@ use Rattle.inline.specs.Flat.{TermTree, FlatTree, declare, array, assign, put, h
 use Rattle.inline.specs.FlatTyping.{Types, with_type, IsTyped, AreTyped, types_after, counter_type}
 use Rattle.language.specs.declared.signature.Label.{Label}
 use Rattle.language.specs.declared.signature.Label.TheVariants.{Public, Secret}
-use Rattle.branch_removal.specs.Removal.{take_within, removed, removed_all}
+use Rattle.branch_removal.specs.private.Removal.{take_within, removed, removed_all}
 use Rattle.branch_removal.specs.Straight.{StraightBlock}
 use Rattle.branch_removal.specs.StraightMeaning.{StraightState, holds, with_variable, value_at, counted, after, after_all}
 use Rattle.branch_removal.proofs.Agreement.{Sees, Agree, what_is_public}

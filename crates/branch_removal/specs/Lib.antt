@@ -1,7 +1,7 @@
 pub mod Straight
-pub mod StraightCodes
 pub mod StraightMeaning
 pub mod StraightTyping
 pub mod Bounds
-pub mod Removal
+pub mod Kept
 pub mod Removed
+pub mod private

@@ -1,6 +1,6 @@
 ghost use Rattle.std.specs.Prelude.{◌≡◌, ◌^◌, ◌<◌};
 ghost use Rattle.inline.specs.Flat.{flat_tree, flat_block};
-ghost use Rattle.branch_removal.specs.Removal.{own_controls, controls_in, controls_in_all};
+ghost use Rattle.branch_removal.specs.private.Removal.{own_controls, controls_in, controls_in_all};
 
 use inline::FlatStatement;
 use language::Label;

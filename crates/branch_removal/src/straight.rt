@@ -1,6 +1,7 @@
 ghost use Rattle.std.specs.Prelude.{◌≡◌};
 ghost use Rattle.std.specs.Option.{option_map};
 ghost use Rattle.inline.specs.Flat.{term_tree};
+ghost use Rattle.branch_removal.specs.Kept.{IsStraight};
 ghost use Rattle.branch_removal.specs.Straight.{StraightProgram, straight_block};
 
 use inline::{FlatVariable, Term};
@@ -33,7 +34,8 @@ pub enum StraightStatement<'f> {
     Repeat(u32, &'f Term, &'f Term, Vec<StraightStatement<'f>>),
 }
 
-/// Straight code: the export without branches on secrets. Its parameters are the first variables.
+/// Straight code: the export without branches on secrets. Its parameters are the first variables. It is well typed, and
+/// within the limits on size.
 #[derive(Debug, Drop)]
 pub struct Straight<'f> {
     parameters: &'f [Param],
@@ -51,13 +53,16 @@ impl<'f> Model for Straight<'f> {
     ghost use Rattle.std.specs.Option.{option_map};
     ghost use Rattle.inline.specs.Flat.{term_tree};
     ghost use Rattle.branch_removal.specs.Straight.{StraightProgram, straight_block};
-    ghost use Rattle.branch_removal.specs.StraightCodes.{coded_straight};
+    ghost use Rattle.branch_removal.specs.private.StraightCodes.{coded_straight};
+    ghost use Rattle.branch_removal.specs.Kept.{IsStraight};
 
     ghost Value = { StraightProgram };
 
     ghost coded = { coded_straight };
 
     ghost view = { λ s. record { parameters = s.parameters.now; returned = s.returned; nodes = s.nodes; work = s.work; turns = s.turns.now; declared = s.declared.now; controls = s.controls; body = straight_block s.body.items; value = option_map (λ term. term_tree term.now) s.value } };
+
+    ghost invariant = { λ s. IsStraight (record { parameters = s.parameters.now; returned = s.returned; nodes = s.nodes; work = s.work; turns = s.turns.now; declared = s.declared.now; controls = s.controls; body = straight_block s.body.items; value = option_map (λ term. term_tree term.now) s.value }) };
 }
 
 impl<'f> Straight<'f> {
@@ -67,6 +72,7 @@ impl<'f> Straight<'f> {
         controls: u32,
         body: Vec<StraightStatement<'f>>,
     ) -> Self
+        requires { IsStraight (record { parameters = ranged.now.flat.parameters; returned = ranged.now.flat.returned; nodes = ranged.now.flat.nodes; work = ranged.now.work; turns = ranged.now.turns; declared = ranged.now.flat.declared; controls = controls; body = straight_block body.items; value = ranged.now.flat.value }) }
         ensures { result ≡ record { parameters = ranged.now.flat.parameters; returned = ranged.now.flat.returned; nodes = ranged.now.flat.nodes; work = ranged.now.work; turns = ranged.now.turns; declared = ranged.now.flat.declared; controls = controls; body = straight_block body.entry.items; value = ranged.now.flat.value } }
     {
         let flat = ranged.flat();
@@ -134,7 +140,8 @@ impl<'f> Straight<'f> {
 
     /// The statements before the result is known.
     pub fn body(&self) -> &[StraightStatement<'f>]
-        ensures { straight_block result.now ≡ self.now.body }
+        ensures body { straight_block result.now ≡ self.now.body }
+        ensures kept { IsStraight self.now }
     {
         self.body.as_slice()
     }

@@ -2,16 +2,14 @@
 use Rattle.std.proofs.Common.{◌≡◌, ℕ, ◌+◌, ◌*◌, List, [], ◌∷◌, length, map, Option, None, Some, refl, ap, arith}
 use Rattle.std.proofs.lemmas.List.{length-map}
 use Rattle.std.specs.Option.{option_map}
-use Rattle.branch_removal.specs.Bounds.{IsBounded}
 use Rattle.branch_removal.specs.Straight.{StraightProgram}
-use Rattle.branch_removal.specs.StraightTyping.{IsTypedStraight}
 use Rattle.codegen.specs.Followed.{IsGenerated, type_in}
 use Rattle.codegen.specs.Generated.{program_code, result_slot, image_of}
+use Rattle.codegen.specs.Room.{HasRoom}
 use Rattle.expression_code.specs.Layout.{slots_from}
 use Rattle.codegen.proofs.ImageLemmas.{room_frame}
-use Rattle.codegen.proofs.RoomLemmas.{has_room}
 use Rattle.codegen.proofs.WholeRuns.{followed}
-use Rattle.image.specs.declared.slot.Slot.{Slot}
+use Rattle.image_fields.specs.declared.slot.Slot.{Slot}
 use Rattle.inline.specs.declared.flat.FlatVariable.{FlatVariable}
 use Rattle.inline.specs.Flat.{declaration_of}
 use Rattle.inline.specs.FlatSize.{words_of}
@@ -29,9 +27,8 @@ slot_type : (declared : List FlatVariable) (returned : Option WordType) → opti
 slot_type declared None = refl
 slot_type declared (Some word) = refl
 
-pub is_generated : (p : StraightProgram) → IsTypedStraight p → IsBounded p → IsGenerated p (image_of p)
-is_generated p typed is =
-    let room = has_room p typed is in
+pub is_generated : (p : StraightProgram) → HasRoom p → IsGenerated p (image_of p)
+is_generated p room =
     let words : length (map word_of (program_code p)) ≡ length (program_code p) = length-map {B = ℕ} (program_code p) word_of in
     let most = room.code in
     record {

@@ -7,9 +7,9 @@ use Rattle.std.specs.List.{AllByRecursion}
 use Rattle.std.specs.Option.{option_map}
 use Rattle.branch_removal.specs.Straight.{StraightProgram}
 use Rattle.rv_code.specs.Words.{word_of}
-use Rattle.image.specs.Fields.{IsImage, AreSlots, IsResultSlot, is_length, slot_end, result_end, slots_end}
-use Rattle.image.specs.declared.slot.Slot.{Slot}
-use Rattle.image.specs.declared.slot.ResultSlot.{ResultSlot}
+use Rattle.image_fields.specs.Fields.{IsImage, AreSlots, IsResultSlot, is_length, slot_end, result_end, slots_end}
+use Rattle.image_fields.specs.declared.slot.Slot.{Slot}
+use Rattle.image_fields.specs.declared.slot.ResultSlot.{ResultSlot}
 use Rattle.language.specs.declared.limits.TheConstants.{MOST_ELEMENTS}
 use Rattle.language.specs.declared.signature.Form.{Form}
 use Rattle.language.specs.declared.signature.Form.TheVariants.{SingleWord, FixedArray, MutableArray}

@@ -1,6 +1,6 @@
 -- Where code and frame may lie, and accesses that stay inside the frame.
 use Rattle.std.specs.Prelude.{◌≡◌, ℕ, ◌+◌, ◌*◌, ◌%◌, ◌^◌, ◌<◌, length}
-use Rattle.image.specs.Fields.{Fields}
+use Rattle.image_fields.specs.Fields.{Fields}
 pub use Rattle.expression_code.specs.Inside.{IsInside}
 
 -- bases that code and frame may have: multiples of 4, with room above them

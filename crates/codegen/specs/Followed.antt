@@ -7,10 +7,10 @@ use Rattle.branch_removal.specs.Straight.{StraightProgram}
 use Rattle.branch_removal.specs.StraightMeaning.{outcome_of, path_of}
 use Rattle.codegen.specs.Bases.{AreBases, IsInside}
 use Rattle.codegen.specs.Loaded.{params_of, code_at, loaded_at, results_in}
-use Rattle.image.specs.Fields.{Fields}
-use Rattle.image.specs.declared.limits.TheConstants.{MOST_FRAME_BYTES}
+use Rattle.image_fields.specs.Fields.{Fields}
+use Rattle.image_fields.specs.declared.limits.TheConstants.{MOST_FRAME_BYTES}
 use Rattle.inline.specs.Path.{Path, AreFine}
-use Rattle.image.specs.declared.slot.ResultSlot.{ResultSlot}
+use Rattle.image_fields.specs.declared.slot.ResultSlot.{ResultSlot}
 use Rattle.rv_machine.specs.Leakage.{Halts}
 use Rattle.rv_machine.specs.Machine.{State}
 use Rattle.rv_machine.specs.declared.observation.Observation.{Observation}

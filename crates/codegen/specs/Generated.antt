@@ -5,8 +5,8 @@ use Rattle.branch_removal.specs.Straight.{StraightProgram}
 use Rattle.rv_code.specs.declared.instructions.Instr.{Instr}
 use Rattle.rv_code.specs.declared.instructions.Instr.TheVariants.{Ecall}
 use Rattle.rv_code.specs.Words.{word_of}
-use Rattle.image.specs.Fields.{Fields}
-use Rattle.image.specs.declared.slot.ResultSlot.{ResultSlot}
+use Rattle.image_fields.specs.Fields.{Fields}
+use Rattle.image_fields.specs.declared.slot.ResultSlot.{ResultSlot}
 use Rattle.inline.specs.declared.flat.FlatVariable.{FlatVariable}
 use Rattle.inline.specs.Flat.{TermTree}
 use Rattle.language.specs.declared.typing.WordType.{WordType}

@@ -1,18 +1,20 @@
-ghost use Rattle.std.specs.Prelude.{◌≡◌, ◌+◌, ◌*◌, ◌<◌, ◌≤◌, ◌^◌, map, All, IfOk};
+ghost use Rattle.std.specs.Prelude.{◌≡◌, ◌+◌, ◌*◌, ◌<◌, ◌≤◌, ◌^◌, map, All, IfOk, IfErr};
 ghost use Rattle.std.specs.Option.{option_map};
-ghost use Rattle.branch_removal.specs.Bounds.{IsBounded};
-ghost use Rattle.branch_removal.specs.StraightTyping.{IsTypedStraight};
 ghost use Rattle.codegen.specs.Followed.{IsGenerated};
 ghost use Rattle.codegen.specs.Generated.{program_code, program_height, result_slot, step_limit, image_of};
 ghost use Rattle.codegen.specs.Room.{HasRoom, frame_of};
+ghost use Rattle.image_fields.specs.Fields.{IsImage};
 ghost use Rattle.intervals.specs.declared.limits.TheConstants.{MOST_WORK};
+ghost use Rattle.language.specs.WantOfMemory.{IsWantOfMemory};
 ghost use Rattle.rv_code.specs.Words.{word_of};
 
+use crate::Code;
 use crate::heights::{greatest_depth, greatest_height};
 use crate::statements::statements;
 use branch_removal::Straight;
 use expression_code::{Layout, WORD_BYTES, emit, expression, height, offsets, slots};
-use image::{Image, ResultSlot};
+use image_fields::{ImageFields, ResultSlot};
+use language::Refusal;
 use rv_code::{Instr, Reg, encode};
 use std::alloc::{AllocError, Global};
 
@@ -28,8 +30,8 @@ fn words(alloc: Global, code: &[Instr]) -> Result<Vec<u32>, AllocError>
     Ok(words)
 }
 
-/// The code of a program, in its layout.
-fn code(
+/// The instructions of a program, in its layout.
+fn program_code(
     alloc: Global,
     straight: &Straight<'_>,
     layout: &Layout<'_>,
@@ -81,30 +83,43 @@ fn step_limit(work: u64) -> u64
     32 * work + 64
 }
 
-/// The image of straight code, as the definition lists it.
-fn listed(alloc: Global, straight: &Straight<'_>) -> Result<Image, AllocError>
-    requires { HasRoom straight.now }
-    ensures { IfOk result (λ image. image ≡ image_of straight.now) }
+/// The fields of the image of straight code in its layout, as the definition lists them.
+fn listed(
+    alloc: Global,
+    straight: &Straight<'_>,
+    layout: &Layout<'_>,
+) -> Result<ImageFields, AllocError>
+    requires room { HasRoom straight.now }
+    requires frame { layout.now ≡ frame_of straight.now }
+    ensures exact { IfOk result (λ fields. fields ≡ image_of straight.now) }
+    ensures allowed { IfOk result IsImage }
 {
-    let declared = straight.declared();
-    let offsets = offsets(alloc, declared)?;
-    let depths = greatest_depth(straight.body());
-    let layout = Layout::new(declared, offsets.as_slice(), straight.controls(), depths);
-    let returned = result_slot(straight, &layout);
-    let code = code(alloc, straight, &layout)?;
+    let returned = result_slot(straight, layout);
+    let code = program_code(alloc, straight, layout)?;
     let slots = slots(alloc, straight.parameters())?;
     let words = words(alloc, code.as_slice())?;
     let frame_bytes = layout.temporaries() + WORD_BYTES * temporaries(straight);
     let max_steps = step_limit(straight.work());
-    Ok(Image::new(slots, returned, frame_bytes, max_steps, words))
+    Ok(ImageFields::new(
+        slots,
+        returned,
+        frame_bytes,
+        max_steps,
+        words,
+    ))
 }
 
-/// The image of straight code. The machine, running it, follows the code: the outcome is that of the code, and what it
-/// shows is decided by the path of public values.
-pub fn generate(alloc: Global, straight: &Straight<'_>) -> Result<Image, AllocError>
-    requires typed { IsTypedStraight straight.now }
-    requires bounded { IsBounded straight.now }
-    ensures { IfOk result (IsGenerated straight.now) }
+/// The code of a straight program. The machine, running it, follows the program: the outcome is that of the program, and
+/// what it shows is decided by the path of public values. Want of memory alone refuses it.
+pub fn generate(alloc: Global, straight: &Straight<'_>) -> Result<Code, Refusal>
+    ensures generated { IfOk result (IsGenerated straight.now) }
+    ensures allowed { IfOk result IsImage }
+    ensures memory { IfErr result (λ refusal. IsWantOfMemory refusal.rule refusal.place) }
 {
-    listed(alloc, straight)
+    let depths = greatest_depth(straight.body());
+    let declared = straight.declared();
+    let offsets = offsets(alloc, declared)?;
+    let layout = Layout::new(declared, offsets.as_slice(), straight.controls(), depths);
+    let fields = listed(alloc, straight, &layout)?;
+    Ok(Code::new(fields))
 }

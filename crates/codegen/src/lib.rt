@@ -1,13 +1,15 @@
-// The code generator: the instructions that run straight code in the places of its frame, and the image of
-// them. The machine, running what is generated, follows the code. It stands on straight code, the code of
+// The code generator: the instructions that run straight code in the places of its frame, and the fields of their
+// image. The machine, running what is generated, follows the code. It stands on straight code, the code of
 // expressions, the instructions, the machine and the image's fields.
 #![tactic(auto)]
 
 mod arrays;
+mod code;
 mod generator;
 mod heights;
 mod jumping;
 mod masking;
 mod statements;
 
+pub use code::Code;
 pub use generator::generate;

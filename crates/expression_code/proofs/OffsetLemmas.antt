@@ -1,7 +1,7 @@
 -- Offsets as they are listed, and as they are defined.
 use Rattle.std.proofs.Common.{◌≡◌, ℕ, zero, suc, ◌+◌, ◌*◌, ◌<◌, ◌≤◌, List, [], ◌∷◌, ◌++◌, length, map, get_or, take, drop, refl, sym, ap, ◌∙◌, arith, append_assoc}
 use Rattle.expression_code.specs.Layout.{offsets_from, slots_from, variable_offset, result_offset}
-use Rattle.image.specs.declared.slot.Slot.{Slot}
+use Rattle.image_fields.specs.declared.slot.Slot.{Slot}
 use Rattle.inline.specs.Flat.{declaration_of, elements_by}
 use Rattle.language.specs.Size.{held_words}
 use Rattle.language.specs.declared.signature.Form.{Form}

@@ -1,7 +1,7 @@
 -- Where a program's words lie in the frame: the variables, of which the parameters are the first, then the result, the
 -- control values, two words for each loop that others are in, and the temporaries. All these offsets are multiples of 4.
 use Rattle.std.specs.Prelude.{ℕ, ◌+◌, ◌*◌, List, [], ◌∷◌, Option, None, Some, take}
-use Rattle.image.specs.declared.slot.Slot.{Slot}
+use Rattle.image_fields.specs.declared.slot.Slot.{Slot}
 use Rattle.inline.specs.declared.flat.FlatVariable.{FlatVariable}
 use Rattle.inline.specs.Flat.{declaration_of}
 use Rattle.inline.specs.FlatSize.{words_of, declared_words}

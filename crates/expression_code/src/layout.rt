@@ -6,7 +6,7 @@ ghost use Rattle.expression_code.specs.TermCode.{kind_at};
 ghost use Rattle.inline.specs.FlatSize.{words_of, declared_words};
 ghost use Rattle.inline.specs.Flat.{declaration_of};
 
-use image::Slot;
+use image_fields::Slot;
 use inline::FlatVariable;
 use language::{Kind, Param};
 use std::alloc::{AllocError, Global};

@@ -5,7 +5,7 @@ use Rattle.std.proofs.lemmas.Bool.Decides.{Decides-eqb}
 use Rattle.arguments.specs.Faults.{fault_of, count_fault}
 use Rattle.arguments.specs.Within.{AreWithin}
 use Rattle.arguments.specs.declared.fault.ArgumentFault.{ArgumentFault}
-use Rattle.image.specs.Fields.{Fields}
+use Rattle.image_fields.specs.Fields.{Fields}
 use Rattle.image.specs.Reading.{Spells}
 use Rattle.rv_machine.specs.Entries.{Entry, entries_of, Compares}
 use Rattle.rv_machine.specs.declared.pairing.Pairing.{Pairing}

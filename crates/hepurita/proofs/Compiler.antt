@@ -9,7 +9,7 @@ use Rattle.branch_removal.specs.StraightMeaning.{outcome_of, path_of}
 use Rattle.codegen.specs.Bases.{AreBases}
 use Rattle.codegen.specs.Followed.{RunsAs, IsGenerated}
 use Rattle.codegen.specs.Loaded.{params_of, code_at, loaded_at, results_in}
-use Rattle.image.specs.Fields.{Fields}
+use Rattle.image_fields.specs.Fields.{Fields}
 use Rattle.inline.specs.FlatMeaning.{outcome_of as outcome_of_flat}
 use Rattle.inline.specs.Numbering.{flattened, param_of}
 use Rattle.intervals.specs.Work.{ranged}

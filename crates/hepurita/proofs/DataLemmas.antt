@@ -2,8 +2,8 @@
 use Rattle.std.proofs.Common.{◌≡◌, ℕ, zero, suc, ◌+◌, ◌*◌, ◌^◌, ◌<◌, ◌≤◌, Bool, true, ◌&&◌, nat_le, nat_lt, List, length, Some, None, cond, is_some, refl, sym, ap, subst, ◌∙◌, arith}
 use Rattle.std.proofs.lemmas.Bool.Decides.{nat_tests}
 use Rattle.arguments.specs.Within.{HasShape}
-use Rattle.image.specs.Fields.{slot_end, slot_bytes}
-use Rattle.image.specs.declared.slot.Slot.{Slot}
+use Rattle.image_fields.specs.Fields.{slot_end, slot_bytes}
+use Rattle.image_fields.specs.declared.slot.Slot.{Slot}
 use Rattle.rv_machine.specs.Bytes.{ByteMap, number_at, zeros}
 use Rattle.rv_machine.proofs.ByteLaws.{is_some-with_number}
 use Rattle.language.specs.Size.{element_bytes, array_words}

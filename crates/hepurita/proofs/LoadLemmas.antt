@@ -2,8 +2,8 @@
 use Rattle.std.proofs.Common.{◌≡◌, ℕ, zero, suc, ◌+◌, ◌^◌, ◌<◌, ◌≤◌, List, [], ◌∷◌, length, map, drop, slice_index_or, refl, sym, ap, ◌∙◌, arith, drop-cons, add-one}
 use Rattle.std.specs.List.{AllByRecursion}
 use Rattle.arguments.specs.Within.{AreWithin, HasShape}
-use Rattle.image.specs.Fields.{slot_end}
-use Rattle.image.specs.declared.slot.Slot.{Slot}
+use Rattle.image_fields.specs.Fields.{slot_end}
+use Rattle.image_fields.specs.declared.slot.Slot.{Slot}
 use Rattle.rv_machine.specs.Bytes.{ByteMap, zeros}
 use Rattle.rv_machine.specs.Machine.{State}
 use Rattle.language.specs.declared.signature.Form.TheVariants.{SingleWord}

@@ -6,7 +6,7 @@ use Rattle.arguments.specs.Within.{AreWithin}
 use Rattle.branch_removal.specs.Removed.{IsRemoved}
 use Rattle.branch_removal.specs.Straight.{StraightProgram}
 use Rattle.codegen.specs.Followed.{IsGenerated}
-use Rattle.image.specs.Fields.{Fields}
+use Rattle.image_fields.specs.Fields.{Fields}
 use Rattle.inline.proofs.FlatMeanings.{flat_keeps_meaning}
 use Rattle.inline.proofs.FlatPrograms.{flat_is_typed}
 use Rattle.inline.proofs.FlatSizes.{flat_is_sized}

@@ -1,6 +1,6 @@
 -- What `execute` and `pair` are to answer for the image of an accepted text.
 use Rattle.std.specs.Prelude.{◌≡◌, ◌⊎◌, ℕ, List, Result, Ok, Err}
-use Rattle.image.specs.Fields.{Fields, IsImage}
+use Rattle.image_fields.specs.Fields.{Fields, IsImage}
 use Rattle.image.specs.Reading.{Spells}
 use Rattle.rv_machine.specs.declared.pairing.Pairing.{Pairing}
 use Rattle.rv_machine.specs.declared.pairing.Pairing.TheVariants.{Same}

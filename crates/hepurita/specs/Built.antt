@@ -1,6 +1,6 @@
 -- What the compiler answers to a text: the passes are asked in order, and each names its first violation.
 use Rattle.std.specs.Prelude.{◌≡◌, ◌⊎◌, ℕ, ◌+◌, ◌*◌, ◌<◌, List, [], length, Some}
-use Rattle.image.specs.Fields.{Fields, IsImage}
+use Rattle.image_fields.specs.Fields.{Fields, IsImage}
 use Rattle.image.specs.Reading.{Spells}
 use Rattle.codegen.specs.Bases.{AreBases}
 use Rattle.hepurita.specs.Bases.{code_base, frame_base, most_images, code_distance, frame_distance}

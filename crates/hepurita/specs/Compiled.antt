@@ -5,8 +5,8 @@ use Rattle.arguments.specs.PublicResults.{AgreeInPublic}
 use Rattle.arguments.specs.Within.{AreWithin}
 use Rattle.inline.specs.Numbering.{flattened, param_of}
 use Rattle.intervals.specs.Work.{work_of}
-use Rattle.image.specs.Fields.{Fields}
-use Rattle.image.specs.declared.limits.TheConstants.{MOST_FRAME_BYTES}
+use Rattle.image_fields.specs.Fields.{Fields}
+use Rattle.image_fields.specs.declared.limits.TheConstants.{MOST_FRAME_BYTES}
 use Rattle.rv_machine.specs.Leakage.{Halts}
 use Rattle.rv_machine.specs.Machine.{State}
 use Rattle.rv_machine.specs.declared.observation.Observation.{Observation}

@@ -1,8 +1,8 @@
 -- Where the data of a frame is, and what space there is for its arrays.
 use Rattle.std.specs.Prelude.{◌≡◌, ℕ, ◌+◌, ◌*◌, ◌^◌, ◌<◌, ◌≤◌, true, is_some, List, [], length, map, All, vec_capacity}
 use Rattle.codegen.specs.Loaded.{arrays_in, numbers_at}
-use Rattle.image.specs.Fields.{Fields, slot_end}
-use Rattle.image.specs.declared.slot.Slot.{Slot}
+use Rattle.image_fields.specs.Fields.{Fields, slot_end}
+use Rattle.image_fields.specs.declared.slot.Slot.{Slot}
 use Rattle.language.specs.Size.{element_bytes}
 use Rattle.rv_machine.specs.Bytes.{ByteMap}
 use Rattle.hepurita.specs.declared.results.ArraySpace.{ArraySpace}

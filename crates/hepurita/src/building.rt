@@ -5,7 +5,7 @@ ghost use Rattle.std.specs.List.{AllByRecursion};
 ghost use Rattle.branch_removal.specs.Removed.{IsRemoved};
 ghost use Rattle.branch_removal.specs.Straight.{StraightProgram};
 ghost use Rattle.codegen.specs.Followed.{IsGenerated};
-ghost use Rattle.image.specs.Fields.{IsImage};
+ghost use Rattle.image_fields.specs.Fields.{IsImage};
 ghost use Rattle.inline.specs.Numbering.{flattened};
 ghost use Rattle.intervals.specs.Work.{ranged};
 ghost use Rattle.language.specs.Grammatical.{IsGrammatical};
@@ -17,15 +17,15 @@ ghost use Rattle.hepurita.specs.Built.{Judgement, Judges, JudgesProgram, IsRefus
 
 use crate::judging::flat_of;
 use branch_removal::remove;
-use codegen::generate;
-use image::{Image, write};
+use codegen::{Code, generate};
+use image::write;
 use intervals::check_ranges;
 use language::{Program, Refusal};
 use std::alloc::Global;
 use syntax::{one_answer_for_a_text, parse};
 
-/// The image of a program that violates no rule, or the first refusal.
-fn compile(alloc: Global, program: &Program<'_>) -> Result<Image, Refusal>
+/// The code of a program that violates no rule, or the first refusal.
+fn compile(alloc: Global, program: &Program<'_>) -> Result<Code, Refusal>
     requires grammatical { (before : List ProcedureTree) (p : ProcedureTree) → exported [] (program_tree program.now).procedures ≡ Some (before, p) → AllByRecursion IsGrammatical before × IsGrammatical p }
     ensures accepted { IfOk result (λ image. (before : List ProcedureTree) × (export : ProcedureTree) × JudgesProgram (program_tree program.now) (accepts (program_tree program.now) before export) × ((straight : StraightProgram) × IsRemoved (ranged (flattened before export)) straight × IsGenerated straight image)) }
     ensures allowed { IfOk result IsImage }
@@ -34,9 +34,7 @@ fn compile(alloc: Global, program: &Program<'_>) -> Result<Image, Refusal>
     let flat = flat_of(alloc, program)?;
     let ranged = check_ranges(alloc, &flat)?;
     let straight = remove(alloc, &ranged)?;
-    let image = generate(alloc, &straight)?;
-    let _words = image.words();
-    Ok(image)
+    generate(alloc, &straight)
 }
 
 /// The bytes of the image of an accepted text, or the first refusal. Passes are asked in the order:
@@ -50,8 +48,8 @@ pub fn build(alloc: Global, text: &str) -> Result<Vec<u8>, Refusal>
     ensures refused { IfErr result (IsRefusal (Judges text.now)) }
 {
     let program = parse(alloc, text)?;
-    let image = compile(alloc, &program)?;
-    write(alloc, &image)
+    let code = compile(alloc, &program)?;
+    write(alloc, &code)
 }
 
 /// A text is not both accepted and refused.

@@ -2,7 +2,7 @@
 
 ghost use Rattle.std.specs.Prelude.{◌≡◌, ◌≤◌, None, length};
 ghost use Rattle.arguments.specs.Within.{AreWithin};
-ghost use Rattle.image.specs.declared.limits.TheConstants.{MOST_PARAMETERS};
+ghost use Rattle.image_fields.specs.declared.limits.TheConstants.{MOST_PARAMETERS};
 ghost use Rattle.hepurita.specs.Paired.{pair_fault, Paired};
 
 use crate::fault::RunFault;

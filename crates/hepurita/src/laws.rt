@@ -6,7 +6,7 @@ ghost use Rattle.branch_removal.specs.Removed.{IsRemoved};
 ghost use Rattle.branch_removal.specs.Straight.{StraightProgram};
 ghost use Rattle.codegen.specs.Bases.{AreBases};
 ghost use Rattle.codegen.specs.Followed.{IsGenerated};
-ghost use Rattle.image.specs.Fields.{Fields};
+ghost use Rattle.image_fields.specs.Fields.{Fields};
 ghost use Rattle.inline.specs.Numbering.{flattened, param_of};
 ghost use Rattle.intervals.specs.Work.{ranged};
 ghost use Rattle.intervals.specs.declared.limits.TheConstants.{MOST_WORK};

@@ -3,8 +3,8 @@
 ghost use Rattle.std.specs.Prelude.{◌≡◌, ◌≤◌, length, map, All, IfOk};
 ghost use Rattle.arguments.specs.Within.{AreWithin, HasShape};
 ghost use Rattle.codegen.specs.Loaded.{params_of, with_argument, with_arguments, code_at, loaded_at};
-ghost use Rattle.image.specs.Fields.{IsImage};
-ghost use Rattle.image.specs.declared.limits.TheConstants.{MOST_PARAMETERS};
+ghost use Rattle.image_fields.specs.Fields.{IsImage};
+ghost use Rattle.image_fields.specs.declared.limits.TheConstants.{MOST_PARAMETERS};
 ghost use Rattle.rv_machine.specs.Harts.{state_of};
 ghost use Rattle.rv_machine.specs.Bytes.{zeros};
 ghost use Rattle.rv_machine.specs.Paged.{paged_bytes};
@@ -13,7 +13,8 @@ ghost use Rattle.hepurita.specs.Bases.{code_base, frame_base};
 ghost use Rattle.hepurita.specs.Frames.{HoldsSlot};
 
 use crate::elements::{element_size, put_numbers};
-use image::{Image, Slot};
+use image::Image;
+use image_fields::Slot;
 use language::{Arg, Args, Param};
 use rv_machine::hart::Hart;
 use rv_machine::memory::{Memory, Size};

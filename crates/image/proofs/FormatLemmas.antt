@@ -8,14 +8,16 @@ use Rattle.language.specs.declared.signature.Label.{Label}
 use Rattle.language.specs.declared.signature.Label.TheVariants.{Secret}
 use Rattle.language.specs.declared.signature.Form.{Form}
 use Rattle.language.specs.declared.signature.Form.TheVariants.{MutableArray}
-use Rattle.image.specs.declared.slot.Slot.{Slot}
-use Rattle.image.specs.declared.slot.ResultSlot.{ResultSlot}
+use Rattle.image_fields.specs.declared.slot.Slot.{Slot}
+use Rattle.image_fields.specs.declared.slot.ResultSlot.{ResultSlot}
 use Rattle.image.specs.declared.fault.ImageRule.{ImageRule}
 use Rattle.image.specs.declared.fault.ImageRule.TheVariants.{Magic, Version, Profile, Truncated, FieldOutOfRange, TrailingBytes}
 use Rattle.image.specs.declared.fault.ImageFault.{ImageFault}
 use Rattle.image.specs.declared.fault.ImageFault.TheVariants.{Field}
+use Rattle.image.specs.declared.preamble.TheConstants.{MAGIC, VERSION, PROFILE}
 use Rattle.image.specs.declared.fields.Fault.{Fault}
-use Rattle.image.specs.Fields.{Fields, slot_end, slots_end, is_length, MOST_PARAMETERS}
+use Rattle.image_fields.specs.Fields.{Fields, slot_end, slots_end, is_length}
+use Rattle.image_fields.specs.declared.limits.TheConstants.{MOST_PARAMETERS}
 use Rattle.image.specs.Format.{Format, ends, field, read_by, fault_at}
 use Rattle.image.specs.Reading.{coded_kind, coded_label, coded_form, is_offset, is_frame_size, is_step_limit, is_word_count, layout_end, slot_format, slots_format, flagged_format, result_format, words_format, image_format, reading}
 use Rattle.image.specs.private.Parts.{◌>>=◌, byte_at, number_at, field_at, found_at, coded_at, kind_of, label_of, form_of, preamble_at, slot_at, slots_at, result_slot_at, returned_at, words_at, LayoutFields, layout_at, CodeFields, code_at, fields_of, fields_at, all_of}
@@ -189,18 +191,18 @@ module _ (total : ℕ) where
 
   module _ (next : Format) where
     abbrev at_profile : ℕ → Format
-    at_profile version = field Profile 2 (λ n. eqb n 1) (λ profile. next)
+    at_profile version = field Profile 2 (λ n. eqb n PROFILE) (λ profile. next)
 
     abbrev at_version : ℕ → Format
-    at_version magic = field Version 2 (λ n. eqb n 1) at_profile
+    at_version magic = field Version 2 (λ n. eqb n VERSION) at_profile
 
-    preamble_joins : (left : List ℕ) → read_by total (field Magic 4 (λ n. eqb n 0x4943_4146) at_version) left ≡ onward (preamble_at left) (λ rest. read_by total next rest)
+    preamble_joins : (left : List ℕ) → read_by total (field Magic 4 (λ n. eqb n MAGIC) at_version) left ≡ onward (preamble_at left) (λ rest. read_by total next rest)
     unfolding preamble_at
     preamble_joins left =
-        field_joins Magic 4 (λ n. eqb n 0x4943_4146) at_version left
-        ∙ steps _ _ _ _ (λ (magic : ℕ × List ℕ). field_joins Version 2 (λ n. eqb n 1) at_profile magic.1
-        ∙ steps _ _ _ _ (λ (version : ℕ × List ℕ). field_joins Profile 2 (λ n. eqb n 1) (λ profile. next) version.1
-        ∙ steps (field_at 2 (λ n. eqb n 1) Profile version.1) (λ (x : ℕ × List ℕ). Ok x.1) _ (λ (rest : List ℕ). read_by total next rest) (λ (profile : ℕ × List ℕ). refl)))
+        field_joins Magic 4 (λ n. eqb n MAGIC) at_version left
+        ∙ steps _ _ _ _ (λ (magic : ℕ × List ℕ). field_joins Version 2 (λ n. eqb n VERSION) at_profile magic.1
+        ∙ steps _ _ _ _ (λ (version : ℕ × List ℕ). field_joins Profile 2 (λ n. eqb n PROFILE) (λ profile. next) version.1
+        ∙ steps (field_at 2 (λ n. eqb n PROFILE) Profile version.1) (λ (x : ℕ × List ℕ). Ok x.1) _ (λ (rest : List ℕ). read_by total next rest) (λ (profile : ℕ × List ℕ). refl)))
 
   module _ (next : LayoutFields → Format) where
     abbrev layout_of : List Slot → Option ResultSlot → ℕ → LayoutFields

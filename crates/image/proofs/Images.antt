@@ -5,12 +5,14 @@ use Rattle.std.specs.List.{flat_map, AllByRecursion}
 use Rattle.std.proofs.lemmas.Bool.{eqb-true, eq-eqb, leb-true, le-leb, and_parts, and_from}
 use Rattle.std.proofs.lemmas.List.{append-nil, nil_from_length}
 use Rattle.byteorder.specs.Endian.{little_bytes}
-use Rattle.image.specs.declared.slot.Slot.{Slot}
-use Rattle.image.specs.declared.slot.ResultSlot.{ResultSlot}
+use Rattle.image_fields.specs.declared.slot.Slot.{Slot}
+use Rattle.image_fields.specs.declared.slot.ResultSlot.{ResultSlot}
 use Rattle.image.specs.declared.fault.ImageRule.TheVariants.{Magic, Version, Profile, FieldOutOfRange, TrailingBytes}
 use Rattle.image.specs.declared.fault.ImageFault.{ImageFault}
+use Rattle.image.specs.declared.preamble.TheConstants.{MAGIC, VERSION, PROFILE}
 use Rattle.image.specs.declared.fields.Fault.{Fault}
-use Rattle.image.specs.Fields.{Fields, slot_end, slots_end, result_end, AreSlots, IsResultSlot, IsImage, MOST_PARAMETERS, MOST_FRAME_BYTES, MOST_STEPS, MOST_WORDS}
+use Rattle.image_fields.specs.Fields.{Fields, slot_end, slots_end, result_end, AreSlots, IsResultSlot, IsImage}
+use Rattle.image_fields.specs.declared.limits.TheConstants.{MOST_PARAMETERS, MOST_FRAME_BYTES, MOST_STEPS, MOST_WORDS}
 use Rattle.image.specs.private.Spelling.{preamble, spelled_slot, spelled_result, spelling}
 use Rattle.image.specs.Reading.{is_frame_size, is_step_limit, is_word_count, layout_end, reading, Spells, IsUnlessMemory}
 use Rattle.image.specs.private.Parts.{◌>>=◌, number_at, field_at, preamble_at, slots_at, returned_at, words_at, LayoutFields, layout_at, CodeFields, code_at, fields_of, fields_at, all_of}
@@ -24,27 +26,27 @@ use Rattle.image.proofs.Slots.{slots_take, slots_again, returned_takes, returned
 preamble_takes : (bytes rest : List ℕ) → IsBytes bytes → preamble_at bytes ≡ Ok rest → Takes bytes preamble rest
 unfolding preamble_at
 preamble_takes bytes rest fits e =
-    let a = bind_ok (field_at 4 (λ n. eqb n 0x4943_4146) Magic bytes) (λ magic. field_at 2 (λ n. eqb n 1) Version magic.1 >>= λ version. field_at 2 (λ n. eqb n 1) Profile version.1 >>= λ profile. Ok profile.1) rest e in
-    let b = bind_ok (field_at 2 (λ n. eqb n 1) Version a.0.1) (λ version. field_at 2 (λ n. eqb n 1) Profile version.1 >>= λ profile. Ok profile.1) rest a.2 in
-    let c = bind_ok (field_at 2 (λ n. eqb n 1) Profile b.0.1) (λ profile. Ok profile.1) rest b.2 in
-    let t0 = field_takes 4 wide4 (λ n. eqb n 0x4943_4146) Magic bytes a.0 fits a.1 in
-    let t1 = field_takes 2 wide2 (λ n. eqb n 1) Version a.0.1 b.0 t0.0.rest_fits b.1 in
-    let t2 = field_takes 2 wide2 (λ n. eqb n 1) Profile b.0.1 c.0 t1.0.rest_fits c.1 in
+    let a = bind_ok (field_at 4 (λ n. eqb n MAGIC) Magic bytes) (λ magic. field_at 2 (λ n. eqb n VERSION) Version magic.1 >>= λ version. field_at 2 (λ n. eqb n PROFILE) Profile version.1 >>= λ profile. Ok profile.1) rest e in
+    let b = bind_ok (field_at 2 (λ n. eqb n VERSION) Version a.0.1) (λ version. field_at 2 (λ n. eqb n PROFILE) Profile version.1 >>= λ profile. Ok profile.1) rest a.2 in
+    let c = bind_ok (field_at 2 (λ n. eqb n PROFILE) Profile b.0.1) (λ profile. Ok profile.1) rest b.2 in
+    let t0 = field_takes 4 wide4 (λ n. eqb n MAGIC) Magic bytes a.0 fits a.1 in
+    let t1 = field_takes 2 wide2 (λ n. eqb n VERSION) Version a.0.1 b.0 t0.0.rest_fits b.1 in
+    let t2 = field_takes 2 wide2 (λ n. eqb n PROFILE) Profile b.0.1 c.0 t1.0.rest_fits c.1 in
     let e12 = Takes-then a.0.1 (little_bytes 2 b.0.0) b.0.1 (little_bytes 2 c.0.0) c.0.1 t1.0 t2.0 in
     let e02 = Takes-then bytes (little_bytes 4 a.0.0) a.0.1 (little_bytes 2 b.0.0 ++ little_bytes 2 c.0.0) c.0.1 t0.0 e12 in
-    let n0 : a.0.0 ≡ 0x4943_4146 = eqb-true a.0.0 0x4943_4146 t0.2 in
-    let n1 : b.0.0 ≡ 1 = eqb-true b.0.0 1 t1.2 in
-    let n2 : c.0.0 ≡ 1 = eqb-true c.0.0 1 t2.2 in
+    let n0 : a.0.0 ≡ MAGIC = eqb-true a.0.0 MAGIC t0.2 in
+    let n1 : b.0.0 ≡ VERSION = eqb-true b.0.0 VERSION t1.2 in
+    let n2 : c.0.0 ≡ PROFILE = eqb-true c.0.0 PROFILE t2.2 in
     let f0 = subst (λ (n : ℕ). Takes bytes (little_bytes 4 n ++ (little_bytes 2 b.0.0 ++ little_bytes 2 c.0.0)) c.0.1) n0 e02 in
-    let f1 = subst (λ (n : ℕ). Takes bytes (little_bytes 4 0x4943_4146 ++ (little_bytes 2 n ++ little_bytes 2 c.0.0)) c.0.1) n1 f0 in
-    let f2 = subst (λ (n : ℕ). Takes bytes (little_bytes 4 0x4943_4146 ++ (little_bytes 2 1 ++ little_bytes 2 n)) c.0.1) n2 f1 in
+    let f1 = subst (λ (n : ℕ). Takes bytes (little_bytes 4 MAGIC ++ (little_bytes 2 n ++ little_bytes 2 c.0.0)) c.0.1) n1 f0 in
+    let f2 = subst (λ (n : ℕ). Takes bytes (little_bytes 4 MAGIC ++ (little_bytes 2 VERSION ++ little_bytes 2 n)) c.0.1) n2 f1 in
     subst (λ (r : List ℕ). Takes bytes preamble r) (ok_is c.0.1 rest c.2) f2
 
 preamble_again : (rest : List ℕ) → preamble_at (preamble ++ rest) ≡ Ok rest
 unfolding preamble_at
 preamble_again rest =
-    let regrouped : preamble ++ rest ≡ little_bytes 4 0x4943_4146 ++ (little_bytes 2 1 ++ (little_bytes 2 1 ++ rest)) = refl in
-    ap preamble_at regrouped ∙ rw (field_again 4 (λ n. eqb n 0x4943_4146) Magic 0x4943_4146 (little_bytes 2 1 ++ (little_bytes 2 1 ++ rest)) (lit< tt) refl, field_again 2 (λ n. eqb n 1) Version 1 (little_bytes 2 1 ++ rest) (lit< tt) refl, field_again 2 (λ n. eqb n 1) Profile 1 rest (lit< tt) refl) refl
+    let regrouped : preamble ++ rest ≡ little_bytes 4 MAGIC ++ (little_bytes 2 VERSION ++ (little_bytes 2 PROFILE ++ rest)) = refl in
+    ap preamble_at regrouped ∙ rw (field_again 4 (λ n. eqb n MAGIC) Magic MAGIC (little_bytes 2 VERSION ++ (little_bytes 2 PROFILE ++ rest)) (lit< tt) refl, field_again 2 (λ n. eqb n VERSION) Version VERSION (little_bytes 2 PROFILE ++ rest) (lit< tt) refl, field_again 2 (λ n. eqb n PROFILE) Profile PROFILE rest (lit< tt) refl) refl
 
 -- ---- code words
 

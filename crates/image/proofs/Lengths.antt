@@ -5,9 +5,9 @@ use Rattle.std.proofs.lemmas.List.Concat.{flat_map-cons}
 use Rattle.byteorder.specs.Endian.{little_bytes}
 use Rattle.byteorder.specs.Numbers.{length-bytes_low_first}
 use Rattle.image.specs.declared.limits.TheConstants.{LONGEST_IMAGE}
-use Rattle.image.specs.declared.slot.Slot.{Slot}
-use Rattle.image.specs.declared.slot.ResultSlot.{ResultSlot}
-use Rattle.image.specs.Fields.{Fields, IsImage}
+use Rattle.image_fields.specs.declared.slot.Slot.{Slot}
+use Rattle.image_fields.specs.declared.slot.ResultSlot.{ResultSlot}
+use Rattle.image_fields.specs.Fields.{Fields, IsImage}
 use Rattle.image.specs.private.Spelling.{preamble, spelled_slot, spelled_result, spelled_layout, spelled_code, spelling}
 
 slot_long : (slot : Slot) → length (spelled_slot slot) ≡ 9

@@ -4,8 +4,8 @@ use Rattle.std.proofs.lemmas.List.{append-nil}
 use Rattle.image.specs.declared.fields.Fault.{Fault}
 use Rattle.image.specs.declared.fields.ReadError.{ReadError}
 use Rattle.image.specs.declared.fields.ReadError.TheVariants as errors
-use Rattle.image.specs.declared.slot.Slot.{Slot}
-use Rattle.image.specs.Fields.{slot_end}
+use Rattle.image_fields.specs.declared.slot.Slot.{Slot}
+use Rattle.image_fields.specs.Fields.{slot_end}
 use Rattle.image.specs.private.Parts.{◌>>=◌, Fails, number_at, slot_at, slots_at, words_at}
 
 -- what was read before, and what is still read

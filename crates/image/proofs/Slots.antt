@@ -12,10 +12,10 @@ use Rattle.language.specs.declared.signature.Label.TheVariants.{Public, Secret}
 use Rattle.language.specs.declared.signature.Form.{Form}
 use Rattle.language.specs.declared.signature.Form.TheVariants.{SingleWord, FixedArray, MutableArray}
 use Rattle.language.specs.declared.limits.TheConstants.{MOST_ELEMENTS}
-use Rattle.image.specs.declared.slot.Slot.{Slot}
-use Rattle.image.specs.declared.slot.ResultSlot.{ResultSlot}
+use Rattle.image_fields.specs.declared.slot.Slot.{Slot}
+use Rattle.image_fields.specs.declared.slot.ResultSlot.{ResultSlot}
 use Rattle.image.specs.declared.fault.ImageRule.TheVariants.{FieldOutOfRange}
-use Rattle.image.specs.Fields.{slot_end, is_length, IsSlot, AreSlots, IsResultSlot}
+use Rattle.image_fields.specs.Fields.{slot_end, is_length, IsSlot, AreSlots, IsResultSlot}
 use Rattle.image.specs.private.Spelling.{kind_code, label_code, form_code, spelled_slot, spelled_result}
 use Rattle.image.specs.Reading.{is_offset}
 use Rattle.image.specs.private.Parts.{◌>>=◌, byte_at, field_at, coded_at, kind_of, label_of, form_of, slot_at, slots_at, result_slot_at, returned_at}

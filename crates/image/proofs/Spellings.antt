@@ -11,9 +11,10 @@ use Rattle.language.specs.declared.signature.Kind.{Kind}
 use Rattle.language.specs.declared.signature.Kind.TheVariants.{Boolean, Uint8, Uint16, Uint32}
 use Rattle.language.specs.declared.signature.Label.{Label}
 use Rattle.language.specs.declared.signature.Label.TheVariants.{Public, Secret}
-use Rattle.image.specs.declared.slot.Slot.{Slot}
-use Rattle.image.specs.declared.slot.ResultSlot.{ResultSlot}
-use Rattle.image.specs.Fields.{Fields, IsImage}
+use Rattle.image_fields.specs.declared.slot.Slot.{Slot}
+use Rattle.image_fields.specs.declared.slot.ResultSlot.{ResultSlot}
+use Rattle.image_fields.specs.Fields.{Fields, IsImage}
+use Rattle.image.specs.declared.preamble.TheConstants.{MAGIC, VERSION, PROFILE}
 use Rattle.image.specs.Reading.{AreBytes, Spells}
 use Rattle.image.specs.private.Spelling.{kind_code, label_code, form_code, preamble, spelled_slot, spelled_result, spelled_layout, spelled_code, spelling}
 use Rattle.image.proofs.Numbers.{IsBytes}
@@ -79,7 +80,9 @@ result_small None = (omega arith, tt)
 result_small (Some slot) = (omega arith, (kind_small slot.kind, (label_small slot.label, number_bytes 0 4 slot.offset)))
 
 preamble_small : AreBytes preamble
-preamble_small = (omega arith, (omega arith, (omega arith, (omega arith, (omega arith, (omega arith, (omega arith, (omega arith, tt))))))))
+preamble_small =
+    both_bytes (little_bytes 4 MAGIC) (little_bytes 2 VERSION ++ little_bytes 2 PROFILE) (number_bytes 0 4 MAGIC)
+    (both_bytes (little_bytes 2 VERSION) (little_bytes 2 PROFILE) (number_bytes 0 2 VERSION) (number_bytes 0 2 PROFILE))
 
 module _ (f : Fields) where
   layout_small : AreBytes (spelled_layout f)

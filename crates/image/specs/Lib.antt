@@ -1,5 +1,4 @@
 pub mod RuleNames
-pub mod Fields
 pub mod Format
 pub mod Reading
 pub mod Text

@@ -7,12 +7,14 @@ use Rattle.language.specs.declared.signature.Label.{Label}
 use Rattle.language.specs.declared.signature.Label.TheVariants.{Public, Secret}
 use Rattle.language.specs.declared.signature.Form.{Form}
 use Rattle.language.specs.declared.signature.Form.TheVariants.{SingleWord, FixedArray, MutableArray}
-use Rattle.image.specs.declared.slot.Slot.{Slot}
-use Rattle.image.specs.declared.slot.ResultSlot.{ResultSlot}
+use Rattle.image_fields.specs.declared.slot.Slot.{Slot}
+use Rattle.image_fields.specs.declared.slot.ResultSlot.{ResultSlot}
 use Rattle.image.specs.declared.fault.ImageRule.TheVariants.{Magic, Version, Profile, FieldOutOfRange}
 use Rattle.image.specs.declared.fault.ImageFault.{ImageFault}
 use Rattle.image.specs.declared.fault.ImageFault.TheVariants.{Field, Memory}
-use Rattle.image.specs.Fields.{Fields, slot_end, slots_end, result_end, is_length, MOST_PARAMETERS, MOST_FRAME_BYTES, MOST_STEPS, MOST_WORDS}
+use Rattle.image_fields.specs.Fields.{Fields, slot_end, slots_end, result_end, is_length}
+use Rattle.image_fields.specs.declared.limits.TheConstants.{MOST_PARAMETERS, MOST_FRAME_BYTES, MOST_STEPS, MOST_WORDS}
+use Rattle.image.specs.declared.preamble.TheConstants.{MAGIC, VERSION, PROFILE}
 use Rattle.image.specs.Format.{Format, ends, field, read_by}
 
 -- kinds, labels and forms by their codes, those from 0 to 3, to 1 and to 2
@@ -81,12 +83,12 @@ abbrev pub layout_end : ℕ → Option ResultSlot → ℕ
 layout_end low None = low
 layout_end low (Some slot) = result_end slot
 
--- The magic is the number of the bytes `FACI`.
+-- from the first field to the last
 unfoldable pub image_format : Format
 image_format =
-    field Magic 4 (λ n. n == 0x4943_4146) (λ magic.
-    field Version 2 (λ n. n == 1) (λ version.
-    field Profile 2 (λ n. n == 1) (λ profile.
+    field Magic 4 (λ n. n == MAGIC) (λ magic.
+    field Version 2 (λ n. n == VERSION) (λ version.
+    field Profile 2 (λ n. n == PROFILE) (λ profile.
     field FieldOutOfRange 2 (λ n. nat_le n MOST_PARAMETERS) (λ count.
     slots_format count 0 (λ slots.
     result_format (slots_end 0 slots) (λ returned.

@@ -2,22 +2,16 @@
 
 ghost use Rattle.std.specs.Prelude.{◌≡◌, ◌+◌, ◌%◌, ◌==◌, nat_le, length, Ok};
 ghost use Rattle.image.specs.declared.fields.ReadError.TheVariants.{Memory};
-ghost use Rattle.image.specs.Fields.{is_length};
+ghost use Rattle.image_fields.specs.Fields.{is_length};
 ghost use Rattle.image.specs.Reading.{is_offset, is_frame_size, is_step_limit, is_word_count};
 ghost use Rattle.image.specs.private.Parts.{Gives, Fails, byte_at, number_at, field_at, coded_at, kind_of, label_of, form_of, preamble_at, slot_at, result_slot_at, returned_at};
 
-use crate::limits::{MOST_FRAME_BYTES, MOST_PARAMETERS, MOST_STEPS, MOST_WORDS};
-use crate::{ImageRule, ResultSlot, Slot};
+use crate::ImageRule;
+use crate::preamble::{MAGIC, PROFILE, VERSION};
 use byteorder::{ByteOrder, LittleEndian};
+use image_fields::{MOST_FRAME_BYTES, MOST_PARAMETERS, MOST_STEPS, MOST_WORDS, ResultSlot, Slot};
 use language::{Form, Kind, Label, MOST_ELEMENTS, Param};
 use std::alloc::{AllocError, AllocFailed};
-
-/// The bytes `FACI`, as a number.
-const MAGIC: u32 = 0x4943_4146;
-
-const VERSION: u16 = 1;
-
-const PROFILE: u16 = 1;
 
 /// A field that is wrong.
 #[derive(Clone, Copy, Debug)]
@@ -101,7 +95,7 @@ fn read_u64(bytes: &[u8]) -> Result<(u64, &[u8]), ReadError>
 
 #[tactic(auto, unfolding(crate::specs::private::Parts::field_at))]
 fn read_magic(bytes: &[u8]) -> Result<(u32, &[u8]), ReadError>
-    ensures { Gives (λ x. (x.0, x.1.now)) result (field_at 4 (λ n. n == 0x4943_4146) ImageRule.Magic bytes.now) }
+    ensures { Gives (λ x. (x.0, x.1.now)) result (field_at 4 (λ n. n == MAGIC) ImageRule.Magic bytes.now) }
 {
     let (magic, rest) = read_u32(bytes)?;
     if magic != MAGIC {
@@ -112,7 +106,7 @@ fn read_magic(bytes: &[u8]) -> Result<(u32, &[u8]), ReadError>
 
 #[tactic(auto, unfolding(crate::specs::private::Parts::field_at))]
 fn read_version(bytes: &[u8]) -> Result<(u16, &[u8]), ReadError>
-    ensures { Gives (λ x. (x.0, x.1.now)) result (field_at 2 (λ n. n == 1) ImageRule.Version bytes.now) }
+    ensures { Gives (λ x. (x.0, x.1.now)) result (field_at 2 (λ n. n == VERSION) ImageRule.Version bytes.now) }
 {
     let (version, rest) = read_u16(bytes)?;
     if version != VERSION {
@@ -123,7 +117,7 @@ fn read_version(bytes: &[u8]) -> Result<(u16, &[u8]), ReadError>
 
 #[tactic(auto, unfolding(crate::specs::private::Parts::field_at))]
 fn read_profile(bytes: &[u8]) -> Result<(u16, &[u8]), ReadError>
-    ensures { Gives (λ x. (x.0, x.1.now)) result (field_at 2 (λ n. n == 1) ImageRule.Profile bytes.now) }
+    ensures { Gives (λ x. (x.0, x.1.now)) result (field_at 2 (λ n. n == PROFILE) ImageRule.Profile bytes.now) }
 {
     let (profile, rest) = read_u16(bytes)?;
     if profile != PROFILE {

@@ -1,48 +1,29 @@
 ghost use Rattle.std.specs.Prelude.{◌≡◌};
-ghost use Rattle.image.specs.Fields.{Fields, IsImage};
+ghost use Rattle.image_fields.specs.Fields.{Fields, IsImage};
 
-use crate::{ResultSlot, Slot};
+use image_fields::{ImageFields, ResultSlot, Slot};
 use std::marker::Model;
 
-/// A program for the machine: its code, and where its words lie in the frame.
+/// A program for the machine, as it was read: its code, and where its words lie in the frame.
 #[derive(Debug, Drop)]
 pub struct Image {
-    slots: Vec<Slot>,
-    returned: Option<ResultSlot>,
-    frame_bytes: u32,
-    max_steps: u64,
-    words: Vec<u32>,
+    fields: ImageFields,
 }
 
 impl Model for Image {
-    ghost use Rattle.image.specs.Fields.{Fields, IsImage};
+    ghost use Rattle.image_fields.specs.Fields.{Fields};
 
     ghost Value = { Fields };
 
-    ghost view = { λ i. record { slots = i.slots.items; returned = i.returned; frame_bytes = i.frame_bytes; max_steps = i.max_steps; words = i.words.items } };
-
-    ghost invariant = { λ i. IsImage (record { slots = i.slots.items; returned = i.returned; frame_bytes = i.frame_bytes; max_steps = i.max_steps; words = i.words.items }) };
+    ghost view = { λ i. i.fields };
 }
 
 impl Image {
-    /// An image of these fields, which have to be allowed.
-    pub fn new(
-        slots: Vec<Slot>,
-        returned: Option<ResultSlot>,
-        frame_bytes: u32,
-        max_steps: u64,
-        words: Vec<u32>,
-    ) -> Self
-        requires { IsImage (record { slots = slots.items; returned = returned; frame_bytes = frame_bytes; max_steps = max_steps; words = words.items }) }
-        ensures { result ≡ record { slots = slots.items; returned = returned; frame_bytes = frame_bytes; max_steps = max_steps; words = words.items } }
+    /// The image of these fields.
+    pub(crate) fn new(fields: ImageFields) -> Self
+        ensures { result ≡ fields }
     {
-        Image {
-            slots,
-            returned,
-            frame_bytes,
-            max_steps,
-            words,
-        }
+        Image { fields }
     }
 
     /// Where each parameter lies, in parameter order.
@@ -50,7 +31,7 @@ impl Image {
         ensures slots { result.now ≡ self.now.slots }
         ensures allowed { IsImage self.now }
     {
-        self.slots.as_slice()
+        self.fields.slots()
     }
 
     /// Where the result lies, where there is one.
@@ -58,7 +39,7 @@ impl Image {
         ensures returned { result ≡ self.now.returned }
         ensures allowed { IsImage self.now }
     {
-        self.returned
+        self.fields.returned()
     }
 
     /// How many bytes the frame has.
@@ -66,7 +47,7 @@ impl Image {
         ensures bytes { result ≡ self.now.frame_bytes }
         ensures allowed { IsImage self.now }
     {
-        self.frame_bytes
+        self.fields.frame_bytes()
     }
 
     /// How many instructions a run takes at most.
@@ -74,7 +55,7 @@ impl Image {
         ensures steps { result ≡ self.now.max_steps }
         ensures allowed { IsImage self.now }
     {
-        self.max_steps
+        self.fields.max_steps()
     }
 
     /// The code words.
@@ -82,6 +63,6 @@ impl Image {
         ensures words { result.now ≡ self.now.words }
         ensures allowed { IsImage self.now }
     {
-        self.words.as_slice()
+        self.fields.words()
     }
 }

@@ -1,8 +1,8 @@
 // Images: a program for the machine as bytes.
-// Bytes and fields determine each other: `write` gives the one spelling of an image's fields, and
-// `read` gives the fields of each spelling, and of other bytes the first fault from the left. Both are
+// Bytes and fields determine each other: `write` gives the one spelling of the fields of generated code, and
+// `read` gives the image of each spelling, and of other bytes the first fault from the left. Both are
 // stated by one format, the fields in their order.
-// It stands on the parameters' shapes of `language`, and writes and reads numbers by `byteorder`.
+// It stands on the fields of `image_fields` and the code of `codegen`, and writes and reads numbers by `byteorder`.
 #![tactic(auto)]
 
 mod fault;
@@ -10,14 +10,14 @@ mod fields;
 mod image;
 mod laws;
 mod limits;
+mod preamble;
 mod reading;
-mod slot;
 mod writing;
 
 pub use fault::{ImageFault, ImageRule};
 pub use image::Image;
 pub use laws::{allowed_fields_are_spelled, no_spelling_begins_another, one_spelling};
-pub use limits::{LONGEST_IMAGE, MOST_FRAME_BYTES, MOST_PARAMETERS, MOST_STEPS, MOST_WORDS};
+pub use limits::LONGEST_IMAGE;
+pub use preamble::{MAGIC, PROFILE, VERSION};
 pub use reading::read;
-pub use slot::{ResultSlot, Slot};
 pub use writing::write;

@@ -1,5 +1,5 @@
 ghost use Rattle.std.specs.Prelude.{◌≡◌, length, IfOk};
-ghost use Rattle.image.specs.Fields.{IsImage, slots_end};
+ghost use Rattle.image_fields.specs.Fields.{IsImage, slots_end};
 ghost use Rattle.image.specs.Reading.{IsUnlessMemory, reading};
 ghost use Rattle.image.specs.private.Parts.{Gives, slots_at, words_at, layout_at, code_at, layout_fields, code_fields, fields_of, all_of};
 
@@ -8,7 +8,8 @@ use crate::fields::{
     read_returned, read_slot, read_u32, read_word_count,
 };
 use crate::limits::{PARAMETER_BYTES, WORD_BYTES};
-use crate::{Image, ImageFault, ImageRule, ResultSlot, Slot};
+use crate::{Image, ImageFault, ImageRule};
+use image_fields::{ImageFields, ResultSlot, Slot};
 use std::alloc::Global;
 
 /// So many slots.
@@ -84,23 +85,23 @@ fn read_layout(alloc: Global, bytes: &[u8]) -> Result<(Layout, &[u8]), ReadError
 
 /// What runs.
 #[derive(Drop)]
-struct Code {
+struct CodePart {
     max_steps: u64,
     words: Vec<u32>,
 }
 
 #[tactic(auto, unfolding(crate::specs::private::Parts::code_at))]
-fn read_code(alloc: Global, bytes: &[u8]) -> Result<(Code, &[u8]), ReadError>
+fn read_code(alloc: Global, bytes: &[u8]) -> Result<(CodePart, &[u8]), ReadError>
     ensures { Gives (λ x. (code_fields x.0, x.1.now)) result (code_at bytes.now) }
 {
     let (max_steps, rest) = read_max_steps(bytes)?;
     let (count, rest) = read_word_count(rest)?;
     let (words, rest) = read_words(alloc, count, rest)?;
-    Ok((Code { max_steps, words }, rest))
+    Ok((CodePart { max_steps, words }, rest))
 }
 
 #[tactic(auto, unfolding(crate::specs::private::Parts::fields_at, crate::specs::private::Parts::all_of))]
-fn read_all(alloc: Global, bytes: &[u8]) -> Result<(Layout, Code), ReadError>
+fn read_all(alloc: Global, bytes: &[u8]) -> Result<(Layout, CodePart), ReadError>
     ensures { Gives (λ x. fields_of (layout_fields x.0) (code_fields x.1)) result (all_of bytes.now) }
 {
     let rest = read_preamble(bytes)?;
@@ -117,13 +118,13 @@ fn image_of(alloc: Global, bytes: &[u8]) -> Result<Image, ImageFault>
     ensures { IsUnlessMemory result (reading bytes.now) }
 {
     match read_all(alloc, bytes) {
-        Ok((layout, code)) => Ok(Image::new(
+        Ok((layout, code)) => Ok(Image::new(ImageFields::new(
             layout.slots,
             layout.returned,
             layout.frame_bytes,
             code.max_steps,
             code.words,
-        )),
+        ))),
         Err(ReadError::Memory) => Err(ImageFault::Memory),
         Err(ReadError::Fault(fault)) => Err(ImageFault::Field {
             rule: fault.rule,

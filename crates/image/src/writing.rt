@@ -1,13 +1,16 @@
-ghost use Rattle.std.specs.Prelude.{◌≡◌, ◌≤◌, ◌++◌, [], ◌∷◌, length, None, OnOk, IfOk, IfErr};
+ghost use Rattle.std.specs.Prelude.{◌≡◌, ◌≤◌, ◌++◌, [], ◌∷◌, length, OnOk, IfOk, IfErr};
 ghost use Rattle.std.specs.List.{flat_map};
 ghost use Rattle.byteorder.specs.Endian.{little_bytes};
+ghost use Rattle.language.specs.WantOfMemory.{IsWantOfMemory};
 ghost use Rattle.image.specs.Reading.{Spells};
 ghost use Rattle.image.specs.private.Spelling.{preamble, kind_code, label_code, form_code, spelled_slot, spelled_result, spelled_layout, spelled_code};
 
 use crate::limits::{FIXED_BYTES, LONGEST_IMAGE, PARAMETER_BYTES, WORD_BYTES};
-use crate::{Image, ResultSlot, Slot};
+use crate::preamble::{MAGIC, PROFILE, VERSION};
 use byteorder::{ByteOrder, LittleEndian};
-use language::{Form, Kind, Label, Refusal, Rule};
+use codegen::Code;
+use image_fields::{ImageFields, ResultSlot, Slot};
+use language::{Form, Kind, Label, Refusal};
 use std::alloc::{AllocError, Global};
 
 fn code_of_kind(kind: Kind) -> u8
@@ -67,7 +70,9 @@ fn put_u64(out: &mut Vec<u8>, n: u64) -> Result<(), AllocError>
 fn put_preamble(out: &mut Vec<u8>) -> Result<(), AllocError>
     ensures { OnOk result (out.new.items ≡ out.old.items ++ preamble) }
 {
-    out.extend_from_slice(b"FACI\x01\x00\x01\x00")
+    put_u32(out, MAGIC)?;
+    put_u16(out, VERSION)?;
+    put_u16(out, PROFILE)
 }
 
 fn put_slot(out: &mut Vec<u8>, slot: &Slot) -> Result<(), AllocError>
@@ -117,48 +122,45 @@ fn put_words(out: &mut Vec<u8>, words: &[u32]) -> Result<(), AllocError>
 }
 
 /// Where words lie.
-fn put_layout(out: &mut Vec<u8>, image: &Image) -> Result<(), AllocError>
-    ensures { OnOk result (out.new.items ≡ out.old.items ++ spelled_layout image.now) }
+fn put_layout(out: &mut Vec<u8>, fields: &ImageFields) -> Result<(), AllocError>
+    ensures { OnOk result (out.new.items ≡ out.old.items ++ spelled_layout fields.now) }
 {
-    let slots = image.slots();
+    let slots = fields.slots();
     put_u16(out, slots.len() as u16)?;
     put_slots(out, slots)?;
-    put_returned(out, image.returned())?;
-    put_u32(out, image.frame_bytes())
+    put_returned(out, fields.returned())?;
+    put_u32(out, fields.frame_bytes())
 }
 
 /// What runs.
-fn put_code(out: &mut Vec<u8>, image: &Image) -> Result<(), AllocError>
-    ensures { OnOk result (out.new.items ≡ out.old.items ++ spelled_code image.now) }
+fn put_code(out: &mut Vec<u8>, fields: &ImageFields) -> Result<(), AllocError>
+    ensures { OnOk result (out.new.items ≡ out.old.items ++ spelled_code fields.now) }
 {
-    let words = image.words();
-    put_u64(out, image.max_steps())?;
+    let words = fields.words();
+    put_u64(out, fields.max_steps())?;
     put_u32(out, words.len() as u32)?;
     put_words(out, words)
 }
 
-fn spelled(alloc: Global, image: &Image) -> Result<Vec<u8>, AllocError>
-    ensures spelled { IfOk result (λ bytes. Spells bytes.items image.now) }
+fn spelled(alloc: Global, fields: &ImageFields) -> Result<Vec<u8>, AllocError>
+    ensures spelled { IfOk result (λ bytes. Spells bytes.items fields.now) }
     ensures short { IfOk result (λ bytes. length bytes.items ≤ LONGEST_IMAGE) }
 {
     let room = FIXED_BYTES
-        + PARAMETER_BYTES * image.slots().len()
-        + WORD_BYTES * image.words().len();
+        + PARAMETER_BYTES * fields.slots().len()
+        + WORD_BYTES * fields.words().len();
     let mut out = Vec::with_capacity(alloc, room)?;
     put_preamble(&mut out)?;
-    put_layout(&mut out, image)?;
-    put_code(&mut out, image)?;
+    put_layout(&mut out, fields)?;
+    put_code(&mut out, fields)?;
     Ok(out)
 }
 
-/// The one spelling of an image.
-pub fn write(alloc: Global, image: &Image) -> Result<Vec<u8>, Refusal>
-    ensures spelled { IfOk result (λ bytes. Spells bytes.items image.now) }
+/// The one spelling of generated code.
+pub fn write(alloc: Global, code: &Code) -> Result<Vec<u8>, Refusal>
+    ensures spelled { IfOk result (λ bytes. Spells bytes.items code.now) }
     ensures short { IfOk result (λ bytes. length bytes.items ≤ LONGEST_IMAGE) }
-    ensures memory { IfErr result (λ refusal. (refusal.rule ≡ Rule.OutOfMemory) × (refusal.place ≡ None)) }
+    ensures memory { IfErr result (λ refusal. IsWantOfMemory refusal.rule refusal.place) }
 {
-    match spelled(alloc, image) {
-        Ok(bytes) => Ok(bytes),
-        Err(AllocError) => Err(Refusal::memory()),
-    }
+    Ok(spelled(alloc, code.fields())?)
 }

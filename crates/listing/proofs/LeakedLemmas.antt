@@ -4,7 +4,7 @@ use Rattle.arguments.specs.Faults.{fault_of}
 use Rattle.arguments.specs.declared.fault.ArgumentFault.{ArgumentFault}
 use Rattle.codegen.specs.Loaded.{params_of, code_at, loaded_at}
 use Rattle.hepurita.specs.Bases.{code_base, frame_base}
-use Rattle.image.specs.Fields.{Fields}
+use Rattle.image_fields.specs.Fields.{Fields}
 use Rattle.language.specs.declared.values.Arg.{Arg}
 use Rattle.rv_machine.specs.Machine.{State, Code}
 use Rattle.rv_machine.specs.declared.observation.Observation.{Observation}

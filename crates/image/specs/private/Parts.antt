@@ -7,16 +7,18 @@ use Rattle.language.specs.declared.signature.Label.{Label}
 use Rattle.language.specs.declared.signature.Label.TheVariants.{Public, Secret}
 use Rattle.language.specs.declared.signature.Form.{Form}
 use Rattle.language.specs.declared.signature.Form.TheVariants.{SingleWord, FixedArray, MutableArray}
-use Rattle.image.specs.declared.slot.Slot.{Slot}
-use Rattle.image.specs.declared.slot.ResultSlot.{ResultSlot}
+use Rattle.image_fields.specs.declared.slot.Slot.{Slot}
+use Rattle.image_fields.specs.declared.slot.ResultSlot.{ResultSlot}
 use Rattle.image.specs.declared.fault.ImageRule.{ImageRule}
 use Rattle.image.specs.declared.fault.ImageRule.TheVariants.{Magic, Version, Profile, Truncated, FieldOutOfRange, TrailingBytes}
+use Rattle.image.specs.declared.preamble.TheConstants.{MAGIC, VERSION, PROFILE}
 use Rattle.image.specs.declared.fields.Fault.{Fault}
 use Rattle.image.specs.declared.fields.ReadError.{ReadError}
 use Rattle.image.specs.declared.fields.ReadError.TheVariants as errors
 use Rattle.image.specs.declared.reading.Layout.{Layout}
-use Rattle.image.specs.declared.reading.Code.{Code}
-use Rattle.image.specs.Fields.{Fields, slot_end, slots_end, is_length, MOST_PARAMETERS}
+use Rattle.image.specs.declared.reading.CodePart.{CodePart}
+use Rattle.image_fields.specs.Fields.{Fields, slot_end, slots_end, is_length}
+use Rattle.image_fields.specs.declared.limits.TheConstants.{MOST_PARAMETERS}
 use Rattle.image.specs.Reading.{is_offset, is_frame_size, is_step_limit, is_word_count, layout_end}
 
 infixl 10 ◌>>=◌
@@ -73,12 +75,12 @@ form_of (suc zero) = Some FixedArray
 form_of (suc (suc zero)) = Some MutableArray
 form_of (suc (suc (suc n))) = None
 
--- magic, version and profile, and what stands after them. The magic is a number too, that of the bytes `FACI`.
+-- magic, version and profile, and what stands after them
 unfoldable pub preamble_at : List ℕ → Result (List ℕ) Fault
 preamble_at bytes = do
-  magic ← field_at 4 (λ n. n == 0x4943_4146) Magic bytes
-  version ← field_at 2 (λ n. n == 1) Version magic.1
-  profile ← field_at 2 (λ n. n == 1) Profile version.1
+  magic ← field_at 4 (λ n. n == MAGIC) Magic bytes
+  version ← field_at 2 (λ n. n == VERSION) Version magic.1
+  profile ← field_at 2 (λ n. n == PROFILE) Profile version.1
   Ok profile.1
 
 -- a slot, the one before it ending at `low`
@@ -180,5 +182,5 @@ Gives view (Err e) read = Fails e read
 abbrev pub layout_fields : Layout → LayoutFields
 layout_fields layout = record { slots = layout.slots.items; returned = layout.returned; frame_bytes = layout.frame_bytes }
 
-abbrev pub code_fields : Code → CodeFields
+abbrev pub code_fields : CodePart → CodeFields
 code_fields code = record { max_steps = code.max_steps; words = code.words.items }

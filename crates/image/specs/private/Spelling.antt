@@ -1,5 +1,5 @@
 -- The bytes of an image, as the writer puts them: its fields in order, each number with its lowest byte first.
-use Rattle.std.specs.Prelude.{ℕ, List, [], ◌∷◌, ◌++◌, length, Option, Some, None, codes}
+use Rattle.std.specs.Prelude.{ℕ, List, [], ◌∷◌, ◌++◌, length, Option, Some, None}
 use Rattle.std.specs.List.{flat_map}
 use Rattle.byteorder.specs.Endian.{little_bytes}
 use Rattle.language.specs.declared.signature.Kind.{Kind}
@@ -8,9 +8,10 @@ use Rattle.language.specs.declared.signature.Label.{Label}
 use Rattle.language.specs.declared.signature.Label.TheVariants.{Public, Secret}
 use Rattle.language.specs.declared.signature.Form.{Form}
 use Rattle.language.specs.declared.signature.Form.TheVariants.{SingleWord, FixedArray, MutableArray}
-use Rattle.image.specs.declared.slot.Slot.{Slot}
-use Rattle.image.specs.declared.slot.ResultSlot.{ResultSlot}
-use Rattle.image.specs.Fields.{Fields}
+use Rattle.image_fields.specs.declared.slot.Slot.{Slot}
+use Rattle.image_fields.specs.declared.slot.ResultSlot.{ResultSlot}
+use Rattle.image_fields.specs.Fields.{Fields}
+use Rattle.image.specs.declared.preamble.TheConstants.{MAGIC, VERSION, PROFILE}
 
 abbrev pub kind_code : Kind → ℕ
 kind_code Boolean = 0
@@ -29,7 +30,7 @@ form_code MutableArray = 2
 
 -- magic, version and profile
 abbrev pub preamble : List ℕ
-preamble = codes "FACI" ++ (little_bytes 2 1 ++ little_bytes 2 1)
+preamble = little_bytes 4 MAGIC ++ (little_bytes 2 VERSION ++ little_bytes 2 PROFILE)
 
 abbrev pub spelled_slot : Slot → List ℕ
 spelled_slot slot =

@@ -1,6 +1,6 @@
 use Rattle.std.proofs.Common.{◌≡◌, drop, max}
 use Rattle.inline.specs.Flat.{flat_block}
-use Rattle.branch_removal.specs.Removal.{controls_in_all}
+use Rattle.branch_removal.specs.private.Removal.{controls_in_all}
 use Rattle.branch_removal.proofs.controls.+controls.Given as goal
 
 -- the most so far and what is left give what all statements take

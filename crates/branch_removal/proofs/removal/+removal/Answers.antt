@@ -1,7 +1,7 @@
 use Rattle.std.proofs.Common.{◌≡◌, ◌+◌, ◌∷◌, drop, map, rules, arith, refl, sym, ap, ◌∙◌}
 use Rattle.std.proofs.lemmas.List.{at_drop_all, drop_more}
 use Rattle.inline.specs.Flat.{flat_block, flat_tree, term_tree}
-use Rattle.branch_removal.specs.Removal.{made, own_controls, removed, removed_all}
+use Rattle.branch_removal.specs.private.Removal.{made, own_controls, removed, removed_all}
 use Rattle.branch_removal.specs.Straight.{chain, straight_block}
 use Rattle.branch_removal.proofs.Statements.{accepted_fewer, accepted_smaller, otherwise_fewer, otherwise_smaller, controls_of_loop, body_smaller, smaller_here, chain-nothing, passed, fewer_here, fewer_behind, code_of_one, code_of_secret, code_of_public, code_of_loop, pushed, pushed_branch, pushed_loop}
 use Rattle.branch_removal.proofs.removal.+removal.Goals as goal

@@ -1,14 +1,61 @@
-use Rattle.std.proofs.Common.{sym, subst}
-use Rattle.std.proofs.lemmas.Result.{IfOk-weaker}
+use Rattle.std.proofs.Common.{◌≡◌, ℕ, List, ap, ap₂, sym, subst, ◌∙◌, arith}
+use Rattle.codegen.specs.Emitted.{depth_in_all}
 use Rattle.codegen.specs.Followed.{IsGenerated}
+use Rattle.codegen.specs.Room.{frame_of}
 use Rattle.codegen.proofs.GeneratedLemmas.{is_generated}
+use Rattle.codegen.proofs.ImageLemmas.{room_frame}
 use Rattle.codegen.proofs.RoomLemmas.{has_room}
+use Rattle.expression_code.specs.Layout.{Frame, temporaries_offset}
+use Rattle.image_fields.specs.Fields.{Fields}
+use Rattle.inline.specs.declared.flat.FlatVariable.{FlatVariable}
+use Rattle.inline.specs.FlatSize.{declared_words}
 use Rattle.codegen.proofs.generator.generate.Goals as goal
 
-pub listed-requires : goal.listed-requires
-listed-requires c = has_room c.args.straight.now c.requires.typed c.requires.bounded
-
-pub returns : goal.returns
-returns c =
+pub greatest_depth-depths-requires : goal.greatest_depth-depths-requires
+greatest_depth-depths-requires c =
     let p = c.args.straight.now in
-    IfOk-weaker c.listed.result _ _ (λ image is. subst (IsGenerated p) (sym is) (is_generated p c.requires.typed c.requires.bounded)) c.listed.ensures
+    let room = has_room p c.body.ensures.kept.typed c.body.ensures.kept.bounded in
+    let same = ap depth_in_all c.body.ensures.body in
+    let frame = room.frame in
+    let nodes = room.nodes in
+    omega (arith, same, frame, nodes)
+
+pub offsets-requires : goal.offsets-requires
+offsets-requires c =
+    let p = c.args.straight.now in
+    let room = has_room p c.body.ensures.kept.typed c.body.ensures.kept.bounded in
+    let same = ap declared_words c.declared-declared.ensures in
+    let few = room.declared in
+    omega (arith, same, few)
+
+pub new-layout-requires-clause-room : goal.new-layout-requires-clause-room
+new-layout-requires-clause-room c =
+    let p = c.args.straight.now in
+    let room = has_room p c.body.ensures.kept.typed c.body.ensures.kept.bounded in
+    let made : List FlatVariable → ℕ → ℕ → Frame = λ declared controls depths. record { declared = declared; controls = controls; depths = depths } in
+    let depths = c.greatest_depth-depths.ensures ∙ ap depth_in_all c.body.ensures.body in
+    let laid : made c.declared-declared.result.now c.controls.result c.greatest_depth-depths.result ≡ frame_of p =
+    ap (λ declared. made declared c.controls.result c.greatest_depth-depths.result) c.declared-declared.ensures
+    ∙ ap₂ (made p.declared) c.controls.ensures depths in
+    let same = ap (λ (f : Frame). temporaries_offset f.declared f.controls f.depths) laid in
+    let frame = room_frame p room in
+    omega (arith, same, frame)
+
+pub listed-requires : goal.listed-requires
+listed-requires c =
+    let p = c.args.straight.now in
+    let made : List FlatVariable → ℕ → ℕ → Frame = λ declared controls depths. record { declared = declared; controls = controls; depths = depths } in
+    let depths = c.greatest_depth-depths.ensures ∙ ap depth_in_all c.body.ensures.body in
+    record {
+      room = has_room p c.body.ensures.kept.typed c.body.ensures.kept.bounded;
+      frame =
+          c.new-layout.ensures
+          ∙ (ap (λ declared. made declared c.controls.result c.greatest_depth-depths.result) c.declared-declared.ensures
+          ∙ ap₂ (made p.declared) c.controls.ensures depths);
+    }
+
+pub returns-clause-generated : goal.returns-clause-generated
+returns-clause-generated c =
+    let p = c.args.straight.now in
+    let room = has_room p c.body.ensures.kept.typed c.body.ensures.kept.bounded in
+    subst (λ (fields : Fields). IsGenerated p fields) (sym (c.new.ensures ∙ c.in_ok-fields.ensures.exact)) (is_generated p room)

@@ -2,7 +2,7 @@ use Rattle.std.proofs.Common.{◌++◌, List, ap, ◌∙◌}
 use Rattle.expression_code.specs.Layout.{slots_from}
 use Rattle.expression_code.proofs.OffsetLemmas.{slots_more, low_more}
 use Rattle.expression_code.proofs.layout.slots.Goals as goal
-use Rattle.image.specs.declared.slot.Slot.{Slot}
+use Rattle.image_fields.specs.declared.slot.Slot.{Slot}
 use Rattle.std.proofs.Common.{drop, ◌+◌, ◌*◌}
 
 -- src/layout.rt:146:5

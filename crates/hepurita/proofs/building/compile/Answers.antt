@@ -1,5 +1,5 @@
-use Rattle.std.proofs.Common.{◌≡◌, ℕ, length, List, sym, subst, ap, ◌∙◌}
-use Rattle.std.proofs.lemmas.Result.{err_from_is_err_and}
+use Rattle.std.proofs.Common.{◌≡◌, inl, length, sym, subst, ap, ◌∙◌}
+use Rattle.std.proofs.lemmas.Result.{err_from_is_err_and, IfOk-weaker, IfErr-weaker}
 use Rattle.branch_removal.specs.Removed.{IsRemoved}
 use Rattle.inline.specs.Flat.{FlatProgram}
 use Rattle.inline.specs.FlatSize.{IsSized}
@@ -38,8 +38,13 @@ remove-requires c =
       safe = subst (λ (r : RangedProgram). IsSafe r.flat r.turns) (sym is) safe;
     }
 
-pub generate-requires : goal.generate-requires
-generate-requires c = record { typed = c.in_ok-straight.ensures.typed; bounded = c.in_ok-straight.ensures.bounded }
+pub returns-in_err-straight-clause-refused : goal.returns-in_err-straight-clause-refused
+returns-in_err-straight-clause-refused c =
+    let p = err_from_is_err_and c.from_residual-in_err-straight.result c.from_residual-in_err-straight.ensures.1 in
+    rw (p.1, p.2) (inl c.in_err-straight.ensures.memory)
+
+pub returns-clause-refused : goal.returns-clause-refused
+returns-clause-refused c = IfErr-weaker c.generate.result _ _ (λ refusal none. inl none) c.generate.ensures.memory
 
 pub returns-clause-accepted : goal.returns-clause-accepted
 returns-clause-accepted c =
@@ -47,4 +52,5 @@ returns-clause-accepted c =
     let is = c.in_ok-ranged.ensures.accepted ∙ ap ranged made.3 in
     let in_range = subst (λ (f : FlatProgram). length (range_violations f) ≡ 0) made.3 c.in_ok-ranged.ensures.in_range in
     let in_time = subst (λ (f : FlatProgram). length (work_violations f) ≡ 0) made.3 c.in_ok-ranged.ensures.worked in
-    (made.0, made.1, fine made.2 in_range in_time, (c.in_ok-straight.straight, subst (λ (r : RangedProgram). IsRemoved r c.in_ok-straight.straight) is c.in_ok-straight.ensures, c.in_ok-image.ensures))
+    let removed = subst (λ (r : RangedProgram). IsRemoved r c.in_ok-straight.straight) is c.in_ok-straight.ensures.removed in
+    IfOk-weaker c.generate.result _ _ (λ code generated. (made.0, made.1, fine made.2 in_range in_time, (c.in_ok-straight.straight, removed, generated))) c.generate.ensures.generated

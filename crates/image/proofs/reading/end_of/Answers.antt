@@ -1,6 +1,6 @@
 use Rattle.std.proofs.Common.{◌≡◌, ℕ, suc, ◌-◌, ◌≤◌, List, [], ◌∷◌, length, get_or, refl, ◌∙◌, arith}
-use Rattle.image.specs.declared.slot.Slot.{Slot}
-use Rattle.image.specs.Fields.{slot_end, slots_end}
+use Rattle.image_fields.specs.declared.slot.Slot.{Slot}
+use Rattle.image_fields.specs.Fields.{slot_end, slots_end}
 use Rattle.image.proofs.reading.end_of.Goals as goal
 
 -- slots end where the last of them does

@@ -14,8 +14,8 @@ returns c =
     let old = c.args.out.now.items in
     let mid = c.put_u64.new.out.items in
     let new = c.put_u32.new.out.items in
-    let steps : mid ≡ old ++ little_bytes 8 c.args.image.now.max_steps = c.in_ok-put_u64.ensures ∙ ap (λ (n : ℕ). old ++ little_bytes 8 n) c.max_steps.ensures.steps in
-    let count : new ≡ mid ++ little_bytes 4 (length c.args.image.now.words) = c.in_ok-put_u32.ensures ∙ ap (λ (words : List ℕ). mid ++ little_bytes 4 (length words)) c.words-words.ensures.words in
-    let words : new ++ flat_map (λ word. little_bytes 4 word) c.words-words.result.now ≡ new ++ flat_map (λ word. little_bytes 4 word) c.args.image.now.words = ap (λ (words : List ℕ). new ++ flat_map (λ word. little_bytes 4 word) words) c.words-words.ensures.words in
-    let parts = three_put old (little_bytes 8 c.args.image.now.max_steps) (little_bytes 4 (length c.args.image.now.words)) (flat_map (λ word. little_bytes 4 word) c.args.image.now.words) mid new steps count in
-    IfOk-equal c.put_words.result c.put_words.new.out.items (new ++ flat_map (λ word. little_bytes 4 word) c.words-words.result.now) (old ++ spelled_code c.args.image.now) c.put_words.ensures (words ∙ parts)
+    let steps : mid ≡ old ++ little_bytes 8 c.args.fields.now.max_steps = c.in_ok-put_u64.ensures ∙ ap (λ (n : ℕ). old ++ little_bytes 8 n) c.max_steps.ensures.steps in
+    let count : new ≡ mid ++ little_bytes 4 (length c.args.fields.now.words) = c.in_ok-put_u32.ensures ∙ ap (λ (words : List ℕ). mid ++ little_bytes 4 (length words)) c.words-words.ensures.words in
+    let words : new ++ flat_map (λ word. little_bytes 4 word) c.words-words.result.now ≡ new ++ flat_map (λ word. little_bytes 4 word) c.args.fields.now.words = ap (λ (words : List ℕ). new ++ flat_map (λ word. little_bytes 4 word) words) c.words-words.ensures.words in
+    let parts = three_put old (little_bytes 8 c.args.fields.now.max_steps) (little_bytes 4 (length c.args.fields.now.words)) (flat_map (λ word. little_bytes 4 word) c.args.fields.now.words) mid new steps count in
+    IfOk-equal c.put_words.result c.put_words.new.out.items (new ++ flat_map (λ word. little_bytes 4 word) c.words-words.result.now) (old ++ spelled_code c.args.fields.now) c.put_words.ensures (words ∙ parts)

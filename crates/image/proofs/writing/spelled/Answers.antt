@@ -8,10 +8,10 @@ use Rattle.image.proofs.writing.spelled.Goals as goal
 
 pub returns-clause-spelled : goal.returns-clause-spelled
 returns-clause-spelled c =
-    let is : c.put_code.new.out.items ≡ spelling c.args.image.now = search rules in
-    ap reading is ∙ reading_again c.args.image.now c.slots.ensures.allowed
+    let is : c.put_code.new.out.items ≡ spelling c.args.fields.now = search rules in
+    ap reading is ∙ reading_again c.args.fields.now c.slots.ensures.allowed
 
 pub returns-clause-short : goal.returns-clause-short
 returns-clause-short c =
-    let is : c.put_code.new.out.items ≡ spelling c.args.image.now = search rules in
-    subst (λ bytes. length bytes ≤ LONGEST_IMAGE) (sym is) (short c.args.image.now c.slots.ensures.allowed)
+    let is : c.put_code.new.out.items ≡ spelling c.args.fields.now = search rules in
+    subst (λ bytes. length bytes ≤ LONGEST_IMAGE) (sym is) (short c.args.fields.now c.slots.ensures.allowed)

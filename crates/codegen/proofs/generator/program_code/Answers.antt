@@ -7,7 +7,7 @@ use Rattle.codegen.specs.Placed.{HavePlaces}
 use Rattle.expression_code.specs.TermCode.{IsAmong}
 use Rattle.codegen.proofs.RoomLemmas.{result_among, body_placed}
 use Rattle.inline.specs.Flat.{term_tree}
-use Rattle.codegen.proofs.generator.code.Goals as goal
+use Rattle.codegen.proofs.generator.program_code.Goals as goal
 
 pub statements-requires : goal.statements-requires
 statements-requires c =
@@ -16,7 +16,7 @@ statements-requires c =
     record {
       placed =
           subst (λ (frame : Frame). HavePlaces frame.declared frame.controls frame.depths 0 body) (sym c.requires.frame)
-          (subst (λ (b : StraightBlock). HavePlaces p.declared p.controls (depth_in_all p.body) 0 b) (sym c.body.ensures) (body_placed p c.requires.room));
+          (subst (λ (b : StraightBlock). HavePlaces p.declared p.controls (depth_in_all p.body) 0 b) (sym c.body.ensures.body) (body_placed p c.requires.room));
     }
 
 pub expression-requires-clause-among : goal.expression-requires-clause-among

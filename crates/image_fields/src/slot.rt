@@ -1,5 +1,5 @@
 ghost use Rattle.std.specs.Prelude.{◌≡◌, ◌+◌};
-ghost use Rattle.image.specs.Fields.{slot_end, result_end};
+ghost use Rattle.image_fields.specs.Fields.{slot_end, result_end};
 
 use language::{Kind, Label, Param};
 

@@ -1,0 +1,34 @@
+ghost use Rattle.std.specs.Prelude.{◌≡◌};
+
+use image_fields::ImageFields;
+use std::marker::Model;
+
+/// Generated code: the fields of a program's image. Nothing but `generate` makes it.
+#[derive(Debug, Drop)]
+pub struct Code {
+    fields: ImageFields,
+}
+
+impl Model for Code {
+    ghost use Rattle.image_fields.specs.Fields.{Fields};
+
+    ghost Value = { Fields };
+
+    ghost view = { λ c. c.fields };
+}
+
+impl Code {
+    /// The code of these fields.
+    pub(crate) fn new(fields: ImageFields) -> Self
+        ensures { result ≡ fields }
+    {
+        Code { fields }
+    }
+
+    /// The fields of its image.
+    pub fn fields(&self) -> &ImageFields
+        ensures { result.now ≡ self.now }
+    {
+        &self.fields
+    }
+}

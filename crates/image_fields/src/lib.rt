@@ -1,0 +1,12 @@
+// The fields of an image: a program's code words, where its words lie in the frame, and how long it may run;
+// and which values these may have. The code generator makes them, and bytes spell them.
+// It stands on the parameters' shapes of `language`.
+#![tactic(auto)]
+
+mod fields;
+mod limits;
+mod slot;
+
+pub use fields::ImageFields;
+pub use limits::{MOST_FRAME_BYTES, MOST_PARAMETERS, MOST_STEPS, MOST_WORDS};
+pub use slot::{ResultSlot, Slot};
