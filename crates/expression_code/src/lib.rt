@@ -8,6 +8,7 @@ mod expressions;
 mod laws;
 mod layout;
 mod operators;
+mod temporaries;
 
 pub use expressions::{expression, height};
 pub use laws::expressions_are_computed;
