@@ -47,7 +47,7 @@ use Rattle.expression_code.proofs.Places.{place_of, place_aligned}
 use Rattle.expression_code.proofs.Steps.{Inside, Moves, dividing, loading_at}
 use Rattle.expression_code.proofs.Straight.{Setting, base_of, fine_right, none, Steps, Runs, seq, quiet, quietly, weaken, cheaper, as_code}
 use Rattle.expression_code.proofs.TermLengths.{constant_length, cut_length, operator_length, prefix_length, rotate_length}
-use Rattle.expression_code.proofs.Temporaries.{Made, lower_spare, fetch_runs, keeps}
+use Rattle.expression_code.proofs.Fetching.{Made, lower_spare, fetch_runs, keeps}
 use Rattle.expression_code.proofs.Values.{Ready, Valued, Kept, Lower, kept_less, kept_by, kept_then, lower_then, lower_less, holds_lower, holds_still, place_below, ready_after}
 
 -- what an expression puts on the path
@@ -232,9 +232,9 @@ module _ (z : Setting) (free : ℕ) (aligned : free % 4 ≡ 0) (above : base_of 
   still_ready : (place : ℕ) (env : StraightState) (s t : machine.State) → Ready z env s → HeldAt z t → Kept z (slot_of free place) s t → Ready z env t
   still_ready place env s t ready held kept = ready_after z env s t ready held (kept_less z (base_of z) (slot_of free place) s t (omega (arith, above)) kept)
 
-  -- a temporary of the next place may be written
-  kept_next : (place : ℕ) (s t : machine.State) → Kept z (slot_of free (place + 1)) s t → Kept z (slot_of free place) s t
-  kept_next place s t kept = kept_less z (slot_of free place) (slot_of free (place + 1)) s t (omega arith) kept
+  -- where a temporary of a higher place is written
+  kept_lower : (place more : ℕ) (s t : machine.State) → place ≤ more → Kept z (slot_of free more) s t → Kept z (slot_of free place) s t
+  kept_lower place more s t less kept = kept_less z (slot_of free place) (slot_of free more) s t (omega (arith, less)) kept
 
   abbrev HasSlot : ℕ → Type 0
   HasSlot place = free + 4 * slots_to place ≤ z.size
@@ -342,7 +342,7 @@ module _ (z : Setting) (free : ℕ) (aligned : free % 4 ≡ 0) (above : base_of 
       record {
         held = five.held;
         there = five.there;
-        kept = kept_then z k s u1 t one'.kept (kept_then z k u1 u2 t (kept_next place u1 u2 two.kept) (kept_by z k u2 t (five.same ∙ (four.same ∙ three.same))));
+        kept = kept_then z k s u1 t one'.kept (kept_then z k u1 u2 t (kept_lower place (place + 1) u1 u2 (omega arith) two.kept) (kept_by z k u2 t (five.same ∙ (four.same ∙ three.same))));
         lower =
             lower_then place s u1 t one'.lower
             (lower_then place u1 u2 t (lower_less place (place + 1) u1 u2 (omega arith) two.lower)
@@ -420,8 +420,8 @@ module _ (z : Setting) (free : ℕ) (aligned : free % 4 ≡ 0) (above : base_of 
         there = ap (λ (regs : ℕ → ℕ). regs x) seven.registers ∙ (choice_made x y x_free y_free xy w w_free xw yw t6.regs ∙ (picked ∙ choice c a b (omega (arith, truth')) a_fits b_fits));
         kept =
             kept_then z k s t1 t one.kept
-            (kept_then z k t1 t2 t (kept_next place t1 t2 two.kept)
-            (kept_then z k t2 t3 t (kept_next place t2 t3 (kept_next (place + 1) t2 t3 three.kept)) (kept_by z k t3 t (seven.same ∙ (six.same ∙ (five.same ∙ four.same))))));
+            (kept_then z k t1 t2 t (kept_lower place (place + 1) t1 t2 (omega arith) two.kept)
+            (kept_then z k t2 t3 t (kept_lower place (place + 2) t2 t3 (omega arith) three.kept) (kept_by z k t3 t (seven.same ∙ (six.same ∙ (five.same ∙ four.same))))));
         lower =
             lower_then place s t1 t one.lower
             (lower_then place t1 t2 t (lower_less place (place + 1) t1 t2 (omega arith) two.lower)
@@ -437,7 +437,7 @@ module _ (z : Setting) (free : ℕ) (aligned : free % 4 ≡ 0) (above : base_of 
       (seq z
       (seq z first second (λ env s t ready done. still_ready place env s t ready done.held done.kept))
       third
-      (λ env s t ready done. still_ready place env s t ready done.second.held (kept_then z k s done.middle t done.first.kept (kept_next place done.middle t done.second.kept))))
+      (λ env s t ready done. still_ready place env s t ready done.second.held (kept_then z k s done.middle t done.first.kept (kept_lower place (place + 1) done.middle t (omega arith) done.second.kept))))
       (fetch_runs z free aligned place (omega (arith, room)) 29 (omega arith) (omega arith) (value condition))
       (λ env s t ready done.
       let mid = done.middle in

@@ -11,7 +11,7 @@ pub mod Operations
 pub mod Masks
 pub mod Places
 pub mod Values
-pub mod Temporaries
+pub mod Fetching
 pub mod TermLengths
 pub mod TermTypes
 pub mod Elements

@@ -1,5 +1,5 @@
 -- How many temporaries an expression has at once, and how many instructions it is.
-use Rattle.std.proofs.Common.{ℕ, ◌+◌, ◌*◌, ◌%◌, ◌≤◌, ◌==◌, Bool, true, false, cond, nat_lt, List, length, max, arith, length-append}
+use Rattle.std.proofs.Common.{ℕ, ◌+◌, ◌*◌, ◌%◌, ◌≤◌, ◌==◌, Bool, true, false, cond, nat_lt, List, ◌++◌, length, max, arith, length-append}
 use Rattle.std.proofs.Math.Nat.{max-le}
 use Rattle.expression_code.specs.Layout.{variable_offset}
 use Rattle.expression_code.specs.Registers.{home, slot_of}
