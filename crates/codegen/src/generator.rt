@@ -3,7 +3,7 @@ ghost use Rattle.std.specs.Option.{option_map};
 ghost use Rattle.branch_removal.specs.Bounds.{IsBounded};
 ghost use Rattle.branch_removal.specs.StraightTyping.{IsTypedStraight};
 ghost use Rattle.codegen.specs.Followed.{IsGenerated};
-ghost use Rattle.codegen.specs.Generated.{program_code, program_height, result_slot, step_limit, image_of};
+ghost use Rattle.codegen.specs.Generated.{program_code, program_slots, result_slot, step_limit, image_of};
 ghost use Rattle.codegen.specs.Room.{HasRoom, frame_of};
 ghost use Rattle.intervals.specs.declared.limits.TheConstants.{MOST_WORK};
 ghost use Rattle.rv_code.specs.Words.{word_of};
@@ -11,7 +11,7 @@ ghost use Rattle.rv_code.specs.Words.{word_of};
 use crate::heights::{greatest_depth, greatest_height};
 use crate::statements::statements;
 use branch_removal::Straight;
-use expression_code::{Layout, WORD_BYTES, emit, expression, height, offsets, slots};
+use expression_code::{Layout, REGISTER_COUNT, WORD_BYTES, emit, expression, height, offsets, slots};
 use image::{Image, ResultSlot};
 use rv_code::{Instr, Reg, encode};
 use std::alloc::{AllocError, Global};
@@ -41,7 +41,7 @@ fn code(
     let mut code = Vec::new(alloc);
     statements(alloc, &mut code, layout, 0, straight.body())?;
     if let Some(value) = straight.value() {
-        expression(&mut code, layout, layout.temporaries(), value)?;
+        expression(&mut code, layout, 0, value)?;
         emit::store(&mut code, Reg::X5, layout.result())?;
     }
     code.push(Instr::Ecall)?;
@@ -51,13 +51,14 @@ fn code(
 /// How many slots the temporaries of a program take.
 fn temporaries(straight: &Straight<'_>) -> u32
     requires { HasRoom straight.now }
-    ensures { result ≡ program_height straight.now }
+    ensures { result ≡ program_slots straight.now }
 {
     let result = match straight.value() {
         Some(value) => height(value),
         None => 0,
     };
-    greatest_height(straight.body()).max(result)
+    let height = greatest_height(straight.body()).max(result);
+    (height + 1).saturating_sub(REGISTER_COUNT)
 }
 
 /// The slot of the result, where there is one.

@@ -12,4 +12,4 @@ mod temporaries;
 
 pub use expressions::{expression, height};
 pub use laws::expressions_are_computed;
-pub use layout::{Layout, WORD_BYTES, offsets, slots};
+pub use layout::{Layout, REGISTER_COUNT, WORD_BYTES, offsets, slots};
