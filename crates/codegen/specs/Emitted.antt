@@ -3,7 +3,7 @@ use Rattle.std.specs.Prelude.{ℕ, ◌+◌, ◌*◌, List, [], ◌∷◌, ◌++�
 use Rattle.branch_removal.specs.Straight.{StraightTree, set, clear, fill, put, take, set_under, put_under, branch, repeats, StraightBlock, nothing, first}
 use Rattle.codegen.specs.Jumps.{branch_code, loop_code}
 use Rattle.expression_code.specs.Layout.{variable_offset, control_offset, next_offset, temporaries_offset}
-use Rattle.expression_code.specs.Registers.{zero_register, frame_register, value_register, left_register, condition_register, address_register}
+use Rattle.expression_code.specs.Registers.{zero_register, frame_register, value_register, second_register, third_register, address_register, first_spare}
 use Rattle.expression_code.specs.TermCode.{is_near, upper_part, lower_part, load_code, store_code, constant_code, address_code, load_by, kind_at, expr_code, height_of}
 use Rattle.inline.specs.declared.flat.FlatVariable.{FlatVariable}
 use Rattle.inline.specs.Flat.{TermTree}
@@ -23,27 +23,24 @@ use Rattle.language.specs.Size.{element_bytes, array_words}
 -- of a condition in the value register, the mask for where it is true, and that for where it is not
 abbrev pub masks_code : List Instr
 masks_code =
-    Register Sub condition_register zero_register value_register
+    Register Sub third_register zero_register value_register
     ∷ Immediate Addi value_register value_register 4095 ∷ []
 
 -- both masks joined with the one in a slot
 abbrev pub join_code : ℕ → List Instr
 join_code offset =
-    load_code left_register offset
-    ++ Register And condition_register condition_register left_register
-    ∷ Register And value_register value_register left_register ∷ []
+    load_code second_register offset
+    ++ Register And third_register third_register second_register
+    ∷ Register And value_register value_register second_register ∷ []
 
 -- both masks joined with the enclosing control value, where there is one
 abbrev pub within_code : List FlatVariable → Option ℕ → List Instr
 within_code declared None = []
 within_code declared (Some control) = join_code (control_offset declared control)
 
--- the value where the mask is all ones, and what was there before where it is 0
-abbrev pub merge_code : List Instr
-merge_code =
-    Register Xor value_register value_register left_register
-    ∷ Register And value_register value_register condition_register
-    ∷ Register Xor value_register left_register value_register ∷ []
+-- of three registers, the new word where the mask is all ones, and the old one where it is 0
+abbrev pub merge_code : ℕ → ℕ → ℕ → List Instr
+merge_code new old mask = Register Xor new new old ∷ Register And new new mask ∷ Register Xor new old new ∷ []
 
 -- Arrays.
 
@@ -65,55 +62,53 @@ element_store_code kind offset =
 -- all words of an array become 0: from the address in one register up to that in another
 abbrev pub clear_code : ℕ → ℕ → List Instr
 clear_code offset words =
-    constant_code left_register offset
-    ++ Register Add left_register left_register frame_register ∷ []
-    ++ constant_code condition_register (4 * words)
-    ++ Register Add condition_register condition_register left_register ∷ []
+    constant_code second_register offset
+    ++ Register Add second_register second_register frame_register ∷ []
+    ++ constant_code third_register (4 * words)
+    ++ Register Add third_register third_register second_register ∷ []
     ++ loop_code
-    (Register Sub value_register condition_register left_register ∷ [])
-    (Store Sw zero_register left_register 0 ∷ Immediate Addi left_register left_register 4 ∷ [])
+    (Register Sub value_register third_register second_register ∷ [])
+    (Store Sw zero_register second_register 0 ∷ Immediate Addi second_register second_register 4 ∷ [])
 
 -- values into the elements from this one on
 abbrev pub fill_code : List FlatVariable → ℕ → Kind → ℕ → List TermTree → List Instr
 fill_code declared free kind offset [] = []
 fill_code declared free kind offset (e ∷ es) =
-    expr_code declared free e ++ element_store_code kind offset ++ fill_code declared free kind (offset + element_bytes kind) es
+    expr_code declared free 0 e ++ element_store_code kind offset ++ fill_code declared free kind (offset + element_bytes kind) es
 
--- an index and a value: the index in the left operand's register, the value in its own
+-- an index and a value, the first two temporaries
 abbrev pub index_code : List FlatVariable → ℕ → TermTree → TermTree → List Instr
-index_code declared free index value =
-    expr_code declared free index ++ store_code value_register free ++ expr_code declared (free + 4) value ++ load_code left_register free
+index_code declared free index value = expr_code declared free 0 index ++ expr_code declared free 1 value
 
--- the value into the element whose address is in the left operand's register
+-- the value into the element at the index
 abbrev pub put_code : Kind → ℕ → List Instr
 put_code kind offset =
-    address_code left_register kind offset ++ Store (store_by kind) value_register left_register (lower_part offset) ∷ []
+    address_code value_register kind offset ++ Store (store_by kind) second_register value_register (lower_part offset) ∷ []
 
 -- the value where the control value is true, and else the old one, into the element
 abbrev pub put_under_code : ℕ → Kind → ℕ → List Instr
 put_under_code control kind offset =
-    address_code left_register kind offset
-    ++ Register Add address_register left_register zero_register ∷ Load (load_by kind) left_register left_register (lower_part offset) ∷ []
-    ++ load_code condition_register control
-    ++ merge_code
-    ++ Store (store_by kind) value_register address_register (lower_part offset) ∷ []
+    address_code value_register kind offset ++ Load (load_by kind) third_register value_register (lower_part offset) ∷ []
+    ++ load_code first_spare control
+    ++ merge_code second_register third_register first_spare
+    ++ Store (store_by kind) second_register value_register (lower_part offset) ∷ []
 
 -- Loops.
 
 -- both bounds into the loop's words, the first one first
 abbrev pub bounds_code : List FlatVariable → ℕ → ℕ → TermTree → TermTree → List Instr
 bounds_code declared next free low high =
-    expr_code declared free low ++ store_code value_register next ++ expr_code declared free high ++ store_code value_register (next + 4)
+    expr_code declared free 0 low ++ store_code value_register next ++ expr_code declared free 0 high ++ store_code value_register (next + 4)
 
 -- whether the next number is below the bound
 abbrev pub test_code : ℕ → List Instr
 test_code next =
-    load_code left_register next ++ load_code value_register (next + 4) ++ Register Sltu value_register left_register value_register ∷ []
+    load_code second_register next ++ load_code value_register (next + 4) ++ Register Sltu value_register second_register value_register ∷ []
 
 -- the next number into the counter, and one more for the turn after this one
 abbrev pub count_code : ℕ → ℕ → List Instr
 count_code next counter =
-    store_code left_register counter ++ Immediate Addi left_register left_register 1 ∷ [] ++ store_code left_register next
+    store_code second_register counter ++ Immediate Addi second_register second_register 1 ∷ [] ++ store_code second_register next
 
 -- Statements of a program with these variables, so many control values, and room for so many loops, one in the other.
 module _ (declared : List FlatVariable) (controls depths : ℕ) where
@@ -121,25 +116,25 @@ module _ (declared : List FlatVariable) (controls depths : ℕ) where
     -- of a statement that so many loops are around
     pub statement_code : ℕ → StraightTree → List Instr
     statement_code depth (set x value) =
-        expr_code declared (temporaries_offset declared controls depths) value ++ store_code value_register (variable_offset declared x)
+        expr_code declared (temporaries_offset declared controls depths) 0 value ++ store_code value_register (variable_offset declared x)
     statement_code depth (clear x size) = clear_code (variable_offset declared x) (array_words (kind_at declared x) size)
     statement_code depth (fill x values) =
         fill_code declared (temporaries_offset declared controls depths) (kind_at declared x) (variable_offset declared x) values
     statement_code depth (put place x size index value) =
         index_code declared (temporaries_offset declared controls depths) index value ++ put_code (kind_at declared x) (variable_offset declared x)
     statement_code depth (take control within condition) =
-        expr_code declared (temporaries_offset declared controls depths) condition ++ masks_code ++ within_code declared within
-        ++ store_code condition_register (control_offset declared control)
+        expr_code declared (temporaries_offset declared controls depths) 0 condition ++ masks_code ++ within_code declared within
+        ++ store_code third_register (control_offset declared control)
         ++ store_code value_register (control_offset declared (control + 1))
     statement_code depth (set_under control x value) =
-        expr_code declared (temporaries_offset declared controls depths) value
-        ++ load_code left_register (variable_offset declared x) ++ load_code condition_register (control_offset declared control)
-        ++ merge_code ++ store_code value_register (variable_offset declared x)
+        expr_code declared (temporaries_offset declared controls depths) 0 value
+        ++ load_code second_register (variable_offset declared x) ++ load_code third_register (control_offset declared control)
+        ++ merge_code value_register second_register third_register ++ store_code value_register (variable_offset declared x)
     statement_code depth (put_under control place x size index value) =
         index_code declared (temporaries_offset declared controls depths) index value
         ++ put_under_code (control_offset declared control) (kind_at declared x) (variable_offset declared x)
     statement_code depth (branch condition accepted otherwise) =
-        expr_code declared (temporaries_offset declared controls depths) condition
+        expr_code declared (temporaries_offset declared controls depths) 0 condition
         ++ branch_code (block_code depth accepted) (block_code depth otherwise)
     statement_code depth (repeats x low high body) =
         bounds_code declared (next_offset declared controls depth) (temporaries_offset declared controls depths) low high
@@ -152,7 +147,7 @@ module _ (declared : List FlatVariable) (controls depths : ℕ) where
     block_code depth nothing = []
     block_code depth (first statement rest) = statement_code depth statement ++ block_code depth rest
 
--- how many slots the temporaries of expressions take that share them
+-- how many temporaries expressions have at once at most, beside the first
 abbrev pub height_of_all : List TermTree → ℕ
 height_of_all [] = 0
 height_of_all (e ∷ es) = max (height_of e) (height_of_all es)

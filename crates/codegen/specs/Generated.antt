@@ -12,13 +12,13 @@ use Rattle.inline.specs.Flat.{TermTree}
 use Rattle.language.specs.declared.typing.WordType.{WordType}
 use Rattle.codegen.specs.Emitted.{block_code, height_in_all, depth_in_all}
 use Rattle.expression_code.specs.Layout.{slots_from, result_offset, temporaries_offset}
-use Rattle.expression_code.specs.Registers.{value_register}
+use Rattle.expression_code.specs.Registers.{value_register, slots_to}
 use Rattle.expression_code.specs.TermCode.{expr_code, store_code, height_of}
 
 -- the value into the result's slot, where there is one
 abbrev pub result_code : List FlatVariable → ℕ → Option TermTree → List Instr
 result_code declared free None = []
-result_code declared free (Some value) = expr_code declared free value ++ store_code value_register (result_offset declared)
+result_code declared free (Some value) = expr_code declared free 0 value ++ store_code value_register (result_offset declared)
 
 -- where the temporaries of a program begin
 abbrev pub program_base : StraightProgram → ℕ
@@ -33,9 +33,13 @@ abbrev pub result_height : Option TermTree → ℕ
 result_height None = 0
 result_height (Some value) = height_of value
 
--- how many slots the temporaries take
+-- how many temporaries there are at once at most, beside the first
 abbrev pub program_height : StraightProgram → ℕ
 program_height p = max (height_in_all p.body) (result_height p.value)
+
+-- how many slots they take
+abbrev pub program_slots : StraightProgram → ℕ
+program_slots p = slots_to (program_height p)
 
 -- the result's slot, behind the variables
 abbrev pub result_slot : List FlatVariable → WordType → ResultSlot
@@ -49,7 +53,7 @@ abbrev pub image_of : StraightProgram → Fields
 image_of p = record {
   slots = slots_from 0 p.parameters;
   returned = option_map (result_slot p.declared) p.returned;
-  frame_bytes = program_base p + 4 * program_height p;
+  frame_bytes = program_base p + 4 * program_slots p;
   max_steps = step_limit p.work;
   words = map word_of (program_code p);
 }

@@ -3,7 +3,8 @@
 ghost use Rattle.std.specs.Prelude.{◌≡◌, ◌≤◌, ◌+◌, ◌*◌, ◌++◌, ◌∷◌, [], map, length, OnOk};
 ghost use Rattle.codegen.specs.Emitted.{store_by, element_store_code, clear_code, fill_code, index_code, put_code, put_under_code};
 ghost use Rattle.codegen.specs.Jumps.{loop_code};
-ghost use Rattle.expression_code.specs.Registers.{zero_register, value_register, condition_register, left_register};
+ghost use Rattle.expression_code.specs.Layout.{temporaries_offset};
+ghost use Rattle.expression_code.specs.Registers.{zero_register, value_register, second_register, third_register};
 ghost use Rattle.rv_code.specs.declared.instructions.Instr.TheVariants.{Immediate, Register, Store};
 ghost use Rattle.rv_code.specs.declared.operations.ImmediateOperation.TheVariants.{Addi};
 ghost use Rattle.rv_code.specs.declared.operations.RegisterOperation.TheVariants.{Sub};
@@ -52,7 +53,7 @@ fn store_element(code: &mut Vec<Instr>, kind: Kind, offset: u32) -> Result<(), A
 
 /// What one turn of a loop tests that makes an array's words 0, and what it does.
 fn clear_word(alloc: Global, code: &mut Vec<Instr>) -> Result<(), AllocError>
-    ensures { OnOk result (code.new.items ≡ code.old.items ++ loop_code (Register Sub value_register condition_register left_register ∷ []) (Store Sw zero_register left_register 0 ∷ Immediate Addi left_register left_register 4 ∷ [])) }
+    ensures { OnOk result (code.new.items ≡ code.old.items ++ loop_code (Register Sub value_register third_register second_register ∷ []) (Store Sw zero_register second_register 0 ∷ Immediate Addi second_register second_register 4 ∷ [])) }
 {
     let none = Immediate12::from_bits(0);
     let word = Immediate12::from_bits(4);
@@ -85,53 +86,49 @@ pub fn clear(
 pub fn fill(
     code: &mut Vec<Instr>,
     layout: &Layout<'_>,
-    free: u32,
     kind: Kind,
     offset: u32,
     values: &[Term],
 ) -> Result<(), AllocError>
-    requires placed { ArePlacedTerms (length layout.now.declared) free (map term_tree values.now) }
+    requires placed { ArePlacedTerms (length layout.now.declared) (temporaries_offset layout.now.declared layout.now.controls layout.now.depths) (map term_tree values.now) }
     requires room { offset + 4 * length values.now ≤ 262144 }
-    ensures { OnOk result (code.new.items ≡ code.old.items ++ fill_code layout.now.declared free kind offset (map term_tree values.now)) }
+    ensures { OnOk result (code.new.items ≡ code.old.items ++ fill_code layout.now.declared (temporaries_offset layout.now.declared layout.now.controls layout.now.depths) kind offset (map term_tree values.now)) }
 {
     let mut place = offset;
     for value in values {
-        expression(code, layout, free, value)?;
+        expression(code, layout, 0, value)?;
         store_element(code, kind, place)?;
         place += u32::from(kind.element_bytes());
     }
     Ok(())
 }
 
-/// An index into the left operand and a value into its own place.
+/// An index and a value, the first two temporaries.
 pub fn index(
     code: &mut Vec<Instr>,
     layout: &Layout<'_>,
-    free: u32,
     index: &Term,
     value: &Term,
 ) -> Result<(), AllocError>
-    requires index { IsPlaced (length layout.now.declared) free (term_tree index.now) }
-    requires value { IsPlaced (length layout.now.declared) (free + 4) (term_tree value.now) }
-    ensures { OnOk result (code.new.items ≡ code.old.items ++ index_code layout.now.declared free (term_tree index.now) (term_tree value.now)) }
+    requires index { IsPlaced (length layout.now.declared) (temporaries_offset layout.now.declared layout.now.controls layout.now.depths) 0 (term_tree index.now) }
+    requires value { IsPlaced (length layout.now.declared) (temporaries_offset layout.now.declared layout.now.controls layout.now.depths) 1 (term_tree value.now) }
+    ensures { OnOk result (code.new.items ≡ code.old.items ++ index_code layout.now.declared (temporaries_offset layout.now.declared layout.now.controls layout.now.depths) (term_tree index.now) (term_tree value.now)) }
 {
-    expression(code, layout, free, index)?;
-    emit::store(code, Reg::X5, free)?;
-    expression(code, layout, free + 4, value)?;
-    emit::load(code, Reg::X6, free)
+    expression(code, layout, 0, index)?;
+    expression(code, layout, 1, value)
 }
 
-/// The value into the element at the index in the left operand, of an array at an offset.
+/// The second temporary into the element at the index that is the first, of an array at an offset.
 pub fn put(code: &mut Vec<Instr>, kind: Kind, offset: u32) -> Result<(), AllocError>
     ensures { OnOk result (code.new.items ≡ code.old.items ++ put_code kind offset) }
 {
-    address(code, Reg::X6, kind, offset)?;
+    address(code, Reg::X5, kind, offset)?;
     let low = emit::lower_part(offset);
-    code.push(Instr::Store(store_by(kind), Reg::X5, Reg::X6, low))?;
+    code.push(Instr::Store(store_by(kind), Reg::X6, Reg::X5, low))?;
     Ok(())
 }
 
-/// The value into that element where the control value in a slot is true, and else what it holds.
+/// The second temporary into that element where the control value in a slot is true, and else what it holds.
 pub fn put_under(
     code: &mut Vec<Instr>,
     control: u32,
@@ -140,12 +137,11 @@ pub fn put_under(
 ) -> Result<(), AllocError>
     ensures { OnOk result (code.new.items ≡ code.old.items ++ put_under_code control kind offset) }
 {
-    address(code, Reg::X6, kind, offset)?;
+    address(code, Reg::X5, kind, offset)?;
     let low = emit::lower_part(offset);
-    code.push(Instr::Register(RegisterOperation::Add, Reg::X28, Reg::X6, Reg::X0))?;
-    code.push(Instr::Load(load_by(kind), Reg::X6, Reg::X6, low))?;
-    emit::load(code, Reg::X7, control)?;
-    masking::merge(code)?;
-    code.push(Instr::Store(store_by(kind), Reg::X5, Reg::X28, low))?;
+    code.push(Instr::Load(load_by(kind), Reg::X7, Reg::X5, low))?;
+    emit::load(code, Reg::X29, control)?;
+    masking::merge(code, Reg::X6, Reg::X7, Reg::X29)?;
+    code.push(Instr::Store(store_by(kind), Reg::X6, Reg::X5, low))?;
     Ok(())
 }

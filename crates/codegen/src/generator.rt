@@ -1,7 +1,7 @@
 ghost use Rattle.std.specs.Prelude.{◌≡◌, ◌+◌, ◌*◌, ◌<◌, ◌≤◌, ◌^◌, map, All, IfOk, IfErr};
 ghost use Rattle.std.specs.Option.{option_map};
 ghost use Rattle.codegen.specs.Followed.{IsGenerated};
-ghost use Rattle.codegen.specs.Generated.{program_code, program_height, result_slot, step_limit, image_of};
+ghost use Rattle.codegen.specs.Generated.{program_code, program_slots, result_slot, step_limit, image_of};
 ghost use Rattle.codegen.specs.Room.{HasRoom, frame_of};
 ghost use Rattle.image_fields.specs.Fields.{IsImage};
 ghost use Rattle.intervals.specs.declared.limits.TheConstants.{MOST_WORK};
@@ -12,7 +12,7 @@ use crate::Code;
 use crate::heights::{greatest_depth, greatest_height};
 use crate::statements::statements;
 use branch_removal::Straight;
-use expression_code::{Layout, WORD_BYTES, emit, expression, height, offsets, slots};
+use expression_code::{Layout, REGISTER_COUNT, WORD_BYTES, emit, expression, height, offsets, slots};
 use image_fields::{ImageFields, ResultSlot};
 use language::Refusal;
 use rv_code::{Instr, Reg, encode};
@@ -43,7 +43,7 @@ fn program_code(
     let mut code = Vec::new(alloc);
     statements(alloc, &mut code, layout, 0, straight.body())?;
     if let Some(value) = straight.value() {
-        expression(&mut code, layout, layout.temporaries(), value)?;
+        expression(&mut code, layout, 0, value)?;
         emit::store(&mut code, Reg::X5, layout.result())?;
     }
     code.push(Instr::Ecall)?;
@@ -53,13 +53,14 @@ fn program_code(
 /// How many slots the temporaries of a program take.
 fn temporaries(straight: &Straight<'_>) -> u32
     requires { HasRoom straight.now }
-    ensures { result ≡ program_height straight.now }
+    ensures { result ≡ program_slots straight.now }
 {
     let result = match straight.value() {
         Some(value) => height(value),
         None => 0,
     };
-    greatest_height(straight.body()).max(result)
+    let height = greatest_height(straight.body()).max(result);
+    (height + 1).saturating_sub(REGISTER_COUNT)
 }
 
 /// The slot of the result, where there is one.

@@ -1,4 +1,4 @@
-// How many slots and how many loops in one another statements take.
+// How many temporaries, and how many loops in one another, statements have at once.
 
 ghost use Rattle.std.specs.Prelude.{◌≡◌, ◌≤◌, map};
 ghost use Rattle.branch_removal.specs.Straight.{straight_tree, straight_block};
@@ -9,7 +9,7 @@ use branch_removal::StraightStatement;
 use expression_code::height;
 use inline::Term;
 
-/// How many slots the temporaries of values take that share them.
+/// How many temporaries values have at once at most, beside the first.
 fn height_of_all(values: &[Term]) -> u32
     requires { height_of_all (map term_tree values.now) ≤ 6000 }
     ensures { result ≡ height_of_all (map term_tree values.now) }
@@ -21,7 +21,7 @@ fn height_of_all(values: &[Term]) -> u32
     greatest
 }
 
-/// How many slots the temporaries of a statement take.
+/// How many temporaries a statement has at once at most, beside the first.
 #[cycle(heights)]
 fn height_in(statement: &StraightStatement<'_>) -> u32
     requires { height_in (straight_tree statement.now) ≤ 6000 }
@@ -47,7 +47,7 @@ fn height_in(statement: &StraightStatement<'_>) -> u32
     }
 }
 
-/// How many slots the temporaries of statements take, which share them.
+/// How many temporaries statements have at once at most, beside the first.
 #[cycle(heights)]
 pub fn greatest_height(statements: &[StraightStatement<'_>]) -> u32
     requires { height_in_all (straight_block statements.now) ≤ 6000 }

@@ -27,12 +27,12 @@ pub fn join(code: &mut Vec<Instr>, offset: u32) -> Result<(), AllocError>
     Ok(())
 }
 
-/// The value where the mask is all ones, and the left operand where it is 0.
-pub fn merge(code: &mut Vec<Instr>) -> Result<(), AllocError>
-    ensures { OnOk result (code.new.items ≡ code.old.items ++ merge_code) }
+/// The new word where the mask is all ones, and the old one where it is 0, in the register of the new one.
+pub fn merge(code: &mut Vec<Instr>, new: Reg, old: Reg, mask: Reg) -> Result<(), AllocError>
+    ensures { OnOk result (code.new.items ≡ code.old.items ++ merge_code new old mask) }
 {
-    code.push(Instr::Register(RegisterOperation::Xor, Reg::X5, Reg::X5, Reg::X6))?;
-    code.push(Instr::Register(RegisterOperation::And, Reg::X5, Reg::X5, Reg::X7))?;
-    code.push(Instr::Register(RegisterOperation::Xor, Reg::X5, Reg::X6, Reg::X5))?;
+    code.push(Instr::Register(RegisterOperation::Xor, new, new, old))?;
+    code.push(Instr::Register(RegisterOperation::And, new, new, mask))?;
+    code.push(Instr::Register(RegisterOperation::Xor, new, old, new))?;
     Ok(())
 }

@@ -36,7 +36,7 @@ fn set(
     requires { HasPlace layout.now.declared layout.now.controls layout.now.depths 0 (straight.set variable (term_tree value.now)) }
     ensures { OnOk result (code.new.items ≡ code.old.items ++ statement_code layout.now.declared layout.now.controls layout.now.depths 0 (straight.set variable (term_tree value.now))) }
 {
-    expression(code, layout, layout.temporaries(), value)?;
+    expression(code, layout, 0, value)?;
     emit::store(code, Reg::X5, layout.variable(variable))
 }
 
@@ -51,7 +51,7 @@ fn take(
     requires { HasPlace layout.now.declared layout.now.controls layout.now.depths 0 (straight.take control within (term_tree condition.now)) }
     ensures { OnOk result (code.new.items ≡ code.old.items ++ statement_code layout.now.declared layout.now.controls layout.now.depths 0 (straight.take control within (term_tree condition.now))) }
 {
-    expression(code, layout, layout.temporaries(), condition)?;
+    expression(code, layout, 0, condition)?;
     masking::masks(code)?;
     if let Some(enclosing) = within {
         masking::join(code, layout.control(enclosing))?;
@@ -71,10 +71,10 @@ fn set_under(
     requires { HasPlace layout.now.declared layout.now.controls layout.now.depths 0 (straight.set_under control variable (term_tree value.now)) }
     ensures { OnOk result (code.new.items ≡ code.old.items ++ statement_code layout.now.declared layout.now.controls layout.now.depths 0 (straight.set_under control variable (term_tree value.now))) }
 {
-    expression(code, layout, layout.temporaries(), value)?;
+    expression(code, layout, 0, value)?;
     emit::load(code, Reg::X6, layout.variable(variable))?;
     emit::load(code, Reg::X7, layout.control(control))?;
-    masking::merge(code)?;
+    masking::merge(code, Reg::X5, Reg::X6, Reg::X7)?;
     emit::store(code, Reg::X5, layout.variable(variable))
 }
 
@@ -86,15 +86,14 @@ fn bounds(
     low: &Term,
     high: &Term,
 ) -> Result<(), AllocError>
-    requires low { IsPlaced (length layout.now.declared) (temporaries_offset layout.now.declared layout.now.controls layout.now.depths) (term_tree low.now) }
-    requires high { IsPlaced (length layout.now.declared) (temporaries_offset layout.now.declared layout.now.controls layout.now.depths) (term_tree high.now) }
+    requires low { IsPlaced (length layout.now.declared) (temporaries_offset layout.now.declared layout.now.controls layout.now.depths) 0 (term_tree low.now) }
+    requires high { IsPlaced (length layout.now.declared) (temporaries_offset layout.now.declared layout.now.controls layout.now.depths) 0 (term_tree high.now) }
     requires next { next ≤ 65536 }
     ensures { OnOk result (code.new.items ≡ code.old.items ++ bounds_code layout.now.declared next (temporaries_offset layout.now.declared layout.now.controls layout.now.depths) (term_tree low.now) (term_tree high.now)) }
 {
-    let free = layout.temporaries();
-    expression(code, layout, free, low)?;
+    expression(code, layout, 0, low)?;
     emit::store(code, Reg::X5, next)?;
-    expression(code, layout, free, high)?;
+    expression(code, layout, 0, high)?;
     emit::store(code, Reg::X5, next + 4)
 }
 
@@ -139,12 +138,11 @@ fn statement(
             arrays::clear(alloc, code, layout.variable(*array), words)
         }
         StraightStatement::Fill(array, values) => {
-            let free = layout.temporaries();
             let offset = layout.variable(*array);
-            arrays::fill(code, layout, free, layout.kind(*array), offset, values)
+            arrays::fill(code, layout, layout.kind(*array), offset, values)
         }
         StraightStatement::Put(_, array, _, index, value) => {
-            arrays::index(code, layout, layout.temporaries(), index, value)?;
+            arrays::index(code, layout, index, value)?;
             arrays::put(code, layout.kind(*array), layout.variable(*array))
         }
         StraightStatement::Take(control, within, condition) => {
@@ -154,7 +152,7 @@ fn statement(
             set_under(code, layout, *control, *variable, value)
         }
         StraightStatement::PutUnder(control, _, array, _, index, value) => {
-            arrays::index(code, layout, layout.temporaries(), index, value)?;
+            arrays::index(code, layout, index, value)?;
             let control = layout.control(*control);
             arrays::put_under(code, control, layout.kind(*array), layout.variable(*array))
         }
@@ -163,7 +161,7 @@ fn statement(
             statements(alloc, &mut one, layout, depth, accepted)?;
             let mut other = Vec::new(alloc);
             statements(alloc, &mut other, layout, depth, otherwise)?;
-            expression(code, layout, layout.temporaries(), condition)?;
+            expression(code, layout, 0, condition)?;
             jumping::branch(code, one.as_slice(), other.as_slice())?;
             Ok(())
         }

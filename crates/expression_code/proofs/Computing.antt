@@ -1,5 +1,5 @@
 -- Code that only computes: what the registers are after it, and that the machine follows it.
-use Rattle.std.proofs.Common.{◌≡◌, ◌≢◌, ℕ, ◌*◌, ◌^◌, ◌<◌, Bool, true, false, ◌&&◌, ◌||◌, ◌==◌, cond, nat_lt, List, [], ◌∷◌, length, refl, sym, ap, ◌∙◌, arith, ne_eqb}
+use Rattle.std.proofs.Common.{◌≡◌, ◌≢◌, ℕ, ◌*◌, ◌^◌, ◌<◌, Bool, true, false, ◌&&◌, ◌==◌, cond, nat_lt, List, [], ◌∷◌, length, refl, sym, ap, ◌∙◌, arith}
 use Rattle.std.proofs.lemmas.Bool.{false≢true}
 use Rattle.std.proofs.lemmas.Bool.Decides.{nat_tests}
 use Rattle.std.proofs.Math.Path.{fun_ext}
@@ -13,7 +13,7 @@ use Rattle.rv_machine.specs.Machine.{State}
 use Rattle.rv_machine.specs.Registers.{register, with_register}
 use Rattle.branch_removal.specs.StraightMeaning.{StraightState}
 use Rattle.expression_code.proofs.Held.{Held, held_regs}
-use Rattle.expression_code.proofs.Steps.{Always, Moves, computing}
+use Rattle.expression_code.proofs.Steps.{Always, Moves, unwritten, computing}
 use Rattle.expression_code.proofs.Straight.{Setting, none, Runs, seq, weaken, cheaper, idle}
 
 -- the register that an instruction writes, where it only computes
@@ -39,25 +39,28 @@ abbrev pub registers_after : List Instr → (ℕ → ℕ) → ℕ → ℕ
 registers_after [] regs = regs
 registers_after (i ∷ is) regs = registers_after is (with_register regs (written_register i) (computed_value i regs))
 
--- x5, x6, x7 and x28, the only ones that are written
+-- an instruction that only computes into registers that work, with its fields in range
+abbrev pub computes : (ℕ → Bool) → Instr → Bool
+computes works (Upper Lui rd immediate) = works rd && nat_lt immediate 1048576
+computes works (Immediate operation rd rs1 immediate) = works rd && (nat_lt rs1 32 && nat_lt immediate 4096)
+computes works (Shift operation rd rs1 amount) = works rd && (nat_lt rs1 32 && nat_lt amount 32)
+computes works (Register operation rd rs1 rs2) = works rd && (nat_lt rs1 32 && nat_lt rs2 32)
+computes works (Multiply operation rd rs1 rs2) = works rd && (nat_lt rs1 32 && nat_lt rs2 32)
+computes works _ = false
+
+abbrev pub only_computes : (ℕ → Bool) → List Instr → Bool
+only_computes works [] = true
+only_computes works (i ∷ is) = computes works i && only_computes works is
+
+-- no register that works is x0 or the base
+abbrev pub AreWorking : (ℕ → Bool) → Type 0
+AreWorking works = (rd : ℕ) → works rd ≡ true → (rd ≢ 0) × (rd ≢ 2) × (rd < 32)
+
+-- those from x5 on
 abbrev pub is_working : ℕ → Bool
-is_working rd = (nat_lt 4 rd && nat_lt rd 8) || (rd == 28)
+is_working rd = nat_lt 4 rd && nat_lt rd 32
 
--- an instruction that only computes, with its fields in range
-abbrev pub computes : Instr → Bool
-computes (Upper Lui rd immediate) = is_working rd && nat_lt immediate 1048576
-computes (Immediate operation rd rs1 immediate) = is_working rd && (nat_lt rs1 32 && nat_lt immediate 4096)
-computes (Shift operation rd rs1 amount) = is_working rd && (nat_lt rs1 32 && nat_lt amount 32)
-computes (Register operation rd rs1 rs2) = is_working rd && (nat_lt rs1 32 && nat_lt rs2 32)
-computes (Multiply operation rd rs1 rs2) = is_working rd && (nat_lt rs1 32 && nat_lt rs2 32)
-computes _ = false
-
-abbrev pub only_computes : List Instr → Bool
-only_computes [] = true
-only_computes (i ∷ is) = computes i && only_computes is
-
--- what a test of fields says
-working : (rd : ℕ) → is_working rd ≡ true → (rd ≢ 0) × (rd ≢ 2) × (rd < 32)
+working : AreWorking is_working
 working rd h =
     let low : 4 < rd = grind (arith, nat_tests) in
     let high : rd < 32 = grind (arith, nat_tests) in
@@ -81,42 +84,61 @@ pub record Plain (i : Instr) : Type 0 where
   pub other : written_register i ≢ 2
   pub effect : (pc : ℕ) (regs : ℕ → ℕ) → effect_of i pc regs ≡ Computes (written_register i) (computed_value i regs)
 
-three_tests : (rd : ℕ) (a b : Bool) → (is_working rd && (a && b)) ≡ true → (is_working rd ≡ true) × (a ≡ true) × (b ≡ true)
-three_tests rd a b h =
-    let rest = both_right (is_working rd) (a && b) h in
-    (both_left (is_working rd) (a && b) h, both_left a b rest, both_right a b rest)
+module _ (works : ℕ → Bool) (allowed : AreWorking works) where
+  three_tests : (rd : ℕ) (a b : Bool) → (works rd && (a && b)) ≡ true → (works rd ≡ true) × (a ≡ true) × (b ≡ true)
+  three_tests rd a b h =
+      let rest = both_right (works rd) (a && b) h in
+      (both_left (works rd) (a && b) h, both_left a b rest, both_right a b rest)
 
-plain : (i : Instr) → computes i ≡ true → Plain i
-plain (Upper Lui rd immediate) h =
-    let w = working rd (both_left (is_working rd) (nat_lt immediate 1048576) h) in
-    let small = below immediate 1048576 (both_right (is_working rd) (nat_lt immediate 1048576) h) in
-    record { in_range = (w.2, small); nonzero = w.0; other = w.1; effect = λ pc regs. refl }
-plain (Immediate operation rd rs1 immediate) h =
-    let t = three_tests rd (nat_lt rs1 32) (nat_lt immediate 4096) h in
-    let w = working rd t.0 in
-    record { in_range = (w.2, below rs1 32 t.1, below immediate 4096 t.2); nonzero = w.0; other = w.1; effect = λ pc regs. refl }
-plain (Shift operation rd rs1 amount) h =
-    let t = three_tests rd (nat_lt rs1 32) (nat_lt amount 32) h in
-    let w = working rd t.0 in
-    record { in_range = (w.2, below rs1 32 t.1, below amount 32 t.2); nonzero = w.0; other = w.1; effect = λ pc regs. refl }
-plain (Register operation rd rs1 rs2) h =
-    let t = three_tests rd (nat_lt rs1 32) (nat_lt rs2 32) h in
-    let w = working rd t.0 in
-    record { in_range = (w.2, below rs1 32 t.1, below rs2 32 t.2); nonzero = w.0; other = w.1; effect = λ pc regs. refl }
-plain (Multiply operation rd rs1 rs2) h =
-    let t = three_tests rd (nat_lt rs1 32) (nat_lt rs2 32) h in
-    let w = working rd t.0 in
-    record { in_range = (w.2, below rs1 32 t.1, below rs2 32 t.2); nonzero = w.0; other = w.1; effect = λ pc regs. refl }
-plain (Upper Auipc rd immediate) h = absurd (false≢true h)
-plain (Jump rd offset) h = absurd (false≢true h)
-plain (JumpRegister rd rs1 offset) h = absurd (false≢true h)
-plain (Branch test rs1 rs2 offset) h = absurd (false≢true h)
-plain (Load operation rd rs1 offset) h = absurd (false≢true h)
-plain (Store operation rs2 rs1 offset) h = absurd (false≢true h)
-plain (Divide operation rd rs1 rs2) h = absurd (false≢true h)
-plain (Fence mode before after rs1 rd) h = absurd (false≢true h)
-plain Ecall h = absurd (false≢true h)
-plain Ebreak h = absurd (false≢true h)
+  plain : (i : Instr) → computes works i ≡ true → Plain i
+  plain (Upper Lui rd immediate) h =
+      let w = allowed rd (both_left (works rd) (nat_lt immediate 1048576) h) in
+      let small = below immediate 1048576 (both_right (works rd) (nat_lt immediate 1048576) h) in
+      record { in_range = (w.2, small); nonzero = w.0; other = w.1; effect = λ pc regs. refl }
+  plain (Immediate operation rd rs1 immediate) h =
+      let t = three_tests rd (nat_lt rs1 32) (nat_lt immediate 4096) h in
+      let w = allowed rd t.0 in
+      record { in_range = (w.2, below rs1 32 t.1, below immediate 4096 t.2); nonzero = w.0; other = w.1; effect = λ pc regs. refl }
+  plain (Shift operation rd rs1 amount) h =
+      let t = three_tests rd (nat_lt rs1 32) (nat_lt amount 32) h in
+      let w = allowed rd t.0 in
+      record { in_range = (w.2, below rs1 32 t.1, below amount 32 t.2); nonzero = w.0; other = w.1; effect = λ pc regs. refl }
+  plain (Register operation rd rs1 rs2) h =
+      let t = three_tests rd (nat_lt rs1 32) (nat_lt rs2 32) h in
+      let w = allowed rd t.0 in
+      record { in_range = (w.2, below rs1 32 t.1, below rs2 32 t.2); nonzero = w.0; other = w.1; effect = λ pc regs. refl }
+  plain (Multiply operation rd rs1 rs2) h =
+      let t = three_tests rd (nat_lt rs1 32) (nat_lt rs2 32) h in
+      let w = allowed rd t.0 in
+      record { in_range = (w.2, below rs1 32 t.1, below rs2 32 t.2); nonzero = w.0; other = w.1; effect = λ pc regs. refl }
+  plain (Upper Auipc rd immediate) h = absurd (false≢true h)
+  plain (Jump rd offset) h = absurd (false≢true h)
+  plain (JumpRegister rd rs1 offset) h = absurd (false≢true h)
+  plain (Branch test rs1 rs2 offset) h = absurd (false≢true h)
+  plain (Load operation rd rs1 offset) h = absurd (false≢true h)
+  plain (Store operation rs2 rs1 offset) h = absurd (false≢true h)
+  plain (Divide operation rd rs1 rs2) h = absurd (false≢true h)
+  plain (Fence mode before after rs1 rd) h = absurd (false≢true h)
+  plain Ecall h = absurd (false≢true h)
+  plain Ebreak h = absurd (false≢true h)
+
+  -- its register is one of those that work
+  written_works : (i : Instr) → computes works i ≡ true → works (written_register i) ≡ true
+  written_works (Upper Lui rd immediate) h = both_left (works rd) (nat_lt immediate 1048576) h
+  written_works (Immediate operation rd rs1 immediate) h = (three_tests rd (nat_lt rs1 32) (nat_lt immediate 4096) h).0
+  written_works (Shift operation rd rs1 amount) h = (three_tests rd (nat_lt rs1 32) (nat_lt amount 32) h).0
+  written_works (Register operation rd rs1 rs2) h = (three_tests rd (nat_lt rs1 32) (nat_lt rs2 32) h).0
+  written_works (Multiply operation rd rs1 rs2) h = (three_tests rd (nat_lt rs1 32) (nat_lt rs2 32) h).0
+  written_works (Upper Auipc rd immediate) h = absurd (false≢true h)
+  written_works (Jump rd offset) h = absurd (false≢true h)
+  written_works (JumpRegister rd rs1 offset) h = absurd (false≢true h)
+  written_works (Branch test rs1 rs2 offset) h = absurd (false≢true h)
+  written_works (Load operation rd rs1 offset) h = absurd (false≢true h)
+  written_works (Store operation rs2 rs1 offset) h = absurd (false≢true h)
+  written_works (Divide operation rd rs1 rs2) h = absurd (false≢true h)
+  written_works (Fence mode before after rs1 rd) h = absurd (false≢true h)
+  written_works Ecall h = absurd (false≢true h)
+  written_works Ebreak h = absurd (false≢true h)
 
 -- one register is written, as a whole
 
@@ -138,14 +160,12 @@ all_registers rd value s t nonzero moves = fun_ext (λ q. at_register rd value s
 
 -- a register that none of them writes is as it was
 
-unwritten : (regs : ℕ → ℕ) (rd value : ℕ) → rd ≢ 2 → with_register regs rd value 2 ≡ regs 2
-unwritten regs rd value other = rw (ne_eqb 2 rd (λ e. other (sym e)))
-
-pub base_kept : (is : List Instr) → only_computes is ≡ true → (regs : ℕ → ℕ) → registers_after is regs 2 ≡ regs 2
-base_kept [] h regs = refl
-base_kept (i ∷ is) h regs =
-    base_kept is (both_right (computes i) (only_computes is) h) (with_register regs (written_register i) (computed_value i regs))
-    ∙ unwritten regs (written_register i) (computed_value i regs) (plain i (both_left (computes i) (only_computes is) h)).other
+module _ (works : ℕ → Bool) (allowed : AreWorking works) where
+  pub register_kept : (is : List Instr) → only_computes works is ≡ true → (regs : ℕ → ℕ) (q : ℕ) → ((rd : ℕ) → works rd ≡ true → q ≢ rd) → registers_after is regs q ≡ regs q
+  register_kept [] h regs q other = refl
+  register_kept (i ∷ is) h regs q other =
+      register_kept is (both_right (computes works i) (only_computes works is) h) (with_register regs (written_register i) (computed_value i regs)) q other
+      ∙ unwritten regs (written_register i) (computed_value i regs) q (other (written_register i) (written_works works allowed i (both_left (computes works i) (only_computes works is) h)))
 
 -- the registers are those after the instructions, and nothing else has changed
 pub record Computed (z : Setting) (is : List Instr) (env : StraightState) (s t : State) : Type 0 where
@@ -157,15 +177,15 @@ record Follows (is : List Instr) (env : StraightState) (s t : State) : Type 0 wh
   registers : t.regs ≡ registers_after is s.regs
   same : t.bytes ≡ s.bytes
 
-module _ (z : Setting) where
-  follows : (is : List Instr) → only_computes is ≡ true → Runs z (length is) none is Always (Follows is)
+module _ (z : Setting) (works : ℕ → Bool) (allowed : AreWorking works) where
+  follows : (is : List Instr) → only_computes works is ≡ true → Runs z (length is) none is Always (Follows is)
   follows [] h =
       weaken z
       (λ env s fine fit. fit)
       (λ env s t fine fit still. record { registers = ap (λ (u : State). u.regs) still; same = ap (λ (u : State). u.bytes) still })
       (idle z)
   follows (i ∷ is) h =
-      let one = plain i (both_left (computes i) (only_computes is) h) in
+      let one = plain works allowed i (both_left (computes works i) (only_computes works is) h) in
       let rd = written_register i in
       cheaper z (omega arith)
       (weaken z {P = Always}
@@ -178,17 +198,21 @@ module _ (z : Setting) where
       })
       (seq z
       (computing z i rd (computed_value i) one.in_range one.nonzero one.effect)
-      (follows is (both_right (computes i) (only_computes is) h))
+      (follows is (both_right (computes works i) (only_computes works is) h))
       (λ env s t fit done. tt)))
 
   -- code that only computes, where the frame is held
-  pub computing_runs : (is : List Instr) → only_computes is ≡ true → Runs z (length is) none is (Held z) (Computed z is)
-  computing_runs is h =
+  pub computing_within : (is : List Instr) → only_computes works is ≡ true → Runs z (length is) none is (Held z) (Computed z is)
+  computing_within is h =
       weaken z {P = Always}
       (λ env s fine held. tt)
       (λ env s t fine held done. record {
-        held = held_regs z s t (ap (λ (regs : ℕ → ℕ). regs 2) done.registers ∙ base_kept is h s.regs) done.same held;
+        held = held_regs z s t (ap (λ (regs : ℕ → ℕ). regs 2) done.registers ∙ register_kept works allowed is h s.regs 2 (λ rd w e. (allowed rd w).1 (sym e))) done.same held;
         registers = done.registers;
         same = done.same;
       })
       (follows is h)
+
+-- with any register from x5 on
+pub computing_runs : (z : Setting) (is : List Instr) → only_computes is_working is ≡ true → Runs z (length is) none is (Held z) (Computed z is)
+computing_runs z is h = computing_within z is_working working is h

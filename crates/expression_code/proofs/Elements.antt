@@ -15,16 +15,10 @@ use Rattle.language.specs.declared.signature.Kind.TheVariants.{Boolean, Uint8, U
 use Rattle.language.specs.Size.{element_bytes}
 use Rattle.expression_code.proofs.Arithmetic.{near_field, parts, upper_fits}
 use Rattle.expression_code.proofs.Held.{HeldAt, Held, held_regs}
+use Rattle.expression_code.proofs.Homes.{IsFree}
 use Rattle.expression_code.proofs.Pieces.{register-at}
 use Rattle.expression_code.proofs.Steps.{Always, Moves, computing}
 use Rattle.expression_code.proofs.Straight.{Setting, Before, none, Runs, seq, weaken, cheaper, idle}
-
--- a register that an address may be made in
-pub record IsFree (r : ℕ) : Type 0 where
-  pub small : r < 32
-  pub nonzero : r ≢ 0
-  pub not_base : r ≢ 2
-  pub not_scratch : r ≢ 28
 
 -- only this register and the one for addresses are written
 pub record Rewrites (r value : ℕ) (s t : State) : Type 0 where

@@ -1,22 +1,25 @@
--- The code of an expression puts the expression's value into the value's register.
-use Rattle.std.proofs.Common.{◌≡◌, ℕ, zero, suc, ◌+◌, ◌-◌, ◌*◌, ◌/◌, ◌%◌, ◌^◌, ◌<◌, ◌≤◌, ◌==◌, Bool, true, false, cond, List, [], ◌∷◌, ◌++◌, length, max, Some, None, is_some, slice_get, slice_index, refl, sym, ap, ap₂, ◌∙◌, subst, arith, append_assoc, ne_eqb}
+-- The code of an expression puts the expression's value into its place.
+use Rattle.std.proofs.Common.{◌≡◌, ◌≢◌, ◌⊎◌, inl, inr, ℕ, zero, suc, ◌+◌, ◌-◌, ◌*◌, ◌/◌, ◌%◌, ◌^◌, ◌<◌, ◌≤◌, ◌==◌, Bool, true, false, cond, List, [], ◌∷◌, ◌++◌, length, max, Some, None, is_some, slice_get, slice_index, refl, sym, ap, ap₂, ◌∙◌, subst, arith, ne_eqb}
 use Rattle.std.proofs.lemmas.Option.{same_Some}
 use Rattle.std.proofs.Math.Nat.{le-max_left, le-max_right}
 use Rattle.branch_removal.specs.StraightMeaning.{StraightState}
 use Rattle.expression_code.specs.Layout.{variable_offset}
-use Rattle.expression_code.specs.TermCode.{lower_part, load_code, store_code, constant_code, prefix_code, operator_code, rotate_code, cut_code, choice_code, load_by, element_code, kind_at, expr_code, height_of}
+use Rattle.expression_code.specs.Registers.{home, slot_of, slots_to}
+use Rattle.expression_code.specs.TermCode.{lower_part, load_code, constant_code, fetch_code, keep_code, prefix_code, operator_code, rotate_code, cut_code, choice_code, load_by, element_code, kind_at, expr_code, height_of}
 use Rattle.inline.specs.declared.flat.FlatVariable.{FlatVariable}
 use Rattle.inline.specs.Fitting.{IsWithinKind, Fits}
 use Rattle.inline.specs.Flat.{TermTree, number, truth, variable, prefix, binary, rotate, convert, select, element, word_as, array_as}
 use Rattle.inline.specs.FlatMeaning.{Values, value_in, path_in, division}
 use Rattle.inline.specs.FlatSize.{term_nodes}
 use Rattle.inline.specs.FlatTyping.{types_of, HasType, of_number, of_truth, of_variable, of_prefix, of_binary, of_rotation, of_conversion, of_selection, of_element}
-use Rattle.inline.specs.Path.{indexed}
+use Rattle.inline.specs.Path.{indexed, divided}
 use Rattle.inline.proofs.Fitting.{value_fits}
 use Rattle.rv_code.specs.declared.instructions.Instr.{Instr}
+use Rattle.rv_code.specs.declared.instructions.Instr.TheVariants as instr
+use Rattle.rv_code.specs.declared.operations.DivideOperation.{DivideOperation}
 use Rattle.rv_code.specs.declared.operations.DivideOperation.TheVariants.{Divu, Remu}
 use Rattle.rv_machine.specs.Bytes.{ByteMap, number_at}
-use Rattle.rv_machine.specs.Effects.{load_size, loaded_value}
+use Rattle.rv_machine.specs.Effects.{load_size, loaded_value, divide_value}
 use Rattle.rv_machine.specs.Machine as machine
 use Rattle.rv_machine.specs.Sizes.{byte_count}
 use Rattle.language.specs.declared.signature.Label.{Label}
@@ -32,19 +35,20 @@ use Rattle.word.specs.declared.place.Place.{Place}
 use Rattle.word.specs.declared.width.Width.{Width}
 use Rattle.word.specs.Operators.{converted, rotated_left, word_of}
 use Rattle.expression_code.proofs.Arithmetic.{lower_fits}
-use Rattle.expression_code.proofs.Computing.{registers_after, only_computes, computing_runs}
-use Rattle.expression_code.proofs.Elements.{IsFree, address_runs}
-use Rattle.expression_code.proofs.Held.{HeldAt, held_regs, frame_there}
+use Rattle.expression_code.proofs.Computing.{registers_after, only_computes, register_kept, computing_within}
+use Rattle.expression_code.proofs.Elements.{address_runs}
+use Rattle.expression_code.proofs.Held.{HeldAt, Held, held_regs, frame_there}
+use Rattle.expression_code.proofs.Homes.{IsFree, spare_free, home_free, homes_apart, home_apart, lower_apart}
 use Rattle.expression_code.proofs.Masks.{chosen, choice}
-use Rattle.expression_code.proofs.Operations.{constant_plain, constant_value, cut_plain, cut_made, operator_plain, operator_made, prefix_plain, prefix_made, rotate_plain, rotate_made}
+use Rattle.expression_code.proofs.Operations.{either_of, written_either, allowed, constant_plain, constant_value, cut_plain, cut_made, operator_plain, operator_made, prefix_plain, prefix_made, rotate_plain, rotate_made, choice_plain, choice_made}
 use Rattle.expression_code.proofs.OperatorRuns.{truth_fits}
-use Rattle.expression_code.proofs.Pieces.{load_runs}
+use Rattle.expression_code.proofs.Pieces.{register-at, load_runs}
 use Rattle.expression_code.proofs.Places.{place_of, place_aligned}
-use Rattle.expression_code.proofs.Steps.{Inside, dividing, loading_at}
-use Rattle.expression_code.proofs.Stores.{store_runs}
-use Rattle.expression_code.proofs.Straight.{Setting, base_of, fine_right, none, Steps, Before, Runs, seq, quiet, quietly, weaken, cheaper, as_code}
+use Rattle.expression_code.proofs.Steps.{Inside, Moves, dividing, loading_at}
+use Rattle.expression_code.proofs.Straight.{Setting, base_of, fine_right, none, Steps, Runs, seq, quiet, quietly, weaken, cheaper, as_code}
 use Rattle.expression_code.proofs.TermLengths.{constant_length, cut_length, operator_length, prefix_length, rotate_length}
-use Rattle.expression_code.proofs.Values.{Ready, Valued, Pushed, Kept, kept_number, kept_less, kept_by, kept_then, place_below, put_kept, put_there, ready_after}
+use Rattle.expression_code.proofs.Fetching.{Made, lower_spare, fetch_runs, keeps}
+use Rattle.expression_code.proofs.Values.{Ready, Valued, Kept, Lower, kept_less, kept_by, kept_then, lower_then, lower_less, holds_lower, holds_still, place_below, ready_after}
 
 -- what an expression puts on the path
 abbrev pub steps_of : TermTree → Steps
@@ -88,132 +92,123 @@ load_plain Uint16 v = refl
 load_plain Uint32 v = refl
 
 module _ (z : Setting) where
-  -- A constant, which each state gives the expression.
-  constant : (e : TermTree) (free n : ℕ) → ((env : StraightState) → value_in env.variables e ≡ n) → n < 2 ^ 32 → Runs z 16 none (constant_code 5 n) (Ready z) (Valued z e free)
-  constant e free n is below =
-      cheaper z (let h = constant_length 5 n in omega (arith, h))
-      (weaken z
-      (λ env s fine ready. ready.held)
-      (λ env s t fine ready done. record {
+  -- code that only computes, into registers that are none of a lower place's
+
+  record Worked (place : ℕ) (is : List Instr) (s t : machine.State) : Type 0 where
+    held : HeldAt z t
+    registers : t.regs ≡ registers_after is s.regs
+    same : t.bytes ≡ s.bytes
+    lower : Lower place s t
+
+  neither : (q l r rd : ℕ) → q ≢ l → q ≢ r → q ≡ rd → (rd ≡ l) ⊎ (rd ≡ r) → ⊥
+  neither q l r rd a b e (inl is) = a (e ∙ is)
+  neither q l r rd a b e (inr is) = b (e ∙ is)
+
+  works : (place l r : ℕ) (one : IsFree l) (other : IsFree r) (apart : l ≢ r) → ((q : ℕ) → q < place → q < 16 → (5 + q ≢ l) × (5 + q ≢ r))
+      → (is : List Instr) → only_computes (either_of l r) is ≡ true → Runs z (length is) none is (Held z) (λ env s t. Worked place is s t)
+  works place l r one other apart beside is plain =
+      let fine' = allowed l r one other apart in
+      weaken z
+      (λ env s fine held. held)
+      (λ env s t fine held done. record {
         held = done.held;
-        there = ap (λ (regs : ℕ → ℕ). regs 5) done.registers ∙ (constant_value n below s.regs ∙ sym (is env));
-        kept = kept_by z free s t done.same;
+        registers = done.registers;
+        same = done.same;
+        lower = λ q less small.
+            let b = beside q less small in
+            ap (λ (regs : ℕ → ℕ). regs (5 + q)) done.registers
+            ∙ register_kept (either_of l r) fine' is plain s.regs (5 + q) (λ rd w e. neither (5 + q) l r rd b.0 b.1 e (written_either l r one other apart rd w));
       })
-      (computing_runs z (constant_code 5 n) (constant_plain n below)))
+      (computing_within z (either_of l r) fine' is plain)
 
-  -- A variable.
-  slot : (x free : ℕ) (word : WordType) (mutable : Bool) → slice_get z.declared x ≡ Some (word_as word mutable) → Runs z 16 none (load_code 5 (variable_offset z.declared x)) (Ready z) (Valued z (variable x) free)
-  slot x free word mutable known =
-      let d = word_as word mutable in
-      let o = variable_offset z.declared x in
-      let first : o + 4 * 0 ≡ o = omega arith in
-      let below = place_below z x d 0 known (omega arith) in
-      let room = z.room in
-      cheaper z (omega arith)
-      (weaken z
-      (λ env s fine ready. ready.held)
-      (λ env s t fine ready took. record {
-        held = took.held;
-        there = same_Some (t.regs 5) (slice_index (env.variables x) 0) (sym took.there ∙ (ap (λ a. number_at s.bytes 4 (z.frame + a)) (sym first) ∙ ready.variables_there x d 0 known (omega arith)));
-        kept = kept_by z free s t took.same;
-      })
-      (load_runs z 5 o (omega arith) (omega (arith, below, room)) (omega arith) (λ e. omega arith) (λ e. omega arith)))
+  -- in the home of a place, with a spare register beside
+  abbrev first_home : ℕ → ℕ
+  first_home place = home place 29
 
-  -- A value, and then code that makes another of it.
-  applied : (operand whole : TermTree) (free n : ℕ) {steps : Steps} {es : List Instr} (is : List Instr) → length is ≤ 16 → only_computes is ≡ true
-      → ((m : Values) → Fits (types_of z.declared) m → value_in m operand < 2 ^ 32)
-      → ((m : Values) (regs : ℕ → ℕ) → regs 5 < 2 ^ 32 → regs 5 ≡ value_in m operand → registers_after is regs 5 ≡ value_in m whole)
-      → Runs z n steps es (Ready z) (Valued z operand free) → Runs z (n + 16) steps (es ++ is) (Ready z) (Valued z whole free)
-  applied operand whole free n is short plain word value runs =
-      cheaper z (omega (arith, short))
-      (weaken z {P = Ready z}
-      (λ env s fine ready. ready)
-      (λ env s t fine ready done.
-      let m = done.middle in
-      let one = done.first in
-      let two = done.second in
-      record {
-        held = two.held;
-        there = ap (λ (regs : ℕ → ℕ). regs 5) two.registers ∙ value env.variables m.regs (word_there (m.regs 5) (value_in env.variables operand) one.there (word env.variables ready.fits)) one.there;
-        kept = kept_then z free s m t one.kept (kept_by z free m t two.same);
-      })
-      (quiet z runs (computing_runs z is plain) (λ env s t ready valued. valued.held)))
+  home_one : (place : ℕ) → IsFree (first_home place)
+  home_one place = home_free place 29 (omega arith) (omega arith)
 
-  -- A value, and then a store of it.
-  pub pushed : (e : TermTree) (free n : ℕ) {steps : Steps} {is : List Instr} {P : Before} → ((env : StraightState) (s : machine.State) → P env s → value_in env.variables e < 2 ^ 32) → free % 4 ≡ 0 → free + 4 ≤ z.size
-      → Runs z n steps is P (Valued z e free) → Runs z (n + 3) steps (is ++ store_code 5 free) P (Pushed z e free)
-  pushed e free n {P = P} fits aligned room runs =
-      weaken z {P = P}
-      (λ env s fine fit. fit)
-      (λ env s t fine fit done.
-      let m = done.middle in
-      let one = done.first in
-      let two = done.second in
-      record {
-        held = two.held;
-        there = put_there z 5 free (value_in env.variables e) env m t two one.there (fits env s fit);
-        kept = kept_then z free s m t one.kept (put_kept z 4 5 free env m t two);
-      })
-      (quiet z runs (store_runs z 5 (omega arith) (λ e. omega arith) (λ e. omega arith) free aligned room) (λ env s t ready valued. valued.held))
+  beside_free : IsFree 30
+  beside_free = spare_free 30 (omega arith) (omega arith)
 
-  -- what is shown stays shown where temporaries change
-  still_ready : (free : ℕ) → base_of z ≤ free → (env : StraightState) (s t : machine.State) → Ready z env s → HeldAt z t → Kept z free s t → Ready z env t
-  still_ready free above env s t ready held kept = ready_after z env s t ready held (kept_less z (base_of z) free s t above kept)
+  beside_apart : (place : ℕ) → first_home place ≢ 30
+  beside_apart place = home_apart place 29 30 (omega arith) (λ e. omega arith)
 
-  -- An operator between the left operand and the value.
+  works_home : (place : ℕ) (is : List Instr) → only_computes (either_of (first_home place) 30) is ≡ true → Runs z (length is) none is (Held z) (λ env s t. Worked place is s t)
+  works_home place is plain =
+      works place (first_home place) 30 (home_one place) beside_free (beside_apart place)
+      (λ q less small. (lower_apart q place 29 less small (omega arith), λ e. omega (arith, small, e)))
+      is plain
 
-  record Operands (a b : StraightState → ℕ) (env : StraightState) (s : machine.State) : Type 0 where
+  -- An operator between two operands, in the registers l and r.
+
+  record Operands (l r : ℕ) (a b : StraightState → ℕ) (env : StraightState) (s : machine.State) : Type 0 where
     held : HeldAt z s
-    left : s.regs 6 ≡ a env
-    right : s.regs 5 ≡ b env
+    left : s.regs l ≡ a env
+    right : s.regs r ≡ b env
     left_fits : a env < 2 ^ 32
     right_fits : b env < 2 ^ 32
 
-  record Operated (operator : BinaryOperator) (width : Width) (a b : StraightState → ℕ) (env : StraightState) (s t : machine.State) : Type 0 where
+  record Operated (l r : ℕ) (operator : BinaryOperator) (width : Width) (a b : StraightState → ℕ) (env : StraightState) (s t : machine.State) : Type 0 where
     held : HeldAt z t
-    there : t.regs 5 ≡ operated operator width (a env) (b env)
+    there : t.regs l ≡ operated operator width (a env) (b env)
+    others : (q : ℕ) → q ≢ l → q ≢ r → t.regs q ≡ s.regs q
     same : t.bytes ≡ s.bytes
 
-  module _ (place : Place) (width : Width) (a b : StraightState → ℕ) where
-    plainly : (operator : BinaryOperator) → divides operator ≡ false → Runs z 3 none (operator_code operator width) (Operands a b) (Operated operator width a b)
+  module _ (source : Place) (width : Width) (a b : StraightState → ℕ) (l r : ℕ) (one : IsFree l) (other : IsFree r) (apart : l ≢ r) where
+    plainly : (operator : BinaryOperator) → divides operator ≡ false → Runs z 3 none (operator_code l r operator width) (Operands l r a b) (Operated l r operator width a b)
     plainly operator whole =
-        cheaper z (operator_length operator width)
+        let fine' = allowed l r one other apart in
+        let plain = operator_plain l r one other apart operator width whole in
+        cheaper z (operator_length l r operator width)
         (weaken z
         (λ env s fine given. given.held)
         (λ env s t fine given done. record {
           held = done.held;
           there =
-              ap (λ (regs : ℕ → ℕ). regs 5) done.registers
-              ∙ (operator_made operator width whole s.regs (word_there (s.regs 6) (a env) given.left given.left_fits) (word_there (s.regs 5) (b env) given.right given.right_fits)
+              ap (λ (regs : ℕ → ℕ). regs l) done.registers
+              ∙ (operator_made l r one other apart operator width whole s.regs (word_there (s.regs l) (a env) given.left given.left_fits) (word_there (s.regs r) (b env) given.right given.right_fits)
               ∙ ap₂ (operated operator width) given.left given.right);
+          others = λ q m n.
+              ap (λ (regs : ℕ → ℕ). regs q) done.registers
+              ∙ register_kept (either_of l r) fine' (operator_code l r operator width) plain s.regs q (λ rd w e. neither q l r rd m n e (written_either l r one other apart rd w));
           same = done.same;
         })
-        (computing_runs z (operator_code operator width) (operator_plain operator width whole)))
+        (computing_within z (either_of l r) fine' (operator_code l r operator width) plain))
 
     divided_by : (n : ℕ) (some : 0 < n) (x y : ℕ) → cond (n == 0) x y ≡ y
     divided_by n some x y = rw (ne_eqb n 0 (λ e. omega (arith, some, e)))
 
-    operator_runs : (operator : BinaryOperator) → Runs z 3 (λ env. division place operator (a env) (b env)) (operator_code operator width) (Operands a b) (Operated operator width a b)
+    divides_runs : (operation : DivideOperation) → Runs z 1 (λ env. divided source (a env) (b env) ∷ []) (instr.Divide operation l l r ∷ []) (Operands l r a b) (λ env s t. Moves l (divide_value operation (a env) (b env)) s t)
+    divides_runs operation =
+        weaken z
+        (λ env s fine given. (register-at s.regs l one.nonzero ∙ given.left, register-at s.regs r other.nonzero ∙ given.right))
+        (λ env s t fine given moves. moves)
+        (dividing z source a b operation l l r (one.small, one.small, other.small) one.nonzero)
+
+    operator_runs : (operator : BinaryOperator) → Runs z 3 (λ env. division source operator (a env) (b env)) (operator_code l r operator width) (Operands l r a b) (Operated l r operator width a b)
     operator_runs Divide =
         cheaper z (omega arith)
         (weaken z
-        (λ env s fine given. (given.left, given.right))
+        (λ env s fine given. given)
         (λ env s t fine given moves. record {
-          held = held_regs z s t (moves.others 2 (λ e. omega arith)) moves.same given.held;
+          held = held_regs z s t (moves.others 2 (λ e. one.not_base (sym e))) moves.same given.held;
           there = moves.there ∙ divided_by (b env) fine.0 (2 ^ 32 - 1) (a env / b env);
+          others = λ q m n. moves.others q m;
           same = moves.same;
         })
-        (dividing z place a b Divu 5 6 5 (omega arith, omega arith, omega arith) (λ e. omega arith)))
+        (divides_runs Divu))
     operator_runs Remainder =
         cheaper z (omega arith)
         (weaken z
-        (λ env s fine given. (given.left, given.right))
+        (λ env s fine given. given)
         (λ env s t fine given moves. record {
-          held = held_regs z s t (moves.others 2 (λ e. omega arith)) moves.same given.held;
+          held = held_regs z s t (moves.others 2 (λ e. one.not_base (sym e))) moves.same given.held;
           there = moves.there ∙ divided_by (b env) fine.0 (a env) (a env % b env);
+          others = λ q m n. moves.others q m;
           same = moves.same;
         })
-        (dividing z place a b Remu 5 6 5 (omega arith, omega arith, omega arith) (λ e. omega arith)))
+        (divides_runs Remu))
     operator_runs Either = plainly Either refl
     operator_runs Both = plainly Both refl
     operator_runs Equal = plainly Equal refl
@@ -231,117 +226,250 @@ module _ (z : Setting) where
     operator_runs Subtract = plainly Subtract refl
     operator_runs Multiply = plainly Multiply refl
 
-  binary_runs : (place : Place) (operator : BinaryOperator) (width : Width) (left right : TermTree) (one other : WordType) (free m n : ℕ) {ls rs : List Instr}
-      → free % 4 ≡ 0 → base_of z ≤ free → free + 4 ≤ z.size → HasType (types_of z.declared) left one → HasType (types_of z.declared) right other
-      → Runs z m (steps_of left) ls (Ready z) (Valued z left free) → Runs z n (steps_of right) rs (Ready z) (Valued z right (free + 4))
-      → Runs z (m + n + 16) (steps_of (binary place operator width left right)) (ls ++ store_code 5 free ++ rs ++ load_code 6 free ++ operator_code operator width) (Ready z) (Valued z (binary place operator width left right) free)
-  binary_runs place operator width left right one other free m n aligned above room has_left has_right first second =
-      let a = λ (env : StraightState). value_in env.variables left in
-      let b = λ (env : StraightState). value_in env.variables right in
-      let fits_left = λ (env : StraightState) (s : machine.State) (ready : Ready z env s). value_word z.declared left one env.variables ready.fits has_left in
+-- Slots of temporaries lie from this offset on.
+module _ (z : Setting) (free : ℕ) (aligned : free % 4 ≡ 0) (above : base_of z ≤ free) where
+  -- what is shown stays shown where temporaries change
+  still_ready : (place : ℕ) (env : StraightState) (s t : machine.State) → Ready z env s → HeldAt z t → Kept z (slot_of free place) s t → Ready z env t
+  still_ready place env s t ready held kept = ready_after z env s t ready held (kept_less z (base_of z) (slot_of free place) s t (omega (arith, above)) kept)
+
+  -- where a temporary of a higher place is written
+  kept_lower : (place more : ℕ) (s t : machine.State) → place ≤ more → Kept z (slot_of free more) s t → Kept z (slot_of free place) s t
+  kept_lower place more s t less kept = kept_less z (slot_of free place) (slot_of free more) s t (omega (arith, less)) kept
+
+  abbrev HasSlot : ℕ → Type 0
+  HasSlot place = free + 4 * slots_to place ≤ z.size
+
+  -- A constant, which each state gives the expression.
+  constant : (e : TermTree) (place n : ℕ) → HasSlot place → ((env : StraightState) → value_in env.variables e ≡ n) → n < 2 ^ 32
+      → Runs z 16 none (constant_code (home place 29) n ++ keep_code free place) (Ready z) (Valued z e free place)
+  constant e place n room is below =
+      let l = home place 29 in
+      cheaper z (let h = constant_length l n in omega (arith, h))
+      (keeps z free aligned place room e (λ env s ready. word_there (value_in env.variables e) n (is env) below)
+      (weaken z
+      (λ env s fine ready. ready.held)
+      (λ env s t fine ready done. record {
+        held = done.held;
+        there = ap (λ (regs : ℕ → ℕ). regs l) done.registers ∙ (constant_value l 30 (home_one z place) (beside_free z) (beside_apart z place) n below s.regs ∙ sym (is env));
+        kept = kept_by z (slot_of free place) s t done.same;
+        lower = done.lower;
+      })
+      (works_home z place (constant_code l n) (constant_plain l 30 (home_one z place) (beside_free z) (beside_apart z place) n below))))
+
+  -- A variable.
+  slot : (x place : ℕ) (word : WordType) (mutable : Bool) → HasSlot place → slice_get z.declared x ≡ Some (word_as word mutable)
+      → Runs z 16 none (load_code (home place 29) (variable_offset z.declared x) ++ keep_code free place) (Ready z) (Valued z (variable x) free place)
+  slot x place word mutable room known =
+      let d = word_as word mutable in
+      let o = variable_offset z.declared x in
+      let l = home place 29 in
+      let one = home_one z place in
+      let first : o + 4 * 0 ≡ o = omega arith in
+      let below = place_below z x d 0 known (omega arith) in
+      let inside = z.room in
       cheaper z (omega arith)
+      (keeps z free aligned place room (variable x) (λ env s ready. kind_fits word.kind (slice_index (env.variables x) 0) (value_fits (types_of z.declared) env.variables ready.fits (of_variable known)))
+      (weaken z
+      (λ env s fine ready. ready.held)
+      (λ env s t fine ready took. record {
+        held = took.held;
+        there = same_Some (t.regs l) (slice_index (env.variables x) 0) (sym took.there ∙ (ap (λ a. number_at s.bytes 4 (z.frame + a)) (sym first) ∙ ready.variables_there x d 0 known (omega arith)));
+        kept = kept_by z (slot_of free place) s t took.same;
+        lower = λ q less small. took.others (5 + q) (lower_apart q place 29 less small (omega arith));
+      })
+      (load_runs z l o (omega arith) (omega (arith, below, inside)) one.small one.nonzero one.not_base)))
+
+  -- A value, and then code that makes another of it.
+  applied : (operand whole : TermTree) (place n : ℕ) {steps : Steps} {es : List Instr} (is : List Instr) → HasSlot place → length is ≤ 10 → only_computes (either_of (home place 29) 30) is ≡ true
+      → ((m : Values) → Fits (types_of z.declared) m → value_in m operand < 2 ^ 32)
+      → ((m : Values) → Fits (types_of z.declared) m → value_in m whole < 2 ^ 32)
+      → ((m : Values) (regs : ℕ → ℕ) → regs (home place 29) < 2 ^ 32 → regs (home place 29) ≡ value_in m operand → registers_after is regs (home place 29) ≡ value_in m whole)
+      → Runs z n steps es (Ready z) (Valued z operand free place) → Runs z (n + 16) steps (es ++ fetch_code free place 29 ++ is ++ keep_code free place) (Ready z) (Valued z whole free place)
+  applied operand whole place n is room short plain word word' value runs =
+      let l = home place 29 in
+      cheaper z (omega (arith, short))
+      (keeps z free aligned place room whole (λ env s ready. word' env.variables ready.fits)
       (weaken z {P = Ready z}
       (λ env s fine ready. ready)
       (λ env s t fine ready done.
-      let u3 = done.middle in
-      let u2 = done.first.middle in
-      let u1 = done.first.first.middle in
-      let one' = done.first.first.first in
-      let two = done.first.first.second in
-      let three = done.first.second in
-      let four = done.second in
-      record {
-        held = four.held;
-        there = four.there;
-        kept = kept_then z free s u1 t one'.kept (kept_then z free u1 u2 t (kept_less z free (free + 4) u1 u2 (omega arith) two.kept) (kept_by z free u2 t (four.same ∙ three.same)));
-      })
-      (seq z
-      (quiet z
-      (seq z
-      (pushed left free m fits_left aligned room first)
-      second
-      (λ env s t ready done. still_ready free above env s t ready done.held done.kept))
-      (load_runs z 6 free aligned room (omega arith) (λ e. omega arith) (λ e. omega arith))
-      (λ env s t ready done. done.second.held))
-      (operator_runs place width a b operator)
-      (λ env s t ready done.
-      let u2 = done.middle in
-      let u1 = done.first.middle in
+      let t2 = done.middle in
+      let t1 = done.first.middle in
+      let one = done.first.first in
       let two = done.first.second in
       let three = done.second in
       record {
         held = three.held;
-        left = same_Some (t.regs 6) (a env) (sym three.there ∙ (kept_number z (free + 4) u1 u2 two.kept 4 free (omega arith) ∙ done.first.first.there));
-        right = three.others 5 (λ e. omega arith) ∙ two.there;
-        left_fits = fits_left env s ready;
-        right_fits = value_word z.declared right other env.variables ready.fits has_right;
-      })))
+        there = ap (λ (regs : ℕ → ℕ). regs l) three.registers ∙ value env.variables t2.regs (word_there (t2.regs l) (value_in env.variables operand) two.there (word env.variables ready.fits)) two.there;
+        kept = kept_then z (slot_of free place) s t1 t one.kept (kept_by z (slot_of free place) t1 t (three.same ∙ two.same));
+        lower = lower_then place s t1 t one.lower (lower_then place t1 t2 t (lower_spare place 29 t1 t2 (omega arith) two.others) three.lower);
+      })
+      (quiet z
+      (quiet z runs
+      (fetch_runs z free aligned place room 29 (omega arith) (omega arith) (λ env. value_in env.variables operand))
+      (λ env s t ready valued. (valued.held, valued.there)))
+      (works_home z place is plain)
+      (λ env s t ready done. done.second.held))))
 
-  select_runs : (condition accepted otherwise : TermTree) (kind : Kind) (l' m' n' : Label) (free l m n : ℕ) {cs ls rs : List Instr}
-      → free % 4 ≡ 0 → base_of z ≤ free → free + 8 ≤ z.size
-      → HasType (types_of z.declared) condition (labelled Boolean l') → HasType (types_of z.declared) accepted (labelled kind m') → HasType (types_of z.declared) otherwise (labelled kind n')
-      → Runs z l (steps_of condition) cs (Ready z) (Valued z condition free) → Runs z m (steps_of accepted) ls (Ready z) (Valued z accepted (free + 4)) → Runs z n (steps_of otherwise) rs (Ready z) (Valued z otherwise (free + 8))
-      → Runs z (l + m + n + 16) (steps_of (select condition accepted otherwise)) (cs ++ store_code 5 free ++ ls ++ store_code 5 (free + 4) ++ rs ++ load_code 6 (free + 4) ++ load_code 7 free ++ choice_code) (Ready z) (Valued z (select condition accepted otherwise) free)
-  select_runs condition accepted otherwise kind l' m' n' free l m n {cs = cs} {ls = ls} aligned above room has chooses more first second third =
-      let value = λ (e : TermTree) (env : StraightState). value_in env.variables e in
+  binary_runs : (source : Place) (operator : BinaryOperator) (width : Width) (left right : TermTree) (one other word : WordType) (place m n : ℕ) {ls rs : List Instr}
+      → HasSlot (place + 1)
+      → HasType (types_of z.declared) left one → HasType (types_of z.declared) right other → HasType (types_of z.declared) (binary source operator width left right) word
+      → Runs z m (steps_of left) ls (Ready z) (Valued z left free place) → Runs z n (steps_of right) rs (Ready z) (Valued z right free (place + 1))
+      → Runs z (m + n + 16) (steps_of (binary source operator width left right))
+      (ls ++ rs ++ fetch_code free place 29 ++ fetch_code free (place + 1) 30 ++ operator_code (home place 29) (home (place + 1) 30) operator width ++ keep_code free place)
+      (Ready z) (Valued z (binary source operator width left right) free place)
+  binary_runs source operator width left right one other word place m n room has_left has_right has first second =
+      let a = λ (env : StraightState). value_in env.variables left in
+      let b = λ (env : StraightState). value_in env.variables right in
+      let l = home place 29 in
+      let r = home (place + 1) 30 in
+      let r_free = home_free (place + 1) 30 (omega arith) (omega arith) in
+      let apart = homes_apart place (place + 1) 29 30 (omega arith) (omega arith) (omega arith) in
+      let k = slot_of free place in
       cheaper z (omega arith)
+      (keeps z free aligned place (omega (arith, room)) (binary source operator width left right) (λ env s ready. value_word z.declared (binary source operator width left right) word env.variables ready.fits has)
       (weaken z {P = Ready z}
       (λ env s fine ready. ready)
       (λ env s t fine ready done.
-      let t5 = done.middle in
-      let t4 = done.first.middle in
-      let t3 = done.first.first.middle in
-      let t2 = done.first.first.first.middle in
-      let t1 = done.first.first.first.first.middle in
-      let one = done.first.first.first.first.first in
-      let two = done.first.first.first.first.second in
-      let three = done.first.first.first.second in
-      let four = done.first.first.second in
-      let five = done.first.second in
-      let six = done.second in
+      let u4 = done.middle in
+      let u3 = done.first.middle in
+      let u2 = done.first.first.middle in
+      let u1 = done.first.first.first.middle in
+      let one' = done.first.first.first.first in
+      let two = done.first.first.first.second in
+      let three = done.first.first.second in
+      let four = done.first.second in
+      let five = done.second in
+      record {
+        held = five.held;
+        there = five.there;
+        kept = kept_then z k s u1 t one'.kept (kept_then z k u1 u2 t (kept_lower place (place + 1) u1 u2 (omega arith) two.kept) (kept_by z k u2 t (five.same ∙ (four.same ∙ three.same))));
+        lower =
+            lower_then place s u1 t one'.lower
+            (lower_then place u1 u2 t (lower_less place (place + 1) u1 u2 (omega arith) two.lower)
+            (lower_then place u2 u3 t (lower_spare place 29 u2 u3 (omega arith) three.others)
+            (lower_then place u3 u4 t (lower_spare place 30 u3 u4 (omega arith) four.others)
+            (λ q less small. five.others (5 + q) (lower_apart q place 29 less small (omega arith)) (lower_apart q (place + 1) 30 (omega (arith, less)) small (omega arith))))));
+      })
+      (seq z
+      (quiet z
+      (quiet z
+      (seq z first second (λ env s t ready done. still_ready place env s t ready done.held done.kept))
+      (fetch_runs z free aligned place (omega (arith, room)) 29 (omega arith) (omega arith) a)
+      (λ env s t ready done. (done.second.held, holds_lower z free place (place + 1) (a env) done.middle t (omega arith) done.second.kept done.second.lower done.first.there)))
+      (fetch_runs z free aligned (place + 1) room 30 (omega arith) (omega arith) b)
+      (λ env s t ready done. (done.second.held, holds_still z free (place + 1) (b env) 29 done.middle t (omega arith) done.second.others done.second.same done.first.second.there)))
+      (operator_runs z source width a b l r (home_one z place) r_free apart operator)
+      (λ env s t ready done. record {
+        held = done.second.held;
+        left = done.second.others l (home_apart place 29 30 (omega arith) (λ e. omega arith)) ∙ done.first.second.there;
+        right = done.second.there;
+        left_fits = value_word z.declared left one env.variables ready.fits has_left;
+        right_fits = value_word z.declared right other env.variables ready.fits has_right;
+      }))))
+
+  select_runs : (condition accepted otherwise : TermTree) (kind : Kind) (l' m' n' : Label) (word : WordType) (place l m n : ℕ) {cs ls rs : List Instr}
+      → HasSlot (place + 2)
+      → HasType (types_of z.declared) condition (labelled Boolean l') → HasType (types_of z.declared) accepted (labelled kind m') → HasType (types_of z.declared) otherwise (labelled kind n')
+      → HasType (types_of z.declared) (select condition accepted otherwise) word
+      → Runs z l (steps_of condition) cs (Ready z) (Valued z condition free place) → Runs z m (steps_of accepted) ls (Ready z) (Valued z accepted free (place + 1)) → Runs z n (steps_of otherwise) rs (Ready z) (Valued z otherwise free (place + 2))
+      → Runs z (l + m + n + 16) (steps_of (select condition accepted otherwise))
+      (cs ++ ls ++ rs ++ fetch_code free place 29 ++ fetch_code free (place + 1) 30 ++ fetch_code free (place + 2) 31
+      ++ choice_code (home place 29) (home (place + 1) 30) (home (place + 2) 31) ++ keep_code free place)
+      (Ready z) (Valued z (select condition accepted otherwise) free place)
+  select_runs condition accepted otherwise kind l' m' n' word place l m n room has chooses more whole first second third =
+      let value = λ (e : TermTree) (env : StraightState). value_in env.variables e in
+      let x = home place 29 in
+      let y = home (place + 1) 30 in
+      let w = home (place + 2) 31 in
+      let k = slot_of free place in
+      let x_free = home_one z place in
+      let y_free = home_free (place + 1) 30 (omega arith) (omega arith) in
+      let w_free = home_free (place + 2) 31 (omega arith) (omega arith) in
+      let xy = homes_apart place (place + 1) 29 30 (omega arith) (omega arith) (omega arith) in
+      let xw = homes_apart place (place + 2) 29 31 (omega arith) (omega arith) (omega arith) in
+      let yw = homes_apart (place + 1) (place + 2) 30 31 (omega arith) (omega arith) (omega arith) in
+      cheaper z (omega arith)
+      (keeps z free aligned place (omega (arith, room)) (select condition accepted otherwise) (λ env s ready. value_word z.declared (select condition accepted otherwise) word env.variables ready.fits whole)
+      (weaken z {P = Ready z}
+      (λ env s fine ready. ready)
+      (λ env s t fine ready done.
+      let t6 = done.middle in
+      let t5 = done.first.middle in
+      let t4 = done.first.first.middle in
+      let t3 = done.first.first.first.middle in
+      let t2 = done.first.first.first.first.middle in
+      let t1 = done.first.first.first.first.first.middle in
+      let one = done.first.first.first.first.first.first in
+      let two = done.first.first.first.first.first.second in
+      let three = done.first.first.first.first.second in
+      let four = done.first.first.first.second in
+      let five = done.first.first.second in
+      let six = done.first.second in
+      let seven = done.second in
       let c = value condition env in
       let a = value accepted env in
       let b = value otherwise env in
       let truth' = value_fits (types_of z.declared) env.variables ready.fits has in
       let a_fits = value_word z.declared accepted (labelled kind m') env.variables ready.fits chooses in
       let b_fits = value_word z.declared otherwise (labelled kind n') env.variables ready.fits more in
-      let x6 : t5.regs 6 ≡ a = five.others 6 (λ e. omega arith) ∙ same_Some (t4.regs 6) a (sym four.there ∙ (kept_number z (free + 8) t2 t3 three.kept 4 (free + 4) (omega arith) ∙ two.there)) in
-      let condition_there : number_at t4.bytes 4 (z.frame + free) ≡ Some c = ap (λ (bytes : ByteMap). number_at bytes 4 (z.frame + free)) four.same ∙ (kept_number z (free + 8) t2 t3 three.kept 4 free (omega arith) ∙ (kept_number z (free + 4) t1 t2 two.kept 4 free (omega arith) ∙ one.there)) in
-      let x7 : t5.regs 7 ≡ c = same_Some (t5.regs 7) c (sym five.there ∙ condition_there) in
-      let x5 : t5.regs 5 ≡ b = five.others 5 (λ e. omega arith) ∙ (four.others 5 (λ e. omega arith) ∙ three.there) in
-      let picked : chosen (t5.regs 7) (t5.regs 6) (t5.regs 5) ≡ chosen c a b = ap (λ x. chosen x (t5.regs 6) (t5.regs 5)) x7 ∙ (ap (λ x. chosen c x (t5.regs 5)) x6 ∙ ap (λ x. chosen c a x) x5) in
+      let cx : t6.regs x ≡ c = six.others x (home_apart place 29 31 (omega arith) (λ e. omega arith)) ∙ (five.others x (home_apart place 29 30 (omega arith) (λ e. omega arith)) ∙ four.there) in
+      let ay : t6.regs y ≡ a = six.others y (home_apart (place + 1) 30 31 (omega arith) (λ e. omega arith)) ∙ five.there in
+      let picked : chosen (t6.regs x) (t6.regs y) (t6.regs w) ≡ chosen c a b = ap (λ v. chosen v (t6.regs y) (t6.regs w)) cx ∙ (ap (λ v. chosen c v (t6.regs w)) ay ∙ ap (λ v. chosen c a v) six.there) in
       record {
-        held = six.held;
-        there = ap (λ (regs : ℕ → ℕ). regs 5) six.registers ∙ (picked ∙ choice c a b (omega (arith, truth')) a_fits b_fits);
+        held = seven.held;
+        there = ap (λ (regs : ℕ → ℕ). regs x) seven.registers ∙ (choice_made x y x_free y_free xy w w_free xw yw t6.regs ∙ (picked ∙ choice c a b (omega (arith, truth')) a_fits b_fits));
         kept =
-            kept_then z free s t1 t one.kept
-            (kept_then z free t1 t2 t (kept_less z free (free + 4) t1 t2 (omega arith) two.kept)
-            (kept_then z free t2 t3 t (kept_less z free (free + 8) t2 t3 (omega arith) three.kept) (kept_by z free t3 t (six.same ∙ (five.same ∙ four.same)))));
+            kept_then z k s t1 t one.kept
+            (kept_then z k t1 t2 t (kept_lower place (place + 1) t1 t2 (omega arith) two.kept)
+            (kept_then z k t2 t3 t (kept_lower place (place + 2) t2 t3 (omega arith) three.kept) (kept_by z k t3 t (seven.same ∙ (six.same ∙ (five.same ∙ four.same))))));
+        lower =
+            lower_then place s t1 t one.lower
+            (lower_then place t1 t2 t (lower_less place (place + 1) t1 t2 (omega arith) two.lower)
+            (lower_then place t2 t3 t (lower_less place (place + 2) t2 t3 (omega arith) three.lower)
+            (lower_then place t3 t4 t (lower_spare place 29 t3 t4 (omega arith) four.others)
+            (lower_then place t4 t5 t (lower_spare place 30 t4 t5 (omega arith) five.others)
+            (lower_then place t5 t6 t (lower_spare place 31 t5 t6 (omega arith) six.others) seven.lower)))));
       })
       (quiet z
       (quiet z
       (quiet z
+      (quiet z
       (seq z
-      (as_code z (append_assoc (cs ++ store_code 5 free) ls (store_code 5 (free + 4)))
-      (seq z
-      (pushed condition free l (λ env s ready. value_word z.declared condition (labelled Boolean l') env.variables ready.fits has) aligned (omega (arith, room)) first)
-      (pushed accepted (free + 4) m (λ env s ready. value_word z.declared accepted (labelled kind m') env.variables ready.fits chooses) (omega (arith, aligned)) (omega (arith, room)) second)
-      (λ env s t ready done. still_ready free above env s t ready done.held done.kept)))
+      (seq z first second (λ env s t ready done. still_ready place env s t ready done.held done.kept))
       third
-      (λ env s t ready done. still_ready free above env s t ready done.second.held (kept_then z free s done.middle t done.first.kept (kept_less z free (free + 4) done.middle t (omega arith) done.second.kept))))
-      (load_runs z 6 (free + 4) (omega (arith, aligned)) (omega (arith, room)) (omega arith) (λ e. omega arith) (λ e. omega arith))
-      (λ env s t ready done. done.second.held))
-      (load_runs z 7 free aligned (omega (arith, room)) (omega arith) (λ e. omega arith) (λ e. omega arith))
-      (λ env s t ready done. done.second.held))
-      (computing_runs z choice_code refl)
-      (λ env s t ready done. done.second.held)))
+      (λ env s t ready done. still_ready place env s t ready done.second.held (kept_then z k s done.middle t done.first.kept (kept_lower place (place + 1) done.middle t (omega arith) done.second.kept))))
+      (fetch_runs z free aligned place (omega (arith, room)) 29 (omega arith) (omega arith) (value condition))
+      (λ env s t ready done.
+      let mid = done.middle in
+      let early = done.first.middle in (
+        done.second.held,
+        holds_lower z free place (place + 2) (value condition env) mid t (omega arith) done.second.kept done.second.lower
+            (holds_lower z free place (place + 1) (value condition env) early mid (omega arith) done.first.second.kept done.first.second.lower done.first.first.there),
+      )))
+      (fetch_runs z free aligned (place + 1) (omega (arith, room)) 30 (omega arith) (omega arith) (value accepted))
+      (λ env s t ready done.
+      let mid = done.middle in
+      let early = done.first.middle in (
+        done.second.held,
+        holds_still z free (place + 1) (value accepted env) 29 mid t (omega arith) done.second.others done.second.same
+            (holds_lower z free (place + 1) (place + 2) (value accepted env) early mid (omega arith) done.first.second.kept done.first.second.lower done.first.first.second.there),
+      )))
+      (fetch_runs z free aligned (place + 2) room 31 (omega arith) (omega arith) (value otherwise))
+      (λ env s t ready done.
+      let mid = done.middle in
+      let early = done.first.middle in (
+        done.second.held,
+        holds_still z free (place + 2) (value otherwise env) 30 mid t (omega arith) done.second.others done.second.same
+            (holds_still z free (place + 2) (value otherwise env) 29 early mid (omega arith) done.first.second.others done.first.second.same done.first.first.second.there),
+      )))
+      (works z place x y x_free y_free xy
+      (λ q less small. (lower_apart q place 29 less small (omega arith), lower_apart q (place + 1) 30 (omega (arith, less)) small (omega arith)))
+      (choice_code x y w) (choice_plain x y x_free y_free xy w w_free xw yw))
+      (λ env s t ready done. done.second.held))))
 
   -- An element of an array.
 
-  value_free : IsFree 5
-  value_free = record { small = omega arith; nonzero = λ e. omega arith; not_base = λ e. omega arith; not_scratch = λ e. omega arith }
-
-  module _ (place : Place) (x size : ℕ) (word : WordType) (mutable : Bool) (known : slice_get z.declared x ≡ Some (array_as word mutable size)) where
+  module _ (source : Place) (x size : ℕ) (word : WordType) (mutable : Bool) (known : slice_get z.declared x ≡ Some (array_as word mutable size)) where
     abbrev element_at : ℕ → ℕ
     element_at i = place_of z.declared x (array_as word mutable size) i
 
@@ -356,83 +484,107 @@ module _ (z : Setting) where
         let h = element_below i below in
         record { even = place_aligned z.declared x (array_as word mutable size) i z.frame z.even; low = omega arith; high = omega (arith, h) }
 
-    element_runs : (index : TermTree) (free n : ℕ) {es : List Instr} → base_of z ≤ free → Runs z n (steps_of index) es (Ready z) (Valued z index free)
-        → Runs z (n + 16) (steps_of (element place x size index)) (es ++ element_code (kind_at z.declared x) (variable_offset z.declared x)) (Ready z) (Valued z (element place x size index) free)
-    element_runs index free n {es = es} above runs =
+    element_runs : (index : TermTree) (word' : WordType) (place n : ℕ) {es : List Instr} → HasSlot place
+        → HasType (types_of z.declared) (element source x size index) word'
+        → Runs z n (steps_of index) es (Ready z) (Valued z index free place)
+        → Runs z (n + 16) (steps_of (element source x size index)) (es ++ fetch_code free place 29 ++ element_code (home place 29) (kind_at z.declared x) (variable_offset z.declared x) ++ keep_code free place) (Ready z) (Valued z (element source x size index) free place)
+    element_runs index word' place n {es = es} room has runs =
         let o = variable_offset z.declared x in
         let d = array_as word mutable size in
         let load = load_by word.kind in
         let bytes = byte_count (load_size load) in
         let i = λ (env : StraightState). value_in env.variables index in
-        as_code z (ap (λ k. es ++ element_code k o) (kind_known z.declared x d known))
+        let r = home place 29 in
+        let one' = home_one z place in
+        let k = slot_of free place in
+        as_code z (ap (λ kind. es ++ fetch_code free place 29 ++ element_code r kind o ++ keep_code free place) (kind_known z.declared x d known))
         (cheaper z (omega arith)
+        (keeps z free aligned place room (element source x size index) (λ env s ready. value_word z.declared (element source x size index) word' env.variables ready.fits has)
         (weaken z {P = λ env s. Ready z env s × (i env < size)}
-        (λ env s fine ready. (ready, (fine_right z.counts (path_in env.variables index) (indexed place size (i env) ∷ []) fine).0))
+        (λ env s fine ready. (ready, (fine_right z.counts (path_in env.variables index) (indexed source size (i env) ∷ []) fine).0))
         (λ env s t fine ready done.
-        let u = done.middle in
+        let u2 = done.middle in
+        let u1 = done.first.middle in
         let v = done.second.middle in
-        let below = (fine_right z.counts (path_in env.variables index) (indexed place size (i env) ∷ []) fine).0 in
-        let one = done.first in
-        let two = done.second.first in
-        let three = done.second.second in
-        let still = still_ready free above env s u ready one.held one.kept in
+        let below = (fine_right z.counts (path_in env.variables index) (indexed source size (i env) ∷ []) fine).0 in
+        let one = done.first.first in
+        let two = done.first.second in
+        let three = done.second.first in
+        let four = done.second.second in
+        let still = still_ready place env s u1 ready one.held one.kept in
         let found : number_at v.bytes bytes (z.frame + element_at (i env)) ≡ Some (slice_index (env.variables x) (i env)) =
-        ap (λ k. number_at v.bytes k (z.frame + element_at (i env))) (load_bytes word.kind) ∙ (ap (λ (b : ByteMap). number_at b (element_bytes word.kind) (z.frame + element_at (i env))) two.same ∙ still.variables_there x d (i env) known below) in
+        ap (λ m. number_at v.bytes m (z.frame + element_at (i env))) (load_bytes word.kind) ∙ (ap (λ (b : ByteMap). number_at b (element_bytes word.kind) (z.frame + element_at (i env))) (three.same ∙ two.same) ∙ still.variables_there x d (i env) known below) in
         record {
-          held = held_regs z v t (three.others 2 (λ e. omega arith)) three.same two.held;
-          there = three.there ∙ (load_plain word.kind three.value ∙ same_Some three.value (slice_index (env.variables x) (i env)) (sym three.found ∙ found));
-          kept = kept_then z free s u t one.kept (kept_by z free u t (three.same ∙ two.same));
+          held = held_regs z v t (four.others 2 (λ e. one'.not_base (sym e))) four.same three.held;
+          there = four.there ∙ (load_plain word.kind four.value ∙ same_Some four.value (slice_index (env.variables x) (i env)) (sym four.found ∙ found));
+          kept = kept_then z k s u1 t one.kept (kept_by z k u1 t (four.same ∙ (three.same ∙ two.same)));
+          lower =
+              lower_then place s u1 t one.lower
+              (lower_then place u1 u2 t (lower_spare place 29 u1 u2 (omega arith) two.others)
+              (λ q less small. four.others (5 + q) (lower_apart q place 29 less small (omega arith)) ∙ three.others (5 + q) (lower_apart q place 29 less small (omega arith)) (λ e. omega (arith, small, e))));
         })
         (seq z
-        (weaken z {Q = Valued z index free}
+        (quiet z
+        (weaken z {Q = Valued z index free place}
         (λ env s fine both. both.0)
         (λ env s t fine both done. done)
         runs)
-        (quietly z {P = λ env s. HeldAt z s × (s.regs 5 ≡ i env) × (i env < size)}
+        (fetch_runs z free aligned place room 29 (omega arith) (omega arith) i)
+        (λ env s t both valued. (valued.held, valued.there)))
+        (quietly z {P = λ env s. HeldAt z s × (s.regs r ≡ i env) × (i env < size)}
         (weaken z
         (λ env s fine given. (given.0, given.1, let h = element_below (i env) given.2 in let ends = z.ends in omega (arith, h, ends)))
         (λ env s t fine given done. done)
-        (address_runs z 5 value_free word.kind o i))
-        (loading_at z place size i (λ j. z.frame + element_at j) load 5 5 (lower_part o) (omega arith, omega arith, lower_fits o) (λ e. omega arith)
-        (λ j below. subst (λ k. Inside z k (z.frame + element_at j)) (sym (load_bytes word.kind)) (element_inside j below)))
+        (address_runs z r one' word.kind o i))
+        (loading_at z source size i (λ j. z.frame + element_at j) load r r (lower_part o) (one'.small, one'.small, lower_fits o) one'.nonzero
+        (λ j below. subst (λ m. Inside z m (z.frame + element_at j)) (sym (load_bytes word.kind)) (element_inside j below)))
         (λ env s t given done. record {
           address = done.address;
-          data_there = ap (λ k. is_some (number_at t.bytes k (z.frame + element_at (i env)))) (load_bytes word.kind) ∙ frame_there z t done.held (element_bytes word.kind) (element_at (i env)) (element_below (i env) given.2);
+          data_there = ap (λ m. is_some (number_at t.bytes m (z.frame + element_at (i env)))) (load_bytes word.kind) ∙ frame_there z t done.held (element_bytes word.kind) (element_at (i env)) (element_below (i env) given.2);
         }))
-        (λ env s t both done. (done.held, done.there, both.1)))))
+        (λ env s t both done. (done.second.held, done.second.there, both.1))))))
 
-  -- Each well-typed expression, with temporaries from this offset on.
-  pub expr_runs : {e : TermTree} {word : WordType} → HasType (types_of z.declared) e word → (free : ℕ) → free % 4 ≡ 0 → base_of z ≤ free → free + 4 * height_of e ≤ z.size
-      → Runs z (16 * term_nodes e) (steps_of e) (expr_code z.declared free e) (Ready z) (Valued z e free)
-  expr_runs (of_number {value = value} {kind = kind} below) free aligned above room = constant (number value kind) free value (λ env. refl) (kind_fits kind value below)
-  expr_runs (of_truth {value = value}) free aligned above room = constant (truth value) free (word_of value) (λ env. refl) (truth_fits value)
-  expr_runs (of_variable {x = x} {word = word} {mutable = mutable} is) free aligned above room = slot x free word mutable is
-  expr_runs (of_prefix {operator = operator} {width = width} {operand = operand} {kind = kind} {label = label} has takes same) free aligned above room =
+  -- Each well-typed expression, into any place.
+  pub expr_runs : {e : TermTree} {word : WordType} → HasType (types_of z.declared) e word → (place : ℕ) → free + 4 * slots_to (height_of e + place) ≤ z.size
+      → Runs z (16 * term_nodes e) (steps_of e) (expr_code z.declared free place e) (Ready z) (Valued z e free place)
+  expr_runs (of_number {value = value} {kind = kind} below) place room = constant (number value kind) place value (omega (arith, room)) (λ env. refl) (kind_fits kind value below)
+  expr_runs (of_truth {value = value}) place room = constant (truth value) place (word_of value) (omega (arith, room)) (λ env. refl) (truth_fits value)
+  expr_runs (of_variable {x = x} {word = word} {mutable = mutable} is) place room = slot x place word mutable (omega (arith, room)) is
+  expr_runs {e = e} {word = word} (of_prefix {operator = operator} {width = width} {operand = operand} {kind = kind} {label = label} has takes same) place room =
+      let l = home place 29 in
       cheaper z (omega arith)
-      (applied operand (prefix operator width operand) free (16 * term_nodes operand) (prefix_code operator width) (let h = prefix_length operator width in omega (arith, h)) (prefix_plain operator width)
+      (applied operand (prefix operator width operand) place (16 * term_nodes operand) (prefix_code l operator width) (omega (arith, room)) (let h = prefix_length l operator width in omega (arith, h))
+      (prefix_plain l 30 (home_one z place) (beside_free z) (beside_apart z place) operator width)
       (λ m fits. value_word z.declared operand (labelled kind label) m fits has)
-      (λ m regs below is. prefix_made operator width regs below ∙ ap (prefix_value operator width) is)
-      (expr_runs has free aligned above room))
-  expr_runs (of_binary {place = place} {operator = operator} {width = width} {left = left} {right = right} {one = one} {other = other} has more makes same) free aligned above room =
+      (λ m fits. value_word z.declared e word m fits (of_prefix has takes same))
+      (λ m regs below is. prefix_made l 30 (home_one z place) (beside_free z) (beside_apart z place) operator width regs below ∙ ap (prefix_value operator width) is)
+      (expr_runs has place room))
+  expr_runs {e = e} {word = word} (of_binary {place = source} {operator = operator} {width = width} {left = left} {right = right} {one = one} {other = other} has more makes same) place room =
       let l = le-max_left (height_of left) (1 + height_of right) in
       let r = le-max_right (height_of left) (1 + height_of right) in
       cheaper z (omega arith)
-      (binary_runs place operator width left right one other free (16 * term_nodes left) (16 * term_nodes right) aligned above (omega (arith, room, r)) has more
-      (expr_runs has free aligned above (omega (arith, room, l)))
-      (expr_runs more (free + 4) (omega (arith, aligned)) (omega (arith, above)) (omega (arith, room, r))))
-  expr_runs (of_rotation {width = width} {operand = operand} {amount = amount} {kind = kind} {label = label} has numeric low high same) free aligned above room =
+      (binary_runs source operator width left right one other word place (16 * term_nodes left) (16 * term_nodes right) (omega (arith, room, r)) has more (of_binary has more makes same)
+      (expr_runs has place (omega (arith, room, l)))
+      (expr_runs more (place + 1) (omega (arith, room, r))))
+  expr_runs {e = e} {word = word} (of_rotation {width = width} {operand = operand} {amount = amount} {kind = kind} {label = label} has numeric low high same) place room =
+      let l = home place 29 in
       cheaper z (omega arith)
-      (applied operand (rotate width operand amount) free (16 * term_nodes operand) (rotate_code width amount) (let h = rotate_length width amount in omega (arith, h)) (rotate_plain width amount)
+      (applied operand (rotate width operand amount) place (16 * term_nodes operand) (rotate_code l width amount) (omega (arith, room)) (let h = rotate_length l width amount in omega (arith, h))
+      (rotate_plain l 30 (home_one z place) (beside_free z) (beside_apart z place) width amount)
       (λ m fits. value_word z.declared operand (labelled kind label) m fits has)
-      (λ m regs below is. rotate_made width amount regs below ∙ ap (λ v. rotated_left width v amount) is)
-      (expr_runs has free aligned above room))
-  expr_runs (of_conversion {kind = kind} {other = other} {operand = operand} {label = label} has numeric) free aligned above room =
+      (λ m fits. value_word z.declared e word m fits (of_rotation has numeric low high same))
+      (λ m regs below is. rotate_made l 30 (home_one z place) (beside_free z) (beside_apart z place) width amount regs below ∙ ap (λ v. rotated_left width v amount) is)
+      (expr_runs has place room))
+  expr_runs {e = e} {word = word} (of_conversion {kind = kind} {other = other} {operand = operand} {label = label} has numeric) place room =
+      let l = home place 29 in
       cheaper z (omega arith)
-      (applied operand (convert kind operand) free (16 * term_nodes operand) (cut_code (width_of kind)) (let h = cut_length (width_of kind) in omega (arith, h)) (cut_plain (width_of kind))
+      (applied operand (convert kind operand) place (16 * term_nodes operand) (cut_code l (width_of kind)) (omega (arith, room)) (let h = cut_length l (width_of kind) in omega (arith, h))
+      (cut_plain l 30 (home_one z place) (beside_free z) (beside_apart z place) (width_of kind))
       (λ m fits. value_word z.declared operand (labelled other label) m fits has)
-      (λ m regs below is. cut_made (width_of kind) regs below ∙ ap (converted (width_of kind)) is)
-      (expr_runs has free aligned above room))
-  expr_runs (of_selection {condition = condition} {accepted = accepted} {otherwise = otherwise} {kind = kind} {l = l} {m = m} {n = n} has chooses more) free aligned above room =
+      (λ m fits. value_word z.declared e word m fits (of_conversion has numeric))
+      (λ m regs below is. cut_made l 30 (home_one z place) (beside_free z) (beside_apart z place) (width_of kind) regs below ∙ ap (converted (width_of kind)) is)
+      (expr_runs has place room))
+  expr_runs {e = e} {word = word} (of_selection {condition = condition} {accepted = accepted} {otherwise = otherwise} {kind = kind} {l = l} {m = m} {n = n} has chooses more) place room =
       let h = height_of condition in
       let i = height_of accepted in
       let j = height_of otherwise in
@@ -441,10 +593,10 @@ module _ (z : Setting) where
       let c = le-max_left i (1 + j) in
       let d = le-max_right i (1 + j) in
       cheaper z (omega arith)
-      (select_runs condition accepted otherwise kind l m n free (16 * term_nodes condition) (16 * term_nodes accepted) (16 * term_nodes otherwise) aligned above (omega (arith, room, b, d)) has chooses more
-      (expr_runs has free aligned above (omega (arith, room, a)))
-      (expr_runs chooses (free + 4) (omega (arith, aligned)) (omega (arith, above)) (omega (arith, room, b, c)))
-      (expr_runs more (free + 8) (omega (arith, aligned)) (omega (arith, above)) (omega (arith, room, b, d))))
-  expr_runs (of_element {place = place} {x = x} {size = size} {index = index} {word = word} {mutable = mutable} is has) free aligned above room =
+      (select_runs condition accepted otherwise kind l m n word place (16 * term_nodes condition) (16 * term_nodes accepted) (16 * term_nodes otherwise) (omega (arith, room, b, d)) has chooses more (of_selection has chooses more)
+      (expr_runs has place (omega (arith, room, a)))
+      (expr_runs chooses (place + 1) (omega (arith, room, b, c)))
+      (expr_runs more (place + 2) (omega (arith, room, b, d))))
+  expr_runs {e = e} {word = word'} (of_element {place = source} {x = x} {size = size} {index = index} {word = word} {mutable = mutable} is has) place room =
       cheaper z (omega arith)
-      (element_runs place x size word mutable is index free (16 * term_nodes index) above (expr_runs has free aligned above room))
+      (element_runs source x size word mutable is index word' place (16 * term_nodes index) (omega (arith, room)) (of_element is has) (expr_runs has place room))

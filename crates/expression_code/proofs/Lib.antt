@@ -4,12 +4,14 @@ pub mod Steps
 pub mod Held
 pub mod Pieces
 pub mod Stores
+pub mod Homes
 pub mod Computing
 pub mod OperatorRuns
 pub mod Operations
 pub mod Masks
 pub mod Places
 pub mod Values
+pub mod Fetching
 pub mod TermLengths
 pub mod TermTypes
 pub mod Elements

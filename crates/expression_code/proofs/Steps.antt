@@ -42,7 +42,7 @@ either : (b : Bool) (x y : ℕ) → x ≡ y → cond b y x ≡ y
 either true x y e = refl
 either false x y e = e
 
-unwritten : (regs : ℕ → ℕ) (rd value q : ℕ) → q ≢ rd → with_register regs rd value q ≡ regs q
+pub unwritten : (regs : ℕ → ℕ) (rd value q : ℕ) → q ≢ rd → with_register regs rd value q ≡ regs q
 unwritten regs rd value q h =
     let e : cond (nat_eq q rd) value (regs q) ≡ regs q = rw (ne_eqb q rd h) in
     either (nat_eq q 0) (cond (nat_eq q rd) value (regs q)) (regs q) e

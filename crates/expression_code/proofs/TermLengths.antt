@@ -1,8 +1,9 @@
--- How many slots an expression's temporaries take, and how many instructions it is.
-use Rattle.std.proofs.Common.{ℕ, ◌+◌, ◌*◌, ◌%◌, ◌≤◌, ◌==◌, Bool, true, false, cond, nat_lt, List, length, max, arith, length-append}
+-- How many temporaries an expression has at once, and how many instructions it is.
+use Rattle.std.proofs.Common.{ℕ, ◌+◌, ◌*◌, ◌%◌, ◌≤◌, ◌==◌, Bool, true, false, cond, nat_lt, List, ◌++◌, length, max, arith, length-append}
 use Rattle.std.proofs.Math.Nat.{max-le}
 use Rattle.expression_code.specs.Layout.{variable_offset}
-use Rattle.expression_code.specs.TermCode.{load_code, store_code, constant_code, expr_code, height_of, cut_code, operator_code, prefix_code, around_code, rotate_code, scale_code, raise_code, address_code, element_code, kind_at}
+use Rattle.expression_code.specs.Registers.{home, slot_of}
+use Rattle.expression_code.specs.TermCode.{load_code, store_code, constant_code, fetch_code, keep_code, expr_code, height_of, cut_code, operator_code, prefix_code, around_code, rotate_code, scale_code, raise_code, address_code, element_code, kind_at}
 use Rattle.inline.specs.declared.flat.FlatVariable.{FlatVariable}
 use Rattle.inline.specs.Flat.{TermTree, number, truth, variable, prefix, binary, rotate, convert, select, element}
 use Rattle.inline.specs.FlatSize.{term_nodes}
@@ -19,7 +20,7 @@ use Rattle.word.specs.declared.width.Width.TheVariants.{W8, W16, W32}
 use Rattle.word.specs.Operators.{word_of}
 use Rattle.word.specs.Widths.{bits}
 
--- Slots.
+-- Temporaries.
 
 pub height : (e : TermTree) → height_of e + 1 ≤ term_nodes e
 height (number value kind) = omega arith
@@ -57,41 +58,47 @@ store_length r o = one_of (nat_lt o 2048) _ _ 3 (omega arith) (omega arith)
 pub constant_length : (r n : ℕ) → length (constant_code r n) ≤ 2
 constant_length r n = one_of (nat_lt n 2048) _ _ 2 (omega arith) (omega arith)
 
-pub cut_length : (w : Width) → length (cut_code w) ≤ 2
-cut_length W8 = omega arith
-cut_length W16 = omega arith
-cut_length W32 = omega arith
+fetch_length : (free place spare : ℕ) → length (fetch_code free place spare) ≤ 3
+fetch_length free place spare = one_of (nat_lt place 16) _ _ 3 (omega arith) (load_length spare (slot_of free place))
 
-pub operator_length : (o : BinaryOperator) (w : Width) → length (operator_code o w) ≤ 3
-operator_length operators.Either w = omega arith
-operator_length operators.Both w = omega arith
-operator_length operators.Equal w = omega arith
-operator_length operators.Unequal w = omega arith
-operator_length operators.Less w = omega arith
-operator_length operators.LessOrEqual w = omega arith
-operator_length operators.Greater w = omega arith
-operator_length operators.GreaterOrEqual w = omega arith
-operator_length operators.BitOr w = omega arith
-operator_length operators.BitXor w = omega arith
-operator_length operators.BitAnd w = omega arith
-operator_length operators.ShiftLeft w = omega (arith, cut_length w)
-operator_length operators.ShiftRight w = omega (arith, cut_length w)
-operator_length operators.Add w = omega (arith, cut_length w)
-operator_length operators.Subtract w = omega (arith, cut_length w)
-operator_length operators.Multiply w = omega (arith, cut_length w)
-operator_length operators.Divide w = omega arith
-operator_length operators.Remainder w = omega arith
+keep_length : (free place : ℕ) → length (keep_code free place) ≤ 3
+keep_length free place = one_of (nat_lt place 16) _ _ 3 (omega arith) (store_length 29 (slot_of free place))
 
-pub prefix_length : (o : PrefixOperator) (w : Width) → length (prefix_code o w) ≤ 4
-prefix_length prefixes.Not w = omega arith
-prefix_length prefixes.Complement w = omega (arith, cut_length w)
-prefix_length prefixes.Negate w = omega (arith, cut_length w)
+pub cut_length : (r : ℕ) (w : Width) → length (cut_code r w) ≤ 2
+cut_length r W8 = omega arith
+cut_length r W16 = omega arith
+cut_length r W32 = omega arith
 
-around_length : (w : Width) (amount : ℕ) → length (around_code w amount) ≤ 5
-around_length w amount = one_of (amount == 0) _ _ 5 (omega arith) (omega (arith, cut_length w))
+pub operator_length : (l r : ℕ) (o : BinaryOperator) (w : Width) → length (operator_code l r o w) ≤ 3
+operator_length l r operators.Either w = omega arith
+operator_length l r operators.Both w = omega arith
+operator_length l r operators.Equal w = omega arith
+operator_length l r operators.Unequal w = omega arith
+operator_length l r operators.Less w = omega arith
+operator_length l r operators.LessOrEqual w = omega arith
+operator_length l r operators.Greater w = omega arith
+operator_length l r operators.GreaterOrEqual w = omega arith
+operator_length l r operators.BitOr w = omega arith
+operator_length l r operators.BitXor w = omega arith
+operator_length l r operators.BitAnd w = omega arith
+operator_length l r operators.ShiftLeft w = omega (arith, cut_length l w)
+operator_length l r operators.ShiftRight w = omega (arith, cut_length l w)
+operator_length l r operators.Add w = omega (arith, cut_length l w)
+operator_length l r operators.Subtract w = omega (arith, cut_length l w)
+operator_length l r operators.Multiply w = omega (arith, cut_length l w)
+operator_length l r operators.Divide w = omega arith
+operator_length l r operators.Remainder w = omega arith
 
-pub rotate_length : (w : Width) (amount : ℕ) → length (rotate_code w amount) ≤ 7
-rotate_length w amount = simp length-append (omega (arith, cut_length w, around_length w (amount % bits w)))
+pub prefix_length : (r : ℕ) (o : PrefixOperator) (w : Width) → length (prefix_code r o w) ≤ 4
+prefix_length r prefixes.Not w = omega arith
+prefix_length r prefixes.Complement w = omega (arith, cut_length r w)
+prefix_length r prefixes.Negate w = omega (arith, cut_length r w)
+
+around_length : (r : ℕ) (w : Width) (amount : ℕ) → length (around_code r w amount) ≤ 5
+around_length r w amount = one_of (amount == 0) _ _ 5 (omega arith) (omega (arith, cut_length r w))
+
+pub rotate_length : (r : ℕ) (w : Width) (amount : ℕ) → length (rotate_code r w amount) ≤ 7
+rotate_length r w amount = simp length-append (omega (arith, cut_length r w, around_length r w (amount % bits w)))
 
 scale_length : (r : ℕ) (kind : Kind) → length (scale_code r kind) ≤ 1
 scale_length r Boolean = omega arith
@@ -105,25 +112,49 @@ raise_length r o = one_of (nat_lt o 2048) _ _ 2 (omega arith) (omega arith)
 pub address_length : (r : ℕ) (kind : Kind) (o : ℕ) → length (address_code r kind o) ≤ 4
 address_length r kind o = simp length-append (omega (arith, scale_length r kind, raise_length r o))
 
-pub element_length : (kind : Kind) (o : ℕ) → length (element_code kind o) ≤ 5
-element_length kind o = simp length-append (omega (arith, scale_length 5 kind, raise_length 5 o))
+pub element_length : (r : ℕ) (kind : Kind) (o : ℕ) → length (element_code r kind o) ≤ 5
+element_length r kind o = simp length-append (omega (arith, scale_length r kind, raise_length r o))
+
+-- an operand, what is made of it, and that it is kept
+made_length : (es fs is ks : List Instr) (n : ℕ) → length es ≤ n → length fs ≤ 3 → length is ≤ 10 → length ks ≤ 3 → length (es ++ fs ++ is ++ ks) ≤ n + 16
+made_length es fs is ks n a b c d =
+    let x = length-append es fs in
+    let y = length-append (es ++ fs) is in
+    let z = length-append (es ++ fs ++ is) ks in
+    omega (arith, x, y, z, a, b, c, d)
 
 -- at most 16 instructions a node
-pub expr_length : (declared : List FlatVariable) (free : ℕ) (e : TermTree) → length (expr_code declared free e) ≤ 16 * term_nodes e
-expr_length declared free (number value kind) = omega (arith, constant_length 5 value)
-expr_length declared free (truth value) = omega (arith, constant_length 5 (word_of value))
-expr_length declared free (variable x) = omega (arith, load_length 5 (variable_offset declared x))
-expr_length declared free (prefix operator width operand) = simp length-append (omega (arith, expr_length declared free operand, prefix_length operator width))
-expr_length declared free (binary place operator width one other) =
+pub expr_length : (declared : List FlatVariable) (free place : ℕ) (e : TermTree) → length (expr_code declared free place e) ≤ 16 * term_nodes e
+expr_length declared free place (number value kind) =
+    let h = length-append (constant_code (home place 29) value) (keep_code free place) in
+    omega (arith, h, constant_length (home place 29) value, keep_length free place)
+expr_length declared free place (truth value) =
+    let h = length-append (constant_code (home place 29) (word_of value)) (keep_code free place) in
+    omega (arith, h, constant_length (home place 29) (word_of value), keep_length free place)
+expr_length declared free place (variable x) =
+    let h = length-append (load_code (home place 29) (variable_offset declared x)) (keep_code free place) in
+    omega (arith, h, load_length (home place 29) (variable_offset declared x), keep_length free place)
+expr_length declared free place (prefix operator width operand) =
+    let h = prefix_length (home place 29) operator width in
+    let m = made_length (expr_code declared free place operand) (fetch_code free place 29) (prefix_code (home place 29) operator width) (keep_code free place) (16 * term_nodes operand) (expr_length declared free place operand) (fetch_length free place 29) (omega (arith, h)) (keep_length free place) in
+    omega (arith, m)
+expr_length declared free place (binary source operator width one other) =
+    let l = home place 29 in
+    let r = home (place + 1) 30 in
     simp length-append
-    (omega (arith, operator_length operator width, expr_length declared free one, expr_length declared (free + 4) other, store_length 5 free, load_length 6 free))
-expr_length declared free (rotate width operand amount) =
-    let e = length-append (expr_code declared free operand) (rotate_code width amount) in
-    omega (arith, e, expr_length declared free operand, rotate_length width amount)
-expr_length declared free (convert kind operand) = simp length-append (omega (arith, expr_length declared free operand, cut_length (width_of kind)))
-expr_length declared free (select condition accepted otherwise) =
+    (omega (arith, expr_length declared free place one, expr_length declared free (place + 1) other, fetch_length free place 29, fetch_length free (place + 1) 30, operator_length l r operator width, keep_length free place))
+expr_length declared free place (rotate width operand amount) =
+    let h = rotate_length (home place 29) width amount in
+    let m = made_length (expr_code declared free place operand) (fetch_code free place 29) (rotate_code (home place 29) width amount) (keep_code free place) (16 * term_nodes operand) (expr_length declared free place operand) (fetch_length free place 29) (omega (arith, h)) (keep_length free place) in
+    omega (arith, m)
+expr_length declared free place (convert kind operand) =
+    let h = cut_length (home place 29) (width_of kind) in
+    let m = made_length (expr_code declared free place operand) (fetch_code free place 29) (cut_code (home place 29) (width_of kind)) (keep_code free place) (16 * term_nodes operand) (expr_length declared free place operand) (fetch_length free place 29) (omega (arith, h)) (keep_length free place) in
+    omega (arith, m)
+expr_length declared free place (select condition accepted otherwise) =
     simp length-append
-    (omega (arith, expr_length declared free condition, expr_length declared (free + 4) accepted, expr_length declared (free + 8) otherwise, store_length 5 free, store_length 5 (free + 4), load_length 6 (free + 4), load_length 7 free))
-expr_length declared free (element place x size index) =
-    let e = length-append (expr_code declared free index) (element_code (kind_at declared x) (variable_offset declared x)) in
-    omega (arith, e, expr_length declared free index, element_length (kind_at declared x) (variable_offset declared x))
+    (omega (arith, expr_length declared free place condition, expr_length declared free (place + 1) accepted, expr_length declared free (place + 2) otherwise, fetch_length free place 29, fetch_length free (place + 1) 30, fetch_length free (place + 2) 31, keep_length free place))
+expr_length declared free place (element source x size index) =
+    let h = element_length (home place 29) (kind_at declared x) (variable_offset declared x) in
+    let m = made_length (expr_code declared free place index) (fetch_code free place 29) (element_code (home place 29) (kind_at declared x) (variable_offset declared x)) (keep_code free place) (16 * term_nodes index) (expr_length declared free place index) (fetch_length free place 29) (omega (arith, h)) (keep_length free place) in
+    omega (arith, m)

@@ -1,7 +1,9 @@
 -- What is shown of the state of straight code, and what the code of an expression leaves.
-use Rattle.std.proofs.Common.{◌≡◌, ℕ, ◌+◌, ◌-◌, ◌%◌, ◌^◌, ◌<◌, ◌≤◌, Some, slice_get, slice_index, ap, ◌∙◌, arith, sym}
+use Rattle.std.proofs.Common.{◌≡◌, ◌≢◌, ℕ, ◌+◌, ◌-◌, ◌*◌, ◌%◌, ◌^◌, ◌<◌, ◌≤◌, Bool, true, false, nat_lt, Some, slice_get, slice_index, refl, ap, ◌∙◌, arith, sym}
+use Rattle.std.proofs.lemmas.Bool.Decides.{nat_tests}
 use Rattle.branch_removal.specs.StraightMeaning.{StraightState}
 use Rattle.expression_code.specs.Layout.{control_offset}
+use Rattle.expression_code.specs.Registers.{slot_of}
 use Rattle.inline.specs.declared.flat.FlatVariable.{FlatVariable}
 use Rattle.inline.specs.Fitting.{Fits}
 use Rattle.inline.specs.Flat.{TermTree, numbers_in}
@@ -29,17 +31,24 @@ pub record Ready (z : Setting) (env : StraightState) (s : machine.State) : Type 
       → number_at s.bytes (bytes_of d) (z.frame + place_of z.declared x d i) ≡ Some (slice_index (env.variables x) i)
   pub controls_there : (c : ℕ) → c < z.controls → number_at s.bytes 4 (z.frame + control_offset z.declared c) ≡ Some (mask_of (env.controls c))
 
--- the value's register has what the expression means
-pub record Valued (z : Setting) (e : TermTree) (free : ℕ) (env : StraightState) (s t : machine.State) : Type 0 where
-  pub held : Held z env t
-  pub there : t.regs 5 ≡ value_in env.variables e
-  pub kept : Kept z free s t
+-- so are the registers of lower places
+abbrev pub Lower : ℕ → machine.State → machine.State → Type 0
+Lower place s t = (q : ℕ) → q < place → q < 16 → t.regs (5 + q) ≡ s.regs (5 + q)
 
--- the slot at the offset has it
-pub record Pushed (z : Setting) (e : TermTree) (free : ℕ) (env : StraightState) (s t : machine.State) : Type 0 where
+-- the temporary of a place, with a register or without one, has this value
+abbrev pub HoldsBy : Bool → Setting → ℕ → ℕ → machine.State → ℕ → Type 0
+HoldsBy true z free place t v = t.regs (5 + place) ≡ v
+HoldsBy false z free place t v = number_at t.bytes 4 (z.frame + slot_of free place) ≡ Some v
+
+abbrev pub Holds : Setting → ℕ → ℕ → machine.State → ℕ → Type 0
+Holds z free place t v = HoldsBy (nat_lt place 16) z free place t v
+
+-- a place has what the expression means
+pub record Valued (z : Setting) (e : TermTree) (free place : ℕ) (env : StraightState) (s t : machine.State) : Type 0 where
   pub held : Held z env t
-  pub there : number_at t.bytes 4 (z.frame + free) ≡ Some (value_in env.variables e)
-  pub kept : Kept z free s t
+  pub there : Holds z free place t (value_in env.variables e)
+  pub kept : Kept z (slot_of free place) s t
+  pub lower : Lower place s t
 
 -- so numbers below the offset are
 pub kept_number : (z : Setting) (free : ℕ) (s t : machine.State) → Kept z free s t → (n o : ℕ) → o + n ≤ free → number_at t.bytes n (z.frame + o) ≡ number_at s.bytes n (z.frame + o)
@@ -82,3 +91,35 @@ ready_after z env s t ready held kept = record {
   variables_there = λ x d i is below. kept_number z (base_of z) s t kept (bytes_of d) (place_of z.declared x d i) (place_below z x d i is below) ∙ ready.variables_there x d i is below;
   controls_there = λ c below. kept_number z (base_of z) s t kept 4 (control_offset z.declared c) (omega (arith, below)) ∙ ready.controls_there c below;
 }
+
+-- Temporaries stay.
+
+pub lower_then : (place : ℕ) (s t u : machine.State) → Lower place s t → Lower place t u → Lower place s u
+lower_then place s t u one other q less small = other q less small ∙ one q less small
+
+pub lower_less : (less place : ℕ) (s t : machine.State) → less ≤ place → Lower place s t → Lower less s t
+lower_less less place s t few lower q below small = lower q (omega (arith, below, few)) small
+
+-- where the code of a temporary of a higher place has run
+holds_beside : (z : Setting) (free less place v : ℕ) (s t : machine.State) → less < place → Kept z (slot_of free place) s t → Lower place s t
+    → (b : Bool) → nat_lt less 16 ≡ b → HoldsBy b z free less s v → HoldsBy b z free less t v
+holds_beside z free less place v s t below kept lower true h there =
+    let small : less < 16 = grind (arith, nat_tests) in
+    lower less below small ∙ there
+holds_beside z free less place v s t below kept lower false h there =
+    let large : 16 ≤ less = grind (arith, nat_tests) in
+    kept_number z (slot_of free place) s t kept 4 (slot_of free less) (omega (arith, below, large)) ∙ there
+
+pub holds_lower : (z : Setting) (free less place v : ℕ) (s t : machine.State) → less < place → Kept z (slot_of free place) s t → Lower place s t → Holds z free less s v → Holds z free less t v
+holds_lower z free less place v s t below kept lower there = holds_beside z free less place v s t below kept lower (nat_lt less 16) refl there
+
+-- where only a spare register has changed
+holds_alike : (z : Setting) (free place v spare : ℕ) (s t : machine.State) → 28 < spare → ((q : ℕ) → q ≢ spare → t.regs q ≡ s.regs q) → t.bytes ≡ s.bytes
+    → (b : Bool) → nat_lt place 16 ≡ b → HoldsBy b z free place s v → HoldsBy b z free place t v
+holds_alike z free place v spare s t low others same true h there =
+    let small : place < 16 = grind (arith, nat_tests) in
+    others (5 + place) (λ e. omega (arith, small, low, e)) ∙ there
+holds_alike z free place v spare s t low others same false h there = ap (λ (b : ByteMap). number_at b 4 (z.frame + slot_of free place)) same ∙ there
+
+pub holds_still : (z : Setting) (free place v spare : ℕ) (s t : machine.State) → 28 < spare → ((q : ℕ) → q ≢ spare → t.regs q ≡ s.regs q) → t.bytes ≡ s.bytes → Holds z free place s v → Holds z free place t v
+holds_still z free place v spare s t low others same there = holds_alike z free place v spare s t low others same (nat_lt place 16) refl there

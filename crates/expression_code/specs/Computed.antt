@@ -1,9 +1,9 @@
--- What the machine does on the code of an expression, wherever that stands: the value comes into its register, and what is
--- shown is decided by the path.
-use Rattle.std.specs.Prelude.{◌≡◌, ℕ, ◌+◌, ◌*◌, ◌%◌, ◌^◌, ◌<◌, ◌≤◌, true, List, [], ◌∷◌, length, Some, All, is_some, slice_get, slice_index}
+-- What the machine does on the code of an expression, wherever that stands and whichever the place of its value: the value
+-- comes there, the temporaries of lower places stay, and what is shown is decided by the path.
+use Rattle.std.specs.Prelude.{◌≡◌, ℕ, ◌+◌, ◌*◌, ◌%◌, ◌^◌, ◌<◌, ◌≤◌, true, List, [], ◌∷◌, length, Option, Some, All, is_some, slice_get, slice_index, if◌then◌else◌}
 use Rattle.expression_code.specs.Inside.{IsInside}
 use Rattle.expression_code.specs.Layout.{bytes_of, place_of, result_offset}
-use Rattle.expression_code.specs.Registers.{frame_register, value_register}
+use Rattle.expression_code.specs.Registers.{frame_register, value_register, has_register, slot_of, slots_to}
 use Rattle.expression_code.specs.TermCode.{expr_code, height_of}
 use Rattle.inline.specs.declared.flat.FlatVariable.{FlatVariable}
 use Rattle.inline.specs.Fitting.{Fits}
@@ -24,7 +24,8 @@ abbrev pub Placed : Code → ℕ → List Instr → Type 0
 Placed code p [] = Unit {0}
 Placed code p (i ∷ is) = (p % 4 ≡ 0) × (p + 4 < 2 ^ 32) × (word_at code p ≡ Some (word_of i)) × Placed code (p + 4) is
 
--- where code begins, where the frame lies and how many bytes it has, the variables in it, and where temporaries begin
+-- where code begins, where the frame lies and how many bytes it has, the variables in it, where the slots of temporaries
+-- begin, and the place that the value comes into
 pub record Site : Type 0 where
   pub code : Code
   pub start : ℕ
@@ -32,15 +33,16 @@ pub record Site : Type 0 where
   pub size : ℕ
   pub declared : List FlatVariable
   pub free : ℕ
+  pub place : ℕ
 
--- the expression's code stands there, and its temporaries lie in the frame, behind the variables and the result
+-- the expression's code stands there, and the slots of its temporaries lie in the frame, behind the variables and the result
 pub record IsSiteOf (e : TermTree) (site : Site) : Type 0 where
-  pub placed : Placed site.code site.start (expr_code site.declared site.free e)
+  pub placed : Placed site.code site.start (expr_code site.declared site.free site.place e)
   pub even : site.frame % 4 ≡ 0
   pub ends : site.frame + site.size < 2 ^ 32
   pub aligned : site.free % 4 ≡ 0
   pub above : result_offset site.declared + 4 ≤ site.free
-  pub room : site.free + 4 * height_of e ≤ site.size
+  pub room : site.free + 4 * slots_to (height_of e + site.place) ≤ site.size
 
 -- x2 has the frame's base, the frame's bytes are data, and the variables have these values, which are within their kinds
 pub record Has (site : Site) (m : Values) (s : State) : Type 0 where
@@ -50,6 +52,11 @@ pub record Has (site : Site) (m : Values) (s : State) : Type 0 where
   pub variables_there : (x : ℕ) (d : FlatVariable) (i : ℕ) → slice_get site.declared x ≡ Some d → i < numbers_in d.elements
       → number_at s.bytes (bytes_of d) (site.frame + place_of site.declared x d i) ≡ Some (slice_index (m x) i)
 
+-- the temporary of a place: what its register has, or the word in its slot
+abbrev pub temporary_in : Site → State → ℕ → Option ℕ
+temporary_in site s place =
+    if has_register place then Some (s.regs (value_register + place)) else number_at s.bytes 4 (site.frame + slot_of site.free place)
+
 -- a run from a state to behind the code, which shows this list
 pub record RunsThrough (e : TermTree) (site : Site) (m : Values) (s : State) (seen : List Observation) : Type 0 where
   pub turns : ℕ
@@ -57,8 +64,10 @@ pub record RunsThrough (e : TermTree) (site : Site) (m : Values) (s : State) (se
   pub leads : Leads site.code turns s seen end
   pub few : turns ≤ 16 * term_nodes e
   pub inside : All (λ (o : Observation). IsInside site.frame site.size o.event) seen
-  pub behind : end.pc ≡ site.start + 4 * length (expr_code site.declared site.free e)
-  pub value : end.regs value_register ≡ value_in m e
+  pub behind : end.pc ≡ site.start + 4 * length (expr_code site.declared site.free site.place e)
+  pub value : temporary_in site end site.place ≡ Some (value_in m e)
+  pub lower : (place : ℕ) → place < site.place → temporary_in site end place ≡ temporary_in site s place
+  pub base : end.regs frame_register ≡ site.frame
   pub kept : (o : ℕ) → o < site.free → end.bytes (site.frame + o) ≡ s.bytes (site.frame + o)
 
 -- one list for each path, whatever the values

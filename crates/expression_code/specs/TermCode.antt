@@ -1,7 +1,7 @@
 -- The instructions that are emitted for slots, numbers, operators and expressions.
 use Rattle.std.specs.Prelude.{ℕ, zero, suc, ◌+◌, ◌-◌, ◌/◌, ◌%◌, ◌^◌, ◌==◌, ◌<◌, Bool, List, [], ◌∷◌, ◌++◌, max, nat_lt, if◌then◌else◌}
 use Rattle.expression_code.specs.Layout.{variable_offset}
-use Rattle.expression_code.specs.Registers.{zero_register, frame_register, value_register, left_register, condition_register, address_register}
+use Rattle.expression_code.specs.Registers.{zero_register, frame_register, address_register, first_spare, second_spare, third_spare, has_register, home, slot_of}
 use Rattle.inline.specs.declared.flat.FlatVariable.{FlatVariable}
 use Rattle.inline.specs.Flat.{TermTree, number, truth, variable, prefix, binary, rotate, convert, select, element}
 use Rattle.rv_code.specs.declared.instructions.Instr.{Instr}
@@ -62,73 +62,82 @@ constant_code register n =
     then Immediate Addi register zero_register n ∷ []
     else Upper Lui register (upper_part n) ∷ Immediate Addi register register (lower_part n) ∷ []
 
--- the value, cut to a width
-abbrev pub cut_code : Width → List Instr
-cut_code W8 = Immediate Andi value_register value_register 255 ∷ []
-cut_code W16 = Shift Slli value_register value_register 16 ∷ Shift Srli value_register value_register 16 ∷ []
-cut_code W32 = []
+-- Temporaries. An operator works on the registers that are its operands' homes, and its result comes into the home of
+-- the first, which is that of the result.
 
--- 1 where the value is 0, and else 0
-abbrev pub is_zero_code : List Instr
-is_zero_code = Immediate Sltiu value_register value_register 1 ∷ []
+-- a temporary that lies in a slot into a spare register
+abbrev pub fetch_code : ℕ → ℕ → ℕ → List Instr
+fetch_code free place spare = if has_register place then [] else load_code spare (slot_of free place)
 
--- 0 where the value is 0, and else 1
-abbrev pub is_not_zero_code : List Instr
-is_not_zero_code = Register Sltu value_register zero_register value_register ∷ []
+-- what is in the home of a place, kept there
+abbrev pub keep_code : ℕ → ℕ → List Instr
+keep_code free place = if has_register place then [] else store_code first_spare (slot_of free place)
 
--- 0 where the left operand is 0, and else 1; and so of the value
-abbrev pub both_truths_code : List Instr
-both_truths_code = Register Sltu left_register zero_register left_register ∷ is_not_zero_code
+-- Operators, on the register r of one operand, or on l and r of two.
 
--- 0 less the value
-abbrev pub negation_code : List Instr
-negation_code = Register Sub value_register zero_register value_register ∷ []
+-- cut to a width
+abbrev pub cut_code : ℕ → Width → List Instr
+cut_code r W8 = Immediate Andi r r 255 ∷ []
+cut_code r W16 = Shift Slli r r 16 ∷ Shift Srli r r 16 ∷ []
+cut_code r W32 = []
 
--- an operator between the left operand and the value, into the value. Whether numbers are equal is read off their
--- difference, and an order that takes equal numbers too is the other order, turned round.
-abbrev pub operator_code : BinaryOperator → Width → List Instr
-operator_code operators.Either w = both_truths_code ++ Register Or value_register left_register value_register ∷ []
-operator_code operators.Both w = both_truths_code ++ Register And value_register left_register value_register ∷ []
-operator_code operators.Equal w = Register Sub value_register left_register value_register ∷ is_zero_code
-operator_code operators.Unequal w = Register Sub value_register left_register value_register ∷ is_not_zero_code
-operator_code operators.Less w = Register Sltu value_register left_register value_register ∷ []
-operator_code operators.LessOrEqual w = Register Sltu value_register value_register left_register ∷ is_zero_code
-operator_code operators.Greater w = Register Sltu value_register value_register left_register ∷ []
-operator_code operators.GreaterOrEqual w = Register Sltu value_register left_register value_register ∷ is_zero_code
-operator_code operators.BitOr w = Register Or value_register left_register value_register ∷ []
-operator_code operators.BitXor w = Register Xor value_register left_register value_register ∷ []
-operator_code operators.BitAnd w = Register And value_register left_register value_register ∷ []
-operator_code operators.ShiftLeft w = Register Sll value_register left_register value_register ∷ cut_code w
-operator_code operators.ShiftRight w = Register Srl value_register left_register value_register ∷ cut_code w
-operator_code operators.Add w = Register Add value_register left_register value_register ∷ cut_code w
-operator_code operators.Subtract w = Register Sub value_register left_register value_register ∷ cut_code w
-operator_code operators.Multiply w = Multiply Mul value_register left_register value_register ∷ cut_code w
-operator_code operators.Divide w = Divide Divu value_register left_register value_register ∷ []
-operator_code operators.Remainder w = Divide Remu value_register left_register value_register ∷ []
+-- 1 where it is 0, and else 0
+abbrev pub is_zero_code : ℕ → List Instr
+is_zero_code r = Immediate Sltiu r r 1 ∷ []
 
--- an operator before the value. The complement is one less than the number's negative.
-abbrev pub prefix_code : PrefixOperator → Width → List Instr
-prefix_code prefixes.Not w = is_zero_code
-prefix_code prefixes.Complement w = negation_code ++ Immediate Addi value_register value_register 4095 ∷ cut_code w
-prefix_code prefixes.Negate w = negation_code ++ cut_code w
+-- 0 where it is 0, and else 1
+abbrev pub is_not_zero_code : ℕ → List Instr
+is_not_zero_code r = Register Sltu r zero_register r ∷ []
 
--- the value's bits moved up by an amount below the width, and those that go past its end back in at the bottom
-abbrev pub around_code : Width → ℕ → List Instr
-around_code w amount =
+-- 0 where the right operand is 0, and else 1; and so of the left one
+abbrev pub both_truths_code : ℕ → ℕ → List Instr
+both_truths_code l r = Register Sltu r zero_register r ∷ is_not_zero_code l
+
+-- 0 less it
+abbrev pub negation_code : ℕ → List Instr
+negation_code r = Register Sub r zero_register r ∷ []
+
+-- Whether numbers are equal is read off their difference, and an order that takes equal numbers too is the other order,
+-- turned round.
+abbrev pub operator_code : ℕ → ℕ → BinaryOperator → Width → List Instr
+operator_code l r operators.Either w = both_truths_code l r ++ Register Or l l r ∷ []
+operator_code l r operators.Both w = both_truths_code l r ++ Register And l l r ∷ []
+operator_code l r operators.Equal w = Register Sub l l r ∷ is_zero_code l
+operator_code l r operators.Unequal w = Register Sub l l r ∷ is_not_zero_code l
+operator_code l r operators.Less w = Register Sltu l l r ∷ []
+operator_code l r operators.LessOrEqual w = Register Sltu l r l ∷ is_zero_code l
+operator_code l r operators.Greater w = Register Sltu l r l ∷ []
+operator_code l r operators.GreaterOrEqual w = Register Sltu l l r ∷ is_zero_code l
+operator_code l r operators.BitOr w = Register Or l l r ∷ []
+operator_code l r operators.BitXor w = Register Xor l l r ∷ []
+operator_code l r operators.BitAnd w = Register And l l r ∷ []
+operator_code l r operators.ShiftLeft w = Register Sll l l r ∷ cut_code l w
+operator_code l r operators.ShiftRight w = Register Srl l l r ∷ cut_code l w
+operator_code l r operators.Add w = Register Add l l r ∷ cut_code l w
+operator_code l r operators.Subtract w = Register Sub l l r ∷ cut_code l w
+operator_code l r operators.Multiply w = Multiply Mul l l r ∷ cut_code l w
+operator_code l r operators.Divide w = Divide Divu l l r ∷ []
+operator_code l r operators.Remainder w = Divide Remu l l r ∷ []
+
+-- The complement is one less than the number's negative.
+abbrev pub prefix_code : ℕ → PrefixOperator → Width → List Instr
+prefix_code r prefixes.Not w = is_zero_code r
+prefix_code r prefixes.Complement w = negation_code r ++ Immediate Addi r r 4095 ∷ cut_code r w
+prefix_code r prefixes.Negate w = negation_code r ++ cut_code r w
+
+-- its bits moved up by an amount below the width, and those that go past its end back in at the bottom
+abbrev pub around_code : ℕ → Width → ℕ → List Instr
+around_code r w amount =
     if amount == 0 then [] else
-    Shift Slli left_register value_register amount ∷ Shift Srli value_register value_register (bits w - amount)
-    ∷ Register Add value_register left_register value_register ∷ cut_code w
+    Shift Slli second_spare r amount ∷ Shift Srli r r (bits w - amount) ∷ Register Add r second_spare r ∷ cut_code r w
 
-abbrev pub rotate_code : Width → ℕ → List Instr
-rotate_code w amount = cut_code w ++ around_code w (amount % bits w)
+abbrev pub rotate_code : ℕ → Width → ℕ → List Instr
+rotate_code r w amount = cut_code r w ++ around_code r w (amount % bits w)
 
--- of the left operand and the value, the left where the condition is 1 and the value where it is 0
-abbrev pub choice_code : List Instr
-choice_code =
-    Register Sub condition_register zero_register condition_register
-    ∷ Register Xor left_register left_register value_register
-    ∷ Register And left_register left_register condition_register
-    ∷ Register Xor value_register value_register left_register ∷ []
+-- of three operands, the second where the first is 1 and the third where it is 0
+abbrev pub choice_code : ℕ → ℕ → ℕ → List Instr
+choice_code c l r =
+    Register Sub c zero_register c ∷ Register Xor l l r ∷ Register And l l c ∷ Register Xor c r l ∷ []
 
 -- Elements of arrays. An index in a register becomes the address of its element but for the lower part of the array's
 -- offset, which the access adds.
@@ -158,10 +167,10 @@ load_by Uint8 = Lbu
 load_by Uint16 = Lhu
 load_by Uint32 = Lw
 
--- the element at the index in the value register, of an array of this kind at an offset
-abbrev pub element_code : Kind → ℕ → List Instr
-element_code kind offset =
-    address_code value_register kind offset ++ Load (load_by kind) value_register value_register (lower_part offset) ∷ []
+-- the element at the index in a register, of an array of this kind at an offset
+abbrev pub element_code : ℕ → Kind → ℕ → List Instr
+element_code register kind offset =
+    address_code register kind offset ++ Load (load_by kind) register register (lower_part offset) ∷ []
 
 -- the kind of a variable, or of its elements
 abbrev pub kind_at : List FlatVariable → ℕ → Kind
@@ -169,26 +178,34 @@ kind_at [] x = Uint32
 kind_at (d ∷ ds) zero = d.word.kind
 kind_at (d ∷ ds) (suc x) = kind_at ds x
 
--- an expression over these variables into the value register; temporaries lie in slots from this offset on
-abbrev pub expr_code : List FlatVariable → ℕ → TermTree → List Instr
-expr_code declared free (number value kind) = constant_code value_register value
-expr_code declared free (truth value) = constant_code value_register (word_of value)
-expr_code declared free (variable x) = load_code value_register (variable_offset declared x)
-expr_code declared free (prefix operator width operand) = expr_code declared free operand ++ prefix_code operator width
-expr_code declared free (binary place operator width left right) =
-    expr_code declared free left ++ store_code value_register free
-    ++ expr_code declared (free + 4) right
-    ++ load_code left_register free ++ operator_code operator width
-expr_code declared free (rotate width operand amount) = expr_code declared free operand ++ rotate_code width amount
-expr_code declared free (convert kind operand) = expr_code declared free operand ++ cut_code (width_of kind)
-expr_code declared free (select condition accepted otherwise) =
-    expr_code declared free condition ++ store_code value_register free
-    ++ expr_code declared (free + 4) accepted ++ store_code value_register (free + 4)
-    ++ expr_code declared (free + 8) otherwise
-    ++ load_code left_register (free + 4) ++ load_code condition_register free ++ choice_code
-expr_code declared free (element place x size index) = expr_code declared free index ++ element_code (kind_at declared x) (variable_offset declared x)
+-- An expression over these variables into a place. The slots of temporaries lie from an offset on. No operand is fetched
+-- before the code of all of them is through.
+abbrev pub expr_code : List FlatVariable → ℕ → ℕ → TermTree → List Instr
+expr_code declared free place (number value kind) = constant_code (home place first_spare) value ++ keep_code free place
+expr_code declared free place (truth value) = constant_code (home place first_spare) (word_of value) ++ keep_code free place
+expr_code declared free place (variable x) = load_code (home place first_spare) (variable_offset declared x) ++ keep_code free place
+expr_code declared free place (prefix operator width operand) =
+    expr_code declared free place operand ++ fetch_code free place first_spare
+    ++ prefix_code (home place first_spare) operator width ++ keep_code free place
+expr_code declared free place (binary source operator width left right) =
+    expr_code declared free place left ++ expr_code declared free (place + 1) right
+    ++ fetch_code free place first_spare ++ fetch_code free (place + 1) second_spare
+    ++ operator_code (home place first_spare) (home (place + 1) second_spare) operator width ++ keep_code free place
+expr_code declared free place (rotate width operand amount) =
+    expr_code declared free place operand ++ fetch_code free place first_spare
+    ++ rotate_code (home place first_spare) width amount ++ keep_code free place
+expr_code declared free place (convert kind operand) =
+    expr_code declared free place operand ++ fetch_code free place first_spare
+    ++ cut_code (home place first_spare) (width_of kind) ++ keep_code free place
+expr_code declared free place (select condition accepted otherwise) =
+    expr_code declared free place condition ++ expr_code declared free (place + 1) accepted ++ expr_code declared free (place + 2) otherwise
+    ++ fetch_code free place first_spare ++ fetch_code free (place + 1) second_spare ++ fetch_code free (place + 2) third_spare
+    ++ choice_code (home place first_spare) (home (place + 1) second_spare) (home (place + 2) third_spare) ++ keep_code free place
+expr_code declared free place (element source x size index) =
+    expr_code declared free place index ++ fetch_code free place first_spare
+    ++ element_code (home place first_spare) (kind_at declared x) (variable_offset declared x) ++ keep_code free place
 
--- how many slots the temporaries of an expression take
+-- how many temporaries an expression has at once, beside the one that it comes into
 abbrev pub height_of : TermTree → ℕ
 height_of (number value kind) = 0
 height_of (truth value) = 0

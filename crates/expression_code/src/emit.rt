@@ -1,7 +1,7 @@
 // Instructions for slots, numbers and elements, each appended to the code so far.
 
 ghost use Rattle.std.specs.Prelude.{◌≡◌, ◌++◌, OnOk};
-ghost use Rattle.expression_code.specs.TermCode.{upper_part, lower_part, load_code, store_code, constant_code, choice_code, scale_code, raise_code, address_code, load_by, element_code};
+ghost use Rattle.expression_code.specs.TermCode.{upper_part, lower_part, load_code, store_code, constant_code, scale_code, raise_code, address_code, load_by, element_code};
 
 use language::Kind;
 use rv_code::{
@@ -126,23 +126,17 @@ pub fn load_by(kind: Kind) -> LoadOperation
     }
 }
 
-/// The element at the index in the value, of an array at an offset.
-pub fn element(code: &mut Vec<Instr>, kind: Kind, offset: u32) -> Result<(), AllocError>
-    ensures { OnOk result (code.new.items ≡ code.old.items ++ element_code kind offset) }
+/// The element at the index in a register, of an array at an offset.
+pub fn element(
+    code: &mut Vec<Instr>,
+    register: Reg,
+    kind: Kind,
+    offset: u32,
+) -> Result<(), AllocError>
+    ensures { OnOk result (code.new.items ≡ code.old.items ++ element_code register kind offset) }
 {
-    address(code, Reg::X5, kind, offset)?;
+    address(code, register, kind, offset)?;
     let low = lower_part(offset);
-    code.push(Instr::Load(load_by(kind), Reg::X5, Reg::X5, low))?;
-    Ok(())
-}
-
-/// Of the left operand and the value, the left where the condition is 1 and the value where it is 0.
-pub fn choice(code: &mut Vec<Instr>) -> Result<(), AllocError>
-    ensures { OnOk result (code.new.items ≡ code.old.items ++ choice_code) }
-{
-    code.push(Instr::Register(RegisterOperation::Sub, Reg::X7, Reg::X0, Reg::X7))?;
-    code.push(Instr::Register(RegisterOperation::Xor, Reg::X6, Reg::X6, Reg::X5))?;
-    code.push(Instr::Register(RegisterOperation::And, Reg::X6, Reg::X6, Reg::X7))?;
-    code.push(Instr::Register(RegisterOperation::Xor, Reg::X5, Reg::X5, Reg::X6))?;
+    code.push(Instr::Load(load_by(kind), register, register, low))?;
     Ok(())
 }

@@ -5,8 +5,9 @@ ghost use Rattle.inline.specs.Flat.{TermTree};
 ghost use Rattle.inline.specs.FlatTyping.{types_of, HasType};
 ghost use Rattle.language.specs.declared.typing.WordType.{WordType};
 
-/// The machine computes a well-typed expression, wherever its code stands: it has the value in its register, within so many
-/// turns, shows a list that the path alone decides, and keeps what lies before the temporaries.
+/// The machine computes a well-typed expression, wherever its code stands and whichever the place of its value: the value
+/// comes there, within so many turns, what is shown is a list that the path alone decides, and the temporaries of lower
+/// places and what lies before all temporaries stay.
 pub fn expressions_are_computed()
     ensures { (e : TermTree) (word : WordType) (site : Site) → HasType (types_of site.declared) e word → IsSiteOf e site → IsComputed e site }
 {}

@@ -1,7 +1,8 @@
 // Where a program's words lie in the frame.
 
-ghost use Rattle.std.specs.Prelude.{◌≡◌, ◌≤◌, ◌<◌, ◌*◌, length, map, IfOk};
+ghost use Rattle.std.specs.Prelude.{◌≡◌, ◌≤◌, ◌<◌, ◌+◌, ◌*◌, length, map, IfOk};
 ghost use Rattle.expression_code.specs.Layout.{variable_offset, result_offset, control_offset, next_offset, temporaries_offset, offsets_from, slots_from};
+ghost use Rattle.expression_code.specs.Registers.{slot_of, slots_to};
 ghost use Rattle.expression_code.specs.TermCode.{kind_at};
 ghost use Rattle.inline.specs.FlatSize.{words_of, declared_words};
 ghost use Rattle.inline.specs.Flat.{declaration_of};
@@ -14,6 +15,9 @@ use std::marker::Model;
 
 /// The bytes of a slot that holds a word.
 pub const WORD_BYTES: u32 = 4;
+
+/// How many temporaries have registers.
+pub const REGISTER_COUNT: u32 = 16;
 
 /// The bytes of the two words of a loop.
 const LOOP_BYTES: u32 = 8;
@@ -95,11 +99,20 @@ impl<'f> Layout<'f> {
         self.control(self.controls) + LOOP_BYTES * depth
     }
 
-    /// Where temporaries lie, behind the loops.
+    /// Where the slots of temporaries lie, behind the loops.
     pub fn temporaries(&self) -> u32
         ensures { result ≡ temporaries_offset self.now.declared self.now.controls self.now.depths }
     {
         self.next(self.depths)
+    }
+
+    /// Where a temporary lies that has no register.
+    pub fn slot(&self, place: u32) -> u32
+        requires beyond { 16 ≤ place }
+        requires room { temporaries_offset self.now.declared self.now.controls self.now.depths + 4 * slots_to place ≤ 65536 }
+        ensures { result ≡ slot_of (temporaries_offset self.now.declared self.now.controls self.now.depths) place }
+    {
+        self.temporaries() + WORD_BYTES * (place - REGISTER_COUNT)
     }
 }
 

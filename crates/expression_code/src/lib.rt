@@ -8,7 +8,8 @@ mod expressions;
 mod laws;
 mod layout;
 mod operators;
+mod temporaries;
 
 pub use expressions::{expression, height};
 pub use laws::expressions_are_computed;
-pub use layout::{Layout, WORD_BYTES, offsets, slots};
+pub use layout::{Layout, REGISTER_COUNT, WORD_BYTES, offsets, slots};

@@ -1,14 +1,14 @@
-// What the operators emit. The value lies in X5, the left of two operands in X6, and the outcome comes into X5.
+// What the operators emit. An operator works on the registers of its operands, and its outcome comes into the first of them.
 
 ghost use Rattle.std.specs.Prelude.{◌≡◌, ◌++◌, ◌∷◌, ◌<◌, [], OnOk};
 ghost use Rattle.rv_code.specs.declared.instructions.Instr.TheVariants.{Register, Multiply, Divide};
 ghost use Rattle.rv_code.specs.declared.operations.MultiplyOperation.TheVariants.{Mul};
-ghost use Rattle.expression_code.specs.Registers.{left_register, value_register};
-ghost use Rattle.expression_code.specs.TermCode.{cut_code, is_zero_code, is_not_zero_code, both_truths_code, negation_code, operator_code, prefix_code, around_code, rotate_code};
+ghost use Rattle.expression_code.specs.TermCode.{cut_code, is_zero_code, is_not_zero_code, both_truths_code, negation_code, operator_code, prefix_code, around_code, rotate_code, choice_code};
 ghost use Rattle.language.specs.Operators.{width_of};
 ghost use Rattle.word.specs.Widths.{bits};
 
 use crate::emit::MINUS_ONE;
+use crate::temporaries::SECOND_SPARE;
 use language::{BinaryOperator, Kind, PrefixOperator};
 use rv_code::{
     DivideOperation, Immediate12, ImmediateOperation, Instr, MultiplyOperation, Reg,
@@ -17,32 +17,32 @@ use rv_code::{
 use std::alloc::AllocError;
 use word::Width;
 
-/// The left operand and the value into the value.
-fn between(operation: RegisterOperation) -> Instr
-    ensures { result ≡ Register operation value_register left_register value_register }
+/// Two operands into the first.
+fn between(operation: RegisterOperation, l: Reg, r: Reg) -> Instr
+    ensures { result ≡ Register operation l l r }
 {
-    Instr::Register(operation, Reg::X5, Reg::X6, Reg::X5)
+    Instr::Register(operation, l, l, r)
 }
 
-/// The value and the left operand, turned round, into the value.
-fn turned(operation: RegisterOperation) -> Instr
-    ensures { result ≡ Register operation value_register value_register left_register }
+/// Two operands, turned round, into the first.
+fn turned(operation: RegisterOperation, l: Reg, r: Reg) -> Instr
+    ensures { result ≡ Register operation l r l }
 {
-    Instr::Register(operation, Reg::X5, Reg::X5, Reg::X6)
+    Instr::Register(operation, l, r, l)
 }
 
-/// The lower half of the product of the left operand and the value, into the value.
-fn product() -> Instr
-    ensures { result ≡ Multiply Mul value_register left_register value_register }
+/// The lower half of the product of two operands, into the first.
+fn product(l: Reg, r: Reg) -> Instr
+    ensures { result ≡ Multiply Mul l l r }
 {
-    Instr::Multiply(MultiplyOperation::Mul, Reg::X5, Reg::X6, Reg::X5)
+    Instr::Multiply(MultiplyOperation::Mul, l, l, r)
 }
 
-/// The quotient or the remainder of the left operand by the value, into the value.
-fn division(operation: DivideOperation) -> Instr
-    ensures { result ≡ Divide operation value_register left_register value_register }
+/// The quotient or the remainder of the first operand by the second, into the first.
+fn division(operation: DivideOperation, l: Reg, r: Reg) -> Instr
+    ensures { result ≡ Divide operation l l r }
 {
-    Instr::Divide(operation, Reg::X5, Reg::X6, Reg::X5)
+    Instr::Divide(operation, l, l, r)
 }
 
 /// An instruction, of which nothing more has to be made.
@@ -53,171 +53,180 @@ fn alone(code: &mut Vec<Instr>, instruction: Instr) -> Result<(), AllocError>
     Ok(())
 }
 
-/// The value, cut to a width.
-fn cut(code: &mut Vec<Instr>, width: Width) -> Result<(), AllocError>
-    ensures { OnOk result (code.new.items ≡ code.old.items ++ cut_code width) }
+/// A register, cut to a width.
+fn cut(code: &mut Vec<Instr>, r: Reg, width: Width) -> Result<(), AllocError>
+    ensures { OnOk result (code.new.items ≡ code.old.items ++ cut_code r width) }
 {
     match width {
         Width::W8 => {
             let ones = Immediate12::from_bits(255);
-            alone(
-                code,
-                Instr::Immediate(ImmediateOperation::Andi, Reg::X5, Reg::X5, ones),
-            )
+            alone(code, Instr::Immediate(ImmediateOperation::Andi, r, r, ones))
         }
         Width::W16 => {
             let half = ShiftAmount::from_bits(16);
-            code.push(Instr::Shift(ShiftOperation::Slli, Reg::X5, Reg::X5, half))?;
-            code.push(Instr::Shift(ShiftOperation::Srli, Reg::X5, Reg::X5, half))?;
+            code.push(Instr::Shift(ShiftOperation::Slli, r, r, half))?;
+            code.push(Instr::Shift(ShiftOperation::Srli, r, r, half))?;
             Ok(())
         }
         Width::W32 => Ok(()),
     }
 }
 
-/// 1 where the value is 0, and else 0.
-fn is_zero(code: &mut Vec<Instr>) -> Result<(), AllocError>
-    ensures { OnOk result (code.new.items ≡ code.old.items ++ is_zero_code) }
+/// 1 where a register is 0, and else 0.
+fn is_zero(code: &mut Vec<Instr>, r: Reg) -> Result<(), AllocError>
+    ensures { OnOk result (code.new.items ≡ code.old.items ++ is_zero_code r) }
 {
     let one = Immediate12::from_bits(1);
-    alone(
-        code,
-        Instr::Immediate(ImmediateOperation::Sltiu, Reg::X5, Reg::X5, one),
-    )
+    alone(code, Instr::Immediate(ImmediateOperation::Sltiu, r, r, one))
 }
 
-/// 0 where the value is 0, and else 1.
-fn is_not_zero(code: &mut Vec<Instr>) -> Result<(), AllocError>
-    ensures { OnOk result (code.new.items ≡ code.old.items ++ is_not_zero_code) }
+/// 0 where a register is 0, and else 1.
+fn is_not_zero(code: &mut Vec<Instr>, r: Reg) -> Result<(), AllocError>
+    ensures { OnOk result (code.new.items ≡ code.old.items ++ is_not_zero_code r) }
 {
-    alone(
-        code,
-        Instr::Register(RegisterOperation::Sltu, Reg::X5, Reg::X0, Reg::X5),
-    )
+    alone(code, Instr::Register(RegisterOperation::Sltu, r, Reg::X0, r))
 }
 
-/// 0 less the value.
-fn negate(code: &mut Vec<Instr>) -> Result<(), AllocError>
-    ensures { OnOk result (code.new.items ≡ code.old.items ++ negation_code) }
+/// 0 less a register.
+fn negate(code: &mut Vec<Instr>, r: Reg) -> Result<(), AllocError>
+    ensures { OnOk result (code.new.items ≡ code.old.items ++ negation_code r) }
 {
-    alone(
-        code,
-        Instr::Register(RegisterOperation::Sub, Reg::X5, Reg::X0, Reg::X5),
-    )
+    alone(code, Instr::Register(RegisterOperation::Sub, r, Reg::X0, r))
 }
 
-/// An instruction, of which a narrow outcome is cut.
-fn narrowed(code: &mut Vec<Instr>, width: Width, instruction: Instr) -> Result<(), AllocError>
-    ensures { OnOk result (code.new.items ≡ code.old.items ++ instruction ∷ cut_code width) }
+/// An instruction, whose outcome in a register is cut where it is narrow.
+fn narrowed(
+    code: &mut Vec<Instr>,
+    r: Reg,
+    width: Width,
+    instruction: Instr,
+) -> Result<(), AllocError>
+    ensures { OnOk result (code.new.items ≡ code.old.items ++ instruction ∷ cut_code r width) }
 {
     code.push(instruction)?;
-    cut(code, width)
+    cut(code, r, width)
 }
 
-/// Whether an instruction gives 0.
-fn gives_zero(code: &mut Vec<Instr>, instruction: Instr) -> Result<(), AllocError>
-    ensures { OnOk result (code.new.items ≡ code.old.items ++ instruction ∷ is_zero_code) }
+/// Whether an instruction gives 0 in a register.
+fn gives_zero(code: &mut Vec<Instr>, r: Reg, instruction: Instr) -> Result<(), AllocError>
+    ensures { OnOk result (code.new.items ≡ code.old.items ++ instruction ∷ is_zero_code r) }
 {
     code.push(instruction)?;
-    is_zero(code)
+    is_zero(code, r)
 }
 
-/// Whether an instruction gives another number than 0.
-fn gives_more(code: &mut Vec<Instr>, instruction: Instr) -> Result<(), AllocError>
-    ensures { OnOk result (code.new.items ≡ code.old.items ++ instruction ∷ is_not_zero_code) }
+/// Whether an instruction gives another number than 0 in a register.
+fn gives_more(code: &mut Vec<Instr>, r: Reg, instruction: Instr) -> Result<(), AllocError>
+    ensures { OnOk result (code.new.items ≡ code.old.items ++ instruction ∷ is_not_zero_code r) }
 {
     code.push(instruction)?;
-    is_not_zero(code)
+    is_not_zero(code, r)
 }
 
 /// An instruction between two bools, each of which is 0 where its operand is 0, and else 1.
-fn of_truths(code: &mut Vec<Instr>, instruction: Instr) -> Result<(), AllocError>
-    ensures { OnOk result (code.new.items ≡ code.old.items ++ both_truths_code ++ instruction ∷ []) }
+fn of_truths(code: &mut Vec<Instr>, l: Reg, r: Reg, instruction: Instr) -> Result<(), AllocError>
+    ensures { OnOk result (code.new.items ≡ code.old.items ++ both_truths_code l r ++ instruction ∷ []) }
 {
-    code.push(Instr::Register(RegisterOperation::Sltu, Reg::X6, Reg::X0, Reg::X6))?;
-    is_not_zero(code)?;
+    code.push(Instr::Register(RegisterOperation::Sltu, r, Reg::X0, r))?;
+    is_not_zero(code, l)?;
     alone(code, instruction)
 }
 
-/// An operator between the left operand and the value.
+/// An operator between two operands, into the register of the first.
 pub fn operator(
     code: &mut Vec<Instr>,
+    l: Reg,
+    r: Reg,
     operator: BinaryOperator,
     width: Width,
 ) -> Result<(), AllocError>
-    ensures { OnOk result (code.new.items ≡ code.old.items ++ operator_code operator width) }
+    ensures { OnOk result (code.new.items ≡ code.old.items ++ operator_code l r operator width) }
 {
     match operator {
-        BinaryOperator::Either => of_truths(code, between(RegisterOperation::Or)),
-        BinaryOperator::Both => of_truths(code, between(RegisterOperation::And)),
-        BinaryOperator::Equal => gives_zero(code, between(RegisterOperation::Sub)),
-        BinaryOperator::Unequal => gives_more(code, between(RegisterOperation::Sub)),
-        BinaryOperator::Less => alone(code, between(RegisterOperation::Sltu)),
-        BinaryOperator::LessOrEqual => gives_zero(code, turned(RegisterOperation::Sltu)),
-        BinaryOperator::Greater => alone(code, turned(RegisterOperation::Sltu)),
-        BinaryOperator::GreaterOrEqual => gives_zero(code, between(RegisterOperation::Sltu)),
-        BinaryOperator::BitOr => alone(code, between(RegisterOperation::Or)),
-        BinaryOperator::BitXor => alone(code, between(RegisterOperation::Xor)),
-        BinaryOperator::BitAnd => alone(code, between(RegisterOperation::And)),
-        BinaryOperator::ShiftLeft => narrowed(code, width, between(RegisterOperation::Sll)),
-        BinaryOperator::ShiftRight => narrowed(code, width, between(RegisterOperation::Srl)),
-        BinaryOperator::Add => narrowed(code, width, between(RegisterOperation::Add)),
-        BinaryOperator::Subtract => narrowed(code, width, between(RegisterOperation::Sub)),
-        BinaryOperator::Multiply => narrowed(code, width, product()),
-        BinaryOperator::Divide => alone(code, division(DivideOperation::Divu)),
-        BinaryOperator::Remainder => alone(code, division(DivideOperation::Remu)),
+        BinaryOperator::Either => of_truths(code, l, r, between(RegisterOperation::Or, l, r)),
+        BinaryOperator::Both => of_truths(code, l, r, between(RegisterOperation::And, l, r)),
+        BinaryOperator::Equal => gives_zero(code, l, between(RegisterOperation::Sub, l, r)),
+        BinaryOperator::Unequal => gives_more(code, l, between(RegisterOperation::Sub, l, r)),
+        BinaryOperator::Less => alone(code, between(RegisterOperation::Sltu, l, r)),
+        BinaryOperator::LessOrEqual => gives_zero(code, l, turned(RegisterOperation::Sltu, l, r)),
+        BinaryOperator::Greater => alone(code, turned(RegisterOperation::Sltu, l, r)),
+        BinaryOperator::GreaterOrEqual => gives_zero(code, l, between(RegisterOperation::Sltu, l, r)),
+        BinaryOperator::BitOr => alone(code, between(RegisterOperation::Or, l, r)),
+        BinaryOperator::BitXor => alone(code, between(RegisterOperation::Xor, l, r)),
+        BinaryOperator::BitAnd => alone(code, between(RegisterOperation::And, l, r)),
+        BinaryOperator::ShiftLeft => narrowed(code, l, width, between(RegisterOperation::Sll, l, r)),
+        BinaryOperator::ShiftRight => narrowed(code, l, width, between(RegisterOperation::Srl, l, r)),
+        BinaryOperator::Add => narrowed(code, l, width, between(RegisterOperation::Add, l, r)),
+        BinaryOperator::Subtract => narrowed(code, l, width, between(RegisterOperation::Sub, l, r)),
+        BinaryOperator::Multiply => narrowed(code, l, width, product(l, r)),
+        BinaryOperator::Divide => alone(code, division(DivideOperation::Divu, l, r)),
+        BinaryOperator::Remainder => alone(code, division(DivideOperation::Remu, l, r)),
     }
 }
 
-/// An operator before the value.
+/// An operator before an operand, in its register.
 pub fn prefix(
     code: &mut Vec<Instr>,
+    r: Reg,
     operator: PrefixOperator,
     width: Width,
 ) -> Result<(), AllocError>
-    ensures { OnOk result (code.new.items ≡ code.old.items ++ prefix_code operator width) }
+    ensures { OnOk result (code.new.items ≡ code.old.items ++ prefix_code r operator width) }
 {
     match operator {
-        PrefixOperator::Not => is_zero(code),
+        PrefixOperator::Not => is_zero(code, r),
         PrefixOperator::Complement => {
             let less_one = Immediate12::from_bits(MINUS_ONE);
-            let decrement = Instr::Immediate(ImmediateOperation::Addi, Reg::X5, Reg::X5, less_one);
-            negate(code)?;
-            narrowed(code, width, decrement)
+            let decrement = Instr::Immediate(ImmediateOperation::Addi, r, r, less_one);
+            negate(code, r)?;
+            narrowed(code, r, width, decrement)
         }
         PrefixOperator::Negate => {
-            negate(code)?;
-            cut(code, width)
+            negate(code, r)?;
+            cut(code, r, width)
         }
     }
 }
 
-/// The value's bits, moved up by an amount below the width and round its end.
-fn around(code: &mut Vec<Instr>, width: Width, amount: u32) -> Result<(), AllocError>
+/// A register's bits, moved up by an amount below the width and round its end.
+fn around(code: &mut Vec<Instr>, r: Reg, width: Width, amount: u32) -> Result<(), AllocError>
     requires { amount < bits width }
-    ensures { OnOk result (code.new.items ≡ code.old.items ++ around_code width amount) }
+    ensures { OnOk result (code.new.items ≡ code.old.items ++ around_code r width amount) }
 {
     if amount == 0 {
         return Ok(());
     }
+    let moved = SECOND_SPARE;
     let up = ShiftAmount::from_bits(amount);
     let down = ShiftAmount::from_bits(width.bits() - amount);
-    code.push(Instr::Shift(ShiftOperation::Slli, Reg::X6, Reg::X5, up))?;
-    code.push(Instr::Shift(ShiftOperation::Srli, Reg::X5, Reg::X5, down))?;
-    narrowed(code, width, between(RegisterOperation::Add))
+    code.push(Instr::Shift(ShiftOperation::Slli, moved, r, up))?;
+    code.push(Instr::Shift(ShiftOperation::Srli, r, r, down))?;
+    let sum = Instr::Register(RegisterOperation::Add, r, moved, r);
+    narrowed(code, r, width, sum)
 }
 
-/// The value, rotated to the left within its width.
-pub fn rotate(code: &mut Vec<Instr>, width: Width, amount: u32) -> Result<(), AllocError>
-    ensures { OnOk result (code.new.items ≡ code.old.items ++ rotate_code width amount) }
+/// An operand, rotated to the left within its width, in its register.
+pub fn rotate(code: &mut Vec<Instr>, r: Reg, width: Width, amount: u32) -> Result<(), AllocError>
+    ensures { OnOk result (code.new.items ≡ code.old.items ++ rotate_code r width amount) }
 {
-    cut(code, width)?;
-    around(code, width, amount % width.bits())
+    cut(code, r, width)?;
+    around(code, r, width, amount % width.bits())
 }
 
-/// The value, as a number of this kind.
-pub fn convert(code: &mut Vec<Instr>, kind: Kind) -> Result<(), AllocError>
-    ensures { OnOk result (code.new.items ≡ code.old.items ++ cut_code (width_of kind)) }
+/// An operand, as a number of this kind, in its register.
+pub fn convert(code: &mut Vec<Instr>, r: Reg, kind: Kind) -> Result<(), AllocError>
+    ensures { OnOk result (code.new.items ≡ code.old.items ++ cut_code r (width_of kind)) }
 {
-    cut(code, kind.width())
+    cut(code, r, kind.width())
+}
+
+/// Of three operands, the second where the first is 1 and the third where it is 0, in the register of the first.
+pub fn choice(code: &mut Vec<Instr>, c: Reg, l: Reg, r: Reg) -> Result<(), AllocError>
+    ensures { OnOk result (code.new.items ≡ code.old.items ++ choice_code c l r) }
+{
+    code.push(Instr::Register(RegisterOperation::Sub, c, Reg::X0, c))?;
+    code.push(Instr::Register(RegisterOperation::Xor, l, l, r))?;
+    code.push(Instr::Register(RegisterOperation::And, l, l, c))?;
+    code.push(Instr::Register(RegisterOperation::Xor, c, r, l))?;
+    Ok(())
 }

@@ -1,0 +1,121 @@
+-- The code that fetches a temporary for an operator, and that keeps what an operator has made.
+use Rattle.std.proofs.Common.{◌≡◌, ◌≢◌, ℕ, ◌+◌, ◌-◌, ◌*◌, ◌%◌, ◌^◌, ◌<◌, ◌≤◌, Bool, true, false, cond, nat_lt, List, [], ◌++◌, Some, refl, sym, ap, ◌∙◌, arith}
+use Rattle.std.proofs.lemmas.Bool.Decides.{nat_tests}
+use Rattle.std.proofs.lemmas.Option.{same_Some}
+use Rattle.branch_removal.specs.StraightMeaning.{StraightState}
+use Rattle.expression_code.specs.Registers.{home, slot_of, slots_to}
+use Rattle.expression_code.specs.TermCode.{load_code, store_code, fetch_code, keep_code}
+use Rattle.inline.specs.Flat.{TermTree}
+use Rattle.inline.specs.FlatMeaning.{value_in}
+use Rattle.rv_code.specs.declared.instructions.Instr.{Instr}
+use Rattle.rv_machine.specs.Bytes.{ByteMap}
+use Rattle.rv_machine.specs.Machine as machine
+use Rattle.expression_code.proofs.Held.{HeldAt, held_regs}
+use Rattle.expression_code.proofs.Pieces.{load_runs}
+use Rattle.expression_code.proofs.Stores.{store_runs}
+use Rattle.expression_code.proofs.Straight.{Setting, none, Steps, Before, Runs, quiet, weaken, cheaper, idle}
+use Rattle.expression_code.proofs.Values.{Valued, Kept, Lower, Holds, HoldsBy, kept_by, kept_then, put_kept, put_there}
+
+-- a temporary is in a register, and only a spare register has changed
+pub record Fetched (z : Setting) (r spare v : ℕ) (s t : machine.State) : Type 0 where
+  pub held : HeldAt z t
+  pub there : t.regs r ≡ v
+  pub others : (q : ℕ) → q ≢ spare → t.regs q ≡ s.regs q
+  pub same : t.bytes ≡ s.bytes
+
+-- the home of a place has what an expression means
+pub record Made (z : Setting) (e : TermTree) (free place : ℕ) (env : StraightState) (s t : machine.State) : Type 0 where
+  pub held : HeldAt z t
+  pub there : t.regs (home place 29) ≡ value_in env.variables e
+  pub kept : Kept z (slot_of free place) s t
+  pub lower : Lower place s t
+
+-- a place has a value, and only the register of addresses has changed
+pub record Stayed (z : Setting) (free place v : ℕ) (s t : machine.State) : Type 0 where
+  pub held : HeldAt z t
+  pub there : Holds z free place t v
+  pub kept : Kept z (slot_of free place) s t
+  pub others : (q : ℕ) → q ≢ 28 → t.regs q ≡ s.regs q
+
+-- a spare register is that of no lower place
+pub lower_spare : (place spare : ℕ) (s t : machine.State) → 28 < spare → ((q : ℕ) → q ≢ spare → t.regs q ≡ s.regs q) → Lower place s t
+lower_spare place spare s t low others q less small = others (5 + q) (λ e. omega (arith, small, low, e))
+
+-- A temporary in a place, where its slot lies in the frame.
+module _ (z : Setting) (free : ℕ) (aligned : free % 4 ≡ 0) (place : ℕ) (room : free + 4 * slots_to place ≤ z.size) where
+  module _ (spare : ℕ) (low : 28 < spare) (high : spare < 32) (v : StraightState → ℕ) where
+    fetch_by : (b : Bool) → nat_lt place 16 ≡ b
+        → Runs z 3 none (cond b [] (load_code spare (slot_of free place))) (λ env s. HeldAt z s × HoldsBy b z free place s (v env)) (λ env s t. Fetched z (cond b (5 + place) spare) spare (v env) s t)
+    fetch_by true h =
+        cheaper z (omega arith)
+        (weaken z
+        (λ env s fine given. given)
+        (λ env s t fine given still. record {
+          held = held_regs z s t (ap (λ (u : machine.State). u.regs 2) still) (ap (λ (u : machine.State). u.bytes) still) given.0;
+          there = ap (λ (u : machine.State). u.regs (5 + place)) still ∙ given.1;
+          others = λ q other. ap (λ (u : machine.State). u.regs q) still;
+          same = ap (λ (u : machine.State). u.bytes) still;
+        })
+        (idle z))
+    fetch_by false h =
+        let large : 16 ≤ place = grind (arith, nat_tests) in
+        weaken z
+        (λ env s fine given. given.0)
+        (λ env s t fine given took. record {
+          held = took.held;
+          there = same_Some (t.regs spare) (v env) (sym took.there ∙ given.1);
+          others = took.others;
+          same = took.same;
+        })
+        (load_runs z spare (slot_of free place) (omega (arith, aligned)) (omega (arith, room, large)) high (λ e. omega (arith, low, e)) (λ e. omega (arith, low, e)))
+
+    pub fetch_runs : Runs z 3 none (fetch_code free place spare) (λ env s. HeldAt z s × Holds z free place s (v env)) (λ env s t. Fetched z (home place spare) spare (v env) s t)
+    fetch_runs = fetch_by (nat_lt place 16) refl
+
+  module _ (v : StraightState → ℕ) where
+    keep_by : (b : Bool) → nat_lt place 16 ≡ b
+        → Runs z 3 none (cond b [] (store_code 29 (slot_of free place))) (λ env s. HeldAt z s × (s.regs (cond b (5 + place) 29) ≡ v env) × (v env < 2 ^ 32))
+        (λ env s t. HeldAt z t × HoldsBy b z free place t (v env) × Kept z (slot_of free place) s t × ((q : ℕ) → q ≢ 28 → t.regs q ≡ s.regs q))
+    keep_by true h =
+        cheaper z (omega arith)
+        (weaken z
+        (λ env s fine given. given)
+        (λ env s t fine given still. (
+          held_regs z s t (ap (λ (u : machine.State). u.regs 2) still) (ap (λ (u : machine.State). u.bytes) still) given.0,
+          ap (λ (u : machine.State). u.regs (5 + place)) still ∙ given.1,
+          kept_by z (slot_of free place) s t (ap (λ (u : machine.State). u.bytes) still),
+          λ q other. ap (λ (u : machine.State). u.regs q) still,
+        ))
+        (idle z))
+    keep_by false h =
+        let large : 16 ≤ place = grind (arith, nat_tests) in
+        weaken z
+        (λ env s fine given. given.0)
+        (λ env s t fine given put. (put.held, put_there z 29 (slot_of free place) (v env) env s t put given.1 given.2, put_kept z 4 29 (slot_of free place) env s t put, put.others))
+        (store_runs z 29 (omega arith) (λ e. omega arith) (λ e. omega arith) (slot_of free place) (omega (arith, aligned)) (omega (arith, room, large)))
+
+    keep_runs : Runs z 3 none (keep_code free place) (λ env s. HeldAt z s × (s.regs (home place 29) ≡ v env) × (v env < 2 ^ 32)) (λ env s t. Stayed z free place (v env) s t)
+    keep_runs =
+        weaken z
+        (λ env s fine given. given)
+        (λ env s t fine given done. record { held = done.0; there = done.1; kept = done.2; others = done.3 })
+        (keep_by (nat_lt place 16) refl)
+
+  -- what code makes in the home of a place is kept there
+  pub keeps : (e : TermTree) {n : ℕ} {steps : Steps} {is : List Instr} {P : Before} → ((env : StraightState) (s : machine.State) → P env s → value_in env.variables e < 2 ^ 32)
+      → Runs z n steps is P (Made z e free place) → Runs z (n + 3) steps (is ++ keep_code free place) P (Valued z e free place)
+  keeps e {P = P} fits runs =
+      weaken z {P = P}
+      (λ env s fine fit. fit)
+      (λ env s t fine fit done.
+      let m = done.middle in
+      let one = done.first in
+      let two = done.second in
+      record {
+        held = two.held;
+        there = two.there;
+        kept = kept_then z (slot_of free place) s m t one.kept two.kept;
+        lower = λ q less small. two.others (5 + q) (λ e. omega (arith, small, e)) ∙ one.lower q less small;
+      })
+      (quiet z runs (keep_runs (λ env. value_in env.variables e))
+      (λ env s t fit made. (made.held, made.there, fits env s fit)))
