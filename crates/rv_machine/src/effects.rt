@@ -41,10 +41,10 @@ pub enum Effect {
 
 /// What an instruction at the hart's program counter does.
 #[inline(always)]
-pub fn effect_of(hart: &Hart, instr: Instr) -> Effect
-    ensures { result ≡ effect_of instr (pc_of hart.now) (regs_of hart.now) }
+pub fn effect_of(hart: &Hart, instr: &Instr) -> Effect
+    ensures { result ≡ effect_of instr.now (pc_of hart.now) (regs_of hart.now) }
 {
-    match instr {
+    match *instr {
         Instr::Upper(operation, rd, immediate) => {
             Effect::Computes(rd, upper_value(operation, hart.pc(), immediate))
         }
@@ -82,6 +82,7 @@ pub fn effect_of(hart: &Hart, instr: Instr) -> Effect
     }
 }
 
+#[inline(always)]
 fn branch(hart: &Hart, test: BranchTest, rs1: Reg, rs2: Reg, offset: BranchOffset) -> Effect
     ensures { result ≡ effect_of (Instr.Branch test rs1 rs2 offset) (pc_of hart.now) (regs_of hart.now) }
 {
@@ -92,6 +93,7 @@ fn branch(hart: &Hart, test: BranchTest, rs1: Reg, rs2: Reg, offset: BranchOffse
     }
 }
 
+#[inline(always)]
 fn division(hart: &Hart, operation: DivideOperation, rd: Reg, rs1: Reg, rs2: Reg) -> Effect
     ensures { result ≡ effect_of (Instr.Divide operation rd rs1 rs2) (pc_of hart.now) (regs_of hart.now) }
 {
@@ -100,6 +102,7 @@ fn division(hart: &Hart, operation: DivideOperation, rd: Reg, rs1: Reg, rs2: Reg
     Effect::Divides(rd, a, b, divide_value(operation, a, b))
 }
 
+#[inline(always)]
 fn sign_extended(immediate: Immediate12) -> u32
     ensures { result ≡ sign_extended 12 immediate }
 {
@@ -107,12 +110,14 @@ fn sign_extended(immediate: Immediate12) -> u32
 }
 
 /// The address of a load or a store.
+#[inline(always)]
 fn address(hart: &Hart, rs1: Reg, offset: Immediate12) -> u32
     ensures { result ≡ address_of (regs_of hart.now) rs1 offset }
 {
     word::add(Width::W32, hart.reg(rs1), sign_extended(offset))
 }
 
+#[inline(always)]
 fn jump_target(hart: &Hart, offset: JumpOffset) -> u32
     ensures { result ≡ jump_target (pc_of hart.now) offset }
 {
@@ -120,6 +125,7 @@ fn jump_target(hart: &Hart, offset: JumpOffset) -> u32
     word::add(Width::W32, hart.pc(), distance)
 }
 
+#[inline(always)]
 fn branch_target(hart: &Hart, offset: BranchOffset) -> u32
     ensures { result ≡ branch_target (pc_of hart.now) offset }
 {
@@ -128,6 +134,7 @@ fn branch_target(hart: &Hart, offset: BranchOffset) -> u32
 }
 
 // The lowest bit is cleared.
+#[inline(always)]
 fn register_target(hart: &Hart, rs1: Reg, offset: Immediate12) -> u32
     ensures { result ≡ register_target (regs_of hart.now) rs1 offset }
 {

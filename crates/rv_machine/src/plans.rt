@@ -40,6 +40,7 @@ pub struct Plan {
 }
 
 /// The plan of a load.
+#[inline(always)]
 fn load_plan<M: Memory>(memory: &M, operation: LoadOperation, rd: Reg, a: u32) -> Plan
     ensures ends { (pc : ℕ) (regs : ℕ → ℕ) → let s : State = record { pc = pc; regs = regs; bytes = M.bytes memory.now } in
         ends_as result.event result.change s ≡ ending_of (Effect.Loads operation rd a) s }
@@ -66,6 +67,7 @@ fn load_plan<M: Memory>(memory: &M, operation: LoadOperation, rd: Reg, a: u32) -
 }
 
 /// The plan of a store.
+#[inline(always)]
 fn store_plan<M: Memory>(memory: &M, operation: StoreOperation, a: u32, value: u32) -> Plan
     ensures ends { (pc : ℕ) (regs : ℕ → ℕ) → let s : State = record { pc = pc; regs = regs; bytes = M.bytes memory.now } in
         ends_as result.event result.change s ≡ ending_of (Effect.Stores operation a value) s }
@@ -92,6 +94,7 @@ fn store_plan<M: Memory>(memory: &M, operation: StoreOperation, a: u32, value: u
 }
 
 /// The plan of a jump or a taken branch, whose target has to be a multiple of 4.
+#[inline(always)]
 fn arriving(target: u32, change: Change) -> Plan
     requires { stop_of change ≡ None }
     ensures arrives { target % 4 ≡ 0 → result ≡ record { event = None; change = change } }
@@ -150,9 +153,9 @@ fn effect_plan<M: Memory>(hart: &Hart, effect: Effect, memory: &M) -> Plan
 
 /// The plan of a turn, where this code word stands at the hart's program counter.
 #[inline(always)]
-pub(crate) fn plan_of<M: Memory>(hart: &Hart, word: CodeWord, memory: &M) -> Plan
+pub(crate) fn plan_of<M: Memory>(hart: &Hart, word: &CodeWord, memory: &M) -> Plan
     ensures turn { (code : Code) → let s = state_of hart.now (M.bytes memory.now) in
-        s.pc % 4 ≡ 0 → word_at code s.pc ≡ Some (spelled word) → IsDecoded word
+        s.pc % 4 ≡ 0 → word_at code s.pc ≡ Some (spelled word.now) → IsDecoded word.now
         → Turn code s (ends_as result.event result.change s) }
     ensures possible { IsPossible (M.bytes memory.now) result.change }
     ensures calm { stop_of result.change ≢ Some Stop.RecorderRefused }

@@ -5,6 +5,7 @@ ghost use Rattle.rv_machine.specs.Effects.{signed_less, shifted_signed};
 ghost use Rattle.rv_machine.specs.SignedWords.{signed, word_for, high_word};
 
 /// Whether `a` is less than `b`.
+#[inline(always)]
 pub(crate) fn less(a: u32, b: u32) -> bool
     ensures { result ≡ signed_less a b }
 {
@@ -12,6 +13,7 @@ pub(crate) fn less(a: u32, b: u32) -> bool
 }
 
 /// Whether `a` is at least `b`.
+#[inline(always)]
 pub(crate) fn at_least(a: u32, b: u32) -> bool
     ensures { result ≡ int_le (signed b) (signed a) }
 {
@@ -19,6 +21,7 @@ pub(crate) fn at_least(a: u32, b: u32) -> bool
 }
 
 /// `a` moved to the right by the amount modulo 32, with copies of its sign moved in.
+#[inline(always)]
 pub(crate) fn shift_right(a: u32, amount: u32) -> u32
     ensures { result ≡ shifted_signed a amount }
 {
@@ -26,6 +29,7 @@ pub(crate) fn shift_right(a: u32, amount: u32) -> u32
 }
 
 /// The quotient rounded toward zero. That of -2^31 by -1 wraps.
+#[inline(always)]
 pub(crate) fn divide(a: u32, b: u32) -> u32
     requires { b ≢ 0 }
     ensures { result ≡ word_for (int_div (signed a) (signed b)) }
@@ -36,6 +40,7 @@ pub(crate) fn divide(a: u32, b: u32) -> u32
 }
 
 /// The remainder of that quotient, which has the sign of `a` or is 0.
+#[inline(always)]
 pub(crate) fn remainder(a: u32, b: u32) -> u32
     requires { b ≢ 0 }
     ensures { result ≡ word_for (int_rem (signed a) (signed b)) }
@@ -46,6 +51,7 @@ pub(crate) fn remainder(a: u32, b: u32) -> u32
 }
 
 /// The word with the sign that a field has whose highest bit weighs so much.
+#[inline(always)]
 pub(crate) fn extend(field: u32, sign: u32) -> u32
     requires field_fits { field < sign * 2 }
     requires sign_fits { sign ≤ 2 ^ 30 }
@@ -59,6 +65,7 @@ pub(crate) fn extend(field: u32, sign: u32) -> u32
 }
 
 /// The high word of the product of a word with its sign and a number.
+#[inline(always)]
 pub(crate) fn high_product(a: u32, b: i64) -> u32
     requires { unsigned_abs b < 2 ^ 32 }
     ensures { result ≡ high_word (signed a *ℤ b) }
@@ -67,6 +74,7 @@ pub(crate) fn high_product(a: u32, b: i64) -> u32
 }
 
 /// The high word of a product.
+#[inline(always)]
 fn high_word(product: i64) -> u32
     ensures { result ≡ high_word product }
 {

@@ -11,6 +11,7 @@ use rv_code::{
 };
 use word::Width;
 
+#[inline(always)]
 pub(crate) fn upper_value(operation: UpperOperation, pc: u32, immediate: UpperImmediate) -> u32
     ensures { result ≡ upper_value operation pc immediate }
 {
@@ -21,6 +22,7 @@ pub(crate) fn upper_value(operation: UpperOperation, pc: u32, immediate: UpperIm
     }
 }
 
+#[inline(always)]
 pub(crate) fn immediate_value(operation: ImmediateOperation, a: u32, b: u32) -> u32
     ensures { result ≡ immediate_value operation a b }
 {
@@ -34,6 +36,7 @@ pub(crate) fn immediate_value(operation: ImmediateOperation, a: u32, b: u32) -> 
     }
 }
 
+#[inline(always)]
 pub(crate) fn shift_value(operation: ShiftOperation, a: u32, amount: u32) -> u32
     ensures { result ≡ shift_value operation a amount }
 {
@@ -44,6 +47,7 @@ pub(crate) fn shift_value(operation: ShiftOperation, a: u32, amount: u32) -> u32
     }
 }
 
+#[inline(always)]
 pub(crate) fn register_value(operation: RegisterOperation, a: u32, b: u32) -> u32
     ensures { result ≡ register_value operation a b }
 {
@@ -61,6 +65,7 @@ pub(crate) fn register_value(operation: RegisterOperation, a: u32, b: u32) -> u3
     }
 }
 
+#[inline(always)]
 pub(crate) fn multiply_value(operation: MultiplyOperation, a: u32, b: u32) -> u32
     ensures { result ≡ multiply_value operation a b }
 {
@@ -72,6 +77,7 @@ pub(crate) fn multiply_value(operation: MultiplyOperation, a: u32, b: u32) -> u3
     }
 }
 
+#[inline(always)]
 pub(crate) fn divide_value(operation: DivideOperation, a: u32, b: u32) -> u32
     ensures { result ≡ divide_value operation a b }
 {
@@ -96,6 +102,7 @@ fn by_zero(operation: DivideOperation, a: u32) -> u32
 }
 
 /// Whether a branch is taken.
+#[inline(always)]
 pub(crate) fn holds(test: BranchTest, a: u32, b: u32) -> bool
     ensures { result ≡ holds test a b }
 {
@@ -110,6 +117,7 @@ pub(crate) fn holds(test: BranchTest, a: u32, b: u32) -> bool
 }
 
 /// How many bytes a load takes.
+#[inline(always)]
 pub(crate) fn load_size(operation: LoadOperation) -> Size
     ensures { result ≡ load_size operation }
 {
@@ -121,6 +129,7 @@ pub(crate) fn load_size(operation: LoadOperation) -> Size
 }
 
 /// What the register gets of the number that was loaded.
+#[inline(always)]
 pub(crate) fn loaded_value(operation: LoadOperation, value: u32) -> u32
     ensures { result ≡ loaded_value operation value }
 {
@@ -132,6 +141,7 @@ pub(crate) fn loaded_value(operation: LoadOperation, value: u32) -> u32
 }
 
 /// How many bytes a store takes.
+#[inline(always)]
 pub(crate) fn store_size(operation: StoreOperation) -> Size
     ensures { result ≡ store_size operation }
 {
