@@ -40,3 +40,57 @@ def image(parameters=(), returned=b"\0", frame=0, steps=2, words=(ADD_ONE, ECALL
 def looping(words, turns):
     """An image without arguments that loops for so many turns; then its budget is used up."""
     return image(frame=4, steps=turns, words=words)
+
+
+class Fields:
+    """Reads an image field by field, and keeps the first fault, as a command prints it."""
+
+    def __init__(self, data):
+        self.data, self.at, self.fault = data, 0, None
+
+    def blame(self, text):
+        self.fault = self.fault or f"{text.split(':')[0]} at byte {self.at}:{text.split(':')[1]}"
+
+    def number(self, size, allowed, otherwise="B5: field out of range"):
+        """The next field, a number of so many bytes; 0 where there is a fault already."""
+        field = self.data[self.at : self.at + size]
+        value = int.from_bytes(field, "little")
+        if len(field) < size:
+            self.blame("B4: truncated")
+        elif not allowed(value):
+            self.blame(otherwise)
+        self.at += 0 if self.fault else size
+        return 0 if self.fault else value
+
+    def slot(self, low):
+        """A parameter, whose slot is not below the one before: where it ends."""
+        kind = self.number(1, lambda value: value <= UINT32)
+        self.number(1, lambda value: value <= SECRET)
+        form = self.number(1, lambda value: value <= 2)
+        length = self.number(2, lambda value: 1 <= value <= (4_096 if form else 1))
+        offset = self.number(4, lambda value: value % 4 == 0 and value >= low)
+        taken = length * (1, 1, 2, 4)[kind] if form else 4
+        return offset + (taken + 3) // 4 * 4
+
+
+def first_fault(data):
+    """The first fault of bytes that are read as an image, None where they spell one."""
+    fields = Fields(data)
+    fields.number(4, lambda value: value == int.from_bytes(b"FACI", "little"), "B1: magic")
+    fields.number(2, lambda value: value == 1, "B2: version")
+    fields.number(2, lambda value: value == 1, "B3: profile")
+    end = 0
+    for _ in range(fields.number(2, lambda value: value <= 8_192)):
+        end = fields.slot(end) if fields.fault is None else end
+    if fields.number(1, lambda value: value <= 1):
+        fields.number(1, lambda value: value <= UINT32)
+        fields.number(1, lambda value: value <= SECRET)
+        end = fields.number(4, lambda value: value % 4 == 0 and value >= end) + 4
+    fields.number(4, lambda value: value % 4 == 0 and end <= value <= 65_536)
+    fields.number(8, lambda value: 1 <= value <= 137_438_953_536)
+    for _ in range(fields.number(4, lambda value: 1 <= value <= 192_064)):
+        if fields.fault is None:
+            fields.number(4, lambda value: True)
+    if fields.fault is None and fields.at < len(data):
+        fields.blame("B6: trailing bytes")
+    return fields.fault

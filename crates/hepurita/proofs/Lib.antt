@@ -18,3 +18,4 @@ pub mod Compiler
 pub mod LightBodies
 pub mod RangePlaces
 pub mod EvalLemmas
+pub mod CallLemmas

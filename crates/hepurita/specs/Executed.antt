@@ -1,5 +1,5 @@
 -- What a run of an image gives.
-use Rattle.std.specs.Prelude.{◌≡◌, ℕ, Bool, List, Option, Some, None, Result, Ok, Err}
+use Rattle.std.specs.Prelude.{◌≡◌, ◌⊎◌, ℕ, Bool, List, Option, Some, None, Result, Ok, Err}
 use Rattle.arguments.specs.Faults.{fault_of}
 use Rattle.arguments.specs.declared.fault.ArgumentFault.{ArgumentFault}
 use Rattle.image_fields.specs.Fields.{Fields}
@@ -26,6 +26,10 @@ answer_at frame image AccessFault bytes = Err (Stopped AccessFault)
 answer_at frame image Misaligned bytes = Err (Stopped Misaligned)
 answer_at frame image Budget bytes = Err (Stopped Budget)
 answer_at frame image RecorderRefused bytes = Err (Stopped RecorderRefused)
+
+-- memory was refused, to the call or to its recorder
+abbrev pub WantsMemory : Result Results RunFault → Type 0
+WantsMemory answer = (answer ≡ Err Memory) ⊎ (answer ≡ Err (Stopped RecorderRefused))
 
 -- the stop that an answer names
 abbrev pub stop_named : Result Results RunFault → Option Stop

@@ -1,7 +1,7 @@
 // What the answers of the calls are to each other.
 
-ghost use Rattle.std.specs.Prelude.{ℕ, ◌+◌, ◌*◌, ◌<◌, ◌≤◌, ◌≡◌, Bool, List, Result, Ok, map};
-ghost use Rattle.arguments.specs.Within.{AreWithin};
+ghost use Rattle.std.specs.Prelude.{ℕ, ◌+◌, ◌*◌, ◌<◌, ◌≤◌, ◌≡◌, ◌≢◌, ⊥, Bool, List, ◌++◌, Result, Ok, Err, Some, map};
+ghost use Rattle.arguments.specs.Within.{AreWithin, words_of};
 ghost use Rattle.branch_removal.specs.Removed.{IsRemoved};
 ghost use Rattle.branch_removal.specs.Straight.{StraightProgram};
 ghost use Rattle.codegen.specs.Bases.{AreBases};
@@ -22,12 +22,13 @@ ghost use Rattle.hepurita.specs.Compiled.{IsCompiled, Means};
 ghost use Rattle.source_eval.specs.Answer.{answer};
 ghost use Rattle.codegen.specs.Loaded.{params_of};
 ghost use Rattle.syntax.specs.Reading.{Reads, accepted};
+ghost use Rattle.language.specs.declared.signature.Param.{Param};
 ghost use Rattle.language.specs.declared.values.Arg.{Arg};
 ghost use Rattle.language.specs.Results.{Results};
 ghost use Rattle.language.specs.Tree.{ProcedureTree, ProgramTree};
 ghost use Rattle.hepurita.specs.declared.fault.RunFault.{RunFault};
 ghost use Rattle.hepurita.specs.Answers.{Builds, IsTheOutcome, IsSame};
-ghost use Rattle.hepurita.specs.Executed.{Executed};
+ghost use Rattle.hepurita.specs.Executed.{Executed, WantsMemory};
 ghost use Rattle.hepurita.specs.Paired.{Paired};
 
 use arguments::faultless_arguments;
@@ -80,3 +81,29 @@ pub fn accepted_texts_are_evaluated()
 {
     faultless_arguments();
 }
+
+/// Two calls of `execute` with one image, one list of arguments and one list of what was recorded before. Where neither wants
+/// memory they answer the same and leave one list. Where one of them does, or its recorder, what it leaves is a beginning of
+/// what the other leaves.
+pub fn executions_agree()
+    ensures answered { (image : Fields) (args : List Arg) (keeps : Bool) (list one other : List Observation) (a b : Result Results RunFault)
+        → Executed image args keeps list a one → Executed image args keeps list b other
+        → (WantsMemory a → ⊥) → (WantsMemory b → ⊥) → (a ≡ b) × (one ≡ other) }
+    ensures wanted { (image : Fields) (args : List Arg) (keeps : Bool) (list one other : List Observation) (a b : Result Results RunFault)
+        → Executed image args keeps list a one → Executed image args keeps list b other
+        → (WantsMemory a → ⊥) → WantsMemory b → (rest : List Observation) × (one ≡ other ++ rest) }
+{}
+
+/// Two calls of `pair` with one image and the same two lists of arguments answer the same, where neither wants memory.
+pub fn comparisons_agree()
+    ensures { (image : Fields) (one other : List Arg) (a b : Result Pairing RunFault)
+        → Paired image one other a → Paired image one other b
+        → a ≢ Err RunFault.Memory → b ≢ Err RunFault.Memory → a ≡ b }
+{}
+
+/// Texts spell one list of arguments for parameters: within their types, the words decide whether each is an array.
+pub fn readings_agree()
+    ensures { (params : List Param) (one other : List Arg)
+        → AreWithin params one → AreWithin params other
+        → map (λ arg. Some (words_of arg)) one ≡ map (λ arg. Some (words_of arg)) other → one ≡ other }
+{}

@@ -20,7 +20,8 @@ pub use executing::execute;
 pub use fault::RunFault;
 pub use judging::{Accepted, judge};
 pub use laws::{
-    accepted_texts_are_evaluated, bases_fit, images_do_what_texts_mean, texts_are_compiled,
+    accepted_texts_are_evaluated, bases_fit, comparisons_agree, executions_agree,
+    images_do_what_texts_mean, readings_agree, texts_are_compiled,
 };
 pub use loading::{CODE_BASE, FRAME_BASE, code, load, params};
 pub use reading::read_args;

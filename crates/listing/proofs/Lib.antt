@@ -1,4 +1,5 @@
 pub mod CodeLines
+pub mod LeakLaws
 pub mod LeakedLemmas
 pub mod Pieces
 pub mod Written

@@ -5,11 +5,13 @@
 
 mod digits;
 mod fault;
+mod laws;
 mod leaking;
 mod lines;
 mod turns;
 mod words;
 
 pub use fault::LeakFault;
+pub use laws::leaks_agree;
 pub use leaking::leak;
 pub use words::list;

@@ -9,6 +9,7 @@ pub mod PlanLaws
 pub mod RunLaws
 pub mod Shown
 pub mod SizedNumbers
+pub mod StepLaws
 pub mod Stretch
 pub mod TotalLaws
 pub mod TurnLaws

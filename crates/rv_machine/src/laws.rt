@@ -1,6 +1,6 @@
 // Laws of the machine, which hold of the definitions alone.
 
-ghost use Rattle.std.specs.Prelude.{◌≡◌, ◌≢◌, ◌↔◌, ℕ, ◌+◌, ◌%◌, ◌^◌, ◌≤◌, ◌⊎◌, Bool, true, false, List, ◌∷◌, [], ◌++◌, length, Some, is_some};
+ghost use Rattle.std.specs.Prelude.{◌≡◌, ◌≢◌, ◌↔◌, ℕ, ◌+◌, ◌%◌, ◌^◌, ◌≤◌, ◌⊎◌, Bool, true, false, List, ◌∷◌, [], ◌++◌, length, Option, Some, is_some};
 ghost use Rattle.rv_code.specs.declared.instructions.Instr.{Instr};
 ghost use Rattle.rv_code.specs.declared.operations.UpperOperation.{UpperOperation};
 ghost use Rattle.rv_code.specs.declared.operations.BranchTest.{BranchTest};
@@ -16,7 +16,7 @@ ghost use Rattle.rv_machine.specs.declared.stops.Stop.{Stop};
 ghost use Rattle.rv_machine.specs.Bytes.{ByteMap, number_at, with_number};
 ghost use Rattle.rv_machine.specs.Effects.{sign_extended, upper_value, immediate_value, shift_value, register_value, multiply_value, divide_value, holds, load_size, loaded_value, store_size, address_of, jump_target, branch_target, register_target};
 ghost use Rattle.rv_machine.specs.Entries.{Entry, entries_of, IsFirstDifference};
-ghost use Rattle.rv_machine.specs.Leakage.{Leads, Halts, Runs, Ran};
+ghost use Rattle.rv_machine.specs.Leakage.{Leads, Halts, Stepped, Runs, Ran};
 ghost use Rattle.rv_machine.specs.Machine.{State, Code, IsAt, Ending, Turn, here, next, observed, with_value, with_stored, with_link, moved_to};
 ghost use Rattle.rv_machine.specs.Recording.{kept};
 ghost use Rattle.rv_machine.specs.Registers.{register};
@@ -60,6 +60,17 @@ pub fn one_run()
     ensures ran { (code : Code) (keeps : Bool) (n budget : ℕ) (s t u : State) (a list list' : List Observation) (stop other : Stop)
         → Halts code n s a stop t → n ≤ budget → Ran code keeps budget s list other u list' → other ≢ Stop.RecorderRefused
         → (other ≡ stop) × (u ≡ t) × (list' ≡ kept keeps list a) }
+{}
+
+/// Two turns from one state with one list so far agree, where the recorder refused nothing; where it refused, the state and the
+/// list are as before.
+pub fn steps_agree()
+    ensures finished { (code : Code) (keeps : Bool) (s t u : State) (list one other : List Observation) (a b : Option Stop)
+        → Stepped code keeps s list a t one → Stepped code keeps s list b u other
+        → a ≢ Some Stop.RecorderRefused → b ≢ Some Stop.RecorderRefused
+        → (a ≡ b) × (t ≡ u) × (one ≡ other) }
+    ensures refused { (code : Code) (keeps : Bool) (s t : State) (list after : List Observation)
+        → Stepped code keeps s list (Some Stop.RecorderRefused) t after → (t ≡ s) × (after ≡ list) }
 {}
 
 /// Two runs from one state with one budget and one list so far agree, where the recorder refused
