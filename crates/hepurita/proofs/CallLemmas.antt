@@ -5,7 +5,7 @@ use Rattle.arguments.specs.Faults.{fault_of}
 use Rattle.arguments.specs.Within.{AreWithin, HasShape, words_of}
 use Rattle.arguments.specs.declared.fault.ArgumentFault.{ArgumentFault}
 use Rattle.codegen.specs.Loaded.{params_of, code_at, loaded_at}
-use Rattle.image.specs.Fields.{Fields}
+use Rattle.image_fields.specs.Fields.{Fields}
 use Rattle.language.specs.Results.{Results}
 use Rattle.language.specs.declared.signature.Form.{Form}
 use Rattle.language.specs.declared.signature.Form.TheVariants.{SingleWord, FixedArray, MutableArray}

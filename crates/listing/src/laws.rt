@@ -1,7 +1,7 @@
 // What the answers of calls of `leak` are to each other.
 
 ghost use Rattle.std.specs.Prelude.{ℕ, ◌≡◌, ◌≢◌, List, ◌++◌, Result, Err};
-ghost use Rattle.image.specs.Fields.{Fields};
+ghost use Rattle.image_fields.specs.Fields.{Fields};
 ghost use Rattle.language.specs.declared.values.Arg.{Arg};
 ghost use Rattle.rv_machine.specs.declared.stops.Stop.{Stop};
 ghost use Rattle.streams.specs.Streams.{Writes, WritesPart};
