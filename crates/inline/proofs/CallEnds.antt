@@ -10,6 +10,7 @@ use Rattle.inline.specs.Path.{either, first_fault}
 use Rattle.language.specs.declared.signature.Form.{Form}
 use Rattle.language.specs.declared.signature.Form.TheVariants.{SingleWord, FixedArray, MutableArray}
 use Rattle.language.specs.declared.signature.Label.{Label}
+use Rattle.language.specs.declared.typing.Callee.{Callee}
 use Rattle.language.specs.declared.typing.ValueType.{ValueType}
 use Rattle.language.specs.Grammatical.{AreAllSmall}
 use Rattle.language.specs.Meaning.{Calls, argument_faults, body_faults, body_ends, copied_out, is_word, gives, faults}
@@ -20,19 +21,20 @@ use Rattle.language.specs.Types.{Scope}
 use Rattle.language.specs.Typing.{is_mutable, result_value}
 use Rattle.language.specs.WellTyped.{ArePassed, none_passed, one_passed, IsCall, of_procedure}
 use Rattle.names.specs.Scope.{found}
+use Rattle.language.proofs.KnownLemmas.{known-named}
 use Rattle.inline.proofs.Begun.{Enters, array_passed, enters, distinct_none}
-use Rattle.inline.proofs.Called.{Agrees, Spares, Meant, Ready}
+use Rattle.inline.proofs.Called.{Agrees, Spares, IsKept, Ready}
 use Rattle.inline.proofs.Chains.{after_chain, fault_chain}
 use Rattle.inline.proofs.Comes.{Comes, then_comes, also, either-assoc}
 use Rattle.inline.proofs.Copied.{Changes, changes_or_not, spares_begun, copied}
-use Rattle.inline.proofs.KnownLemmas.{known-named}
 use Rattle.inline.proofs.Linked.{Linked}
 use Rattle.inline.proofs.Parameters.{NoVariables, typed_with}
+use Rattle.inline.proofs.Procedures.{IsCallable}
 use Rattle.inline.proofs.Passing.{passed_keeps, passed_comes}
 use Rattle.inline.proofs.Terms.{Holds, Shows}
 
 -- before the first parameter
-no_names : (scope : Scope) → NoVariables scope → (types : Types) (n : ℕ) → ((x : ℕ) → n ≤ x → types x ≡ None) → Linked scope [] types n
+pub no_names : (scope : Scope) → NoVariables scope → (types : Types) (n : ℕ) → ((x : ℕ) → n ≤ x → types x ≡ None) → Linked scope [] types n
 no_names scope none types n fresh = record {
   known = λ text v is. absurd (none text v is);
   none = λ text is. refl;
@@ -62,7 +64,7 @@ no_change scope (one_passed {p = p} {ps = ps} {argument = e} {arguments = es} is
 
 module _ (earlier : List ProcedureTree) (scope : Scope) (names : Numbers) (n : ℕ) (ready : Ready earlier scope names n) where
   -- a call of a procedure that means the same
-  module _ (c : CallTree) (p : ProcedureTree) (meant : Meant earlier c.name p) (passed_are : ArePassed scope p.parameters c.arguments) where
+  module _ (c : CallTree) (callee : Callee) (p : ProcedureTree) (meant : IsCallable IsKept earlier c.name callee p) (passed_are : ArePassed scope p.parameters c.arguments) where
     abbrev own : Numbers
     own = begun names [] n p.parameters c.arguments
 
@@ -78,14 +80,14 @@ module _ (earlier : List ProcedureTree) (scope : Scope) (names : Numbers) (n : �
     abbrev passed_block : FlatBlock
     passed_block = passed names n p.parameters c.arguments
 
-    entered : Enters meant.behaves.scope names p.parameters c.arguments own own_types start
+    entered : Enters meant.good.scope names p.parameters c.arguments own own_types start
     entered =
-        enters scope names passed_are meant.behaves.scope [] ready.types n meant.behaves.parameters ready.linked
-        (no_names meant.behaves.scope meant.behaves.procedures ready.types n ready.linked.fresh) (distinct_none names p.parameters c.arguments)
+        enters scope names passed_are meant.good.scope [] ready.types n meant.good.parameters ready.linked
+        (no_names meant.good.scope meant.good.procedures ready.types n ready.linked.fresh) (distinct_none names p.parameters c.arguments)
 
     body_kept : (x : ℕ) → x < n → (Changes names x p.parameters c.arguments → ⊥) → (m : Values) → after_all (after_all m passed_block) body_block x ≡ m x
     body_kept x low none m =
-        meant.behaves.keeps own own_types start entered.linked x (spares_begun names n start x p.parameters c.arguments (omega arith) none) (after_all m passed_block)
+        meant.good.keeps own own_types start entered.linked x (spares_begun names n start x p.parameters c.arguments (omega arith) none) (after_all m passed_block)
         ∙ passed_keeps names p.parameters c.arguments n x low m
 
     -- what is to be shown of the call, by what is known of its name
@@ -100,7 +102,7 @@ module _ (earlier : List ProcedureTree) (scope : Scope) (names : Numbers) (n : �
     own_callable = callable (callables meant.before) p
 
     known_call : callables earlier c.name ≡ Some own_callable
-    known_call = known-named callable earlier meant.before p c.name meant.named
+    known_call = known-named callable earlier meant.before p c.name meant.is
 
     own_ends : (s : State) (m : Values) → Shows names s m → AreAllSmall c.arguments → CallEnds (Some own_callable) s m
     own_ends s m shows small =
@@ -117,17 +119,17 @@ module _ (earlier : List ProcedureTree) (scope : Scope) (names : Numbers) (n : �
         (sym (either-assoc f g (first_fault (path_of_result end value))) ∙ ap (λ h. either h (first_fault (path_of_result end value))) (sym (fault_chain passed_block body_block m)))
         (then_comes (passed_comes scope names ready.types s passed_are small n ready.linked m shows)
         (λ vs are held.
-        also (meant.behaves.comes own own_types start (meaning.begun s p.parameters c.arguments vs) middle linked (λ text x is. held [] text x refl is))
+        also (meant.good.comes own own_types start (meaning.begun s p.parameters c.arguments vs) middle linked (λ text x is. held [] text x refl is))
         (λ r body agrees. (
           record { word = r.word; state = copied_out s r.state p.parameters c.arguments },
-          body_ends earlier meant.before p s r.state c vs r.word meant.named are body,
+          body_ends meant.is are body,
           record {
             word = agrees.word;
             shows = copied scope names ready.types n ready.linked r.state end own agrees.shows passed_are named s (λ text x there. goes_back end text x there (changes_or_not names x.number p.parameters c.arguments));
           },
         ))
-        (λ at body. body_faults earlier meant.before p s c vs at meant.named are body))
-        (λ at are. argument_faults earlier meant.before p s c at meant.named are)))
+        (λ at body. body_faults meant.is are body))
+        (λ at are. argument_faults meant.is are)))
       where
         goes_back : (end : Values) (text : List ℕ) (x : Numbered) → found names text ≡ Some x → Changes names x.number p.parameters c.arguments ⊎ (Changes names x.number p.parameters c.arguments → ⊥)
             → Changes names x.number p.parameters c.arguments ⊎ Holds x.declaration (s text) (after_all (after_all m passed_block) body_block x.number)
@@ -148,7 +150,7 @@ module _ (earlier : List ProcedureTree) (scope : Scope) (names : Numbers) (n : �
     nothing_here : call_result (callables earlier c.name) ≡ None → call_value (callables earlier c.name) names n c.arguments ≡ None
     nothing_here none =
         ap (λ o. call_value o names n c.arguments) known_call
-        ∙ ap (λ o. value_of (names_after_all (callables meant.before) own start p.body) o) (meant.behaves.returns (sym result_here ∙ none))
+        ∙ ap (λ o. value_of (names_after_all (callables meant.before) own start p.body) o) (meant.good.returns (sym result_here ∙ none))
 
   -- what is known of each call
   pub record CallMeans (c : CallTree) (type : ValueType) : Type 0 where
@@ -165,8 +167,8 @@ module _ (earlier : List ProcedureTree) (scope : Scope) (names : Numbers) (n : �
   call_means (of_procedure {c = c} {callee = callee} {p = p} is there are may) =
       let meant = ready.calls c.name callee p is there in
       record {
-        result = ap result_value (result_here c p meant are);
-        comes = call_ends_here c p meant are;
-        nothing = nothing_here c p meant are;
-        keeps = call_keeps_here c p meant are;
+        result = ap result_value (result_here c callee p meant are);
+        comes = call_ends_here c callee p meant are;
+        nothing = nothing_here c callee p meant are;
+        keeps = call_keeps_here c callee p meant are;
       }

@@ -24,12 +24,12 @@ use Rattle.language.specs.WellTyped.{labelled, AreNew, ArePassed, none_passed, o
 use Rattle.names.specs.Scope.{found}
 use Rattle.inline.proofs.Begun.{word_given, enters, distinct_none}
 use Rattle.inline.proofs.ChainTypes.{chain-types, chain-typed}
-use Rattle.inline.proofs.KnownLemmas.{known-named}
+use Rattle.language.proofs.KnownLemmas.{known-named}
 use Rattle.inline.proofs.Linked.{Linked, linked_beside}
 use Rattle.inline.proofs.Listed.{Lists, lists_first, lists_left, lists_right}
 use Rattle.inline.proofs.Parameters.{NoVariables, typed_with}
 use Rattle.inline.proofs.Procedures.{Stand, IsWithin}
-use Rattle.inline.proofs.Terms.{means, suits_there}
+use Rattle.inline.proofs.Terms.{means, still_public, suits_there}
 
 -- A called body is well typed wherever its parameters' names have numbers: also under secret control, where it may assign to
 -- nothing public.
@@ -139,11 +139,7 @@ module _ (earlier : List ProcedureTree) (at : Scope) (stand : Stand TypedBody ea
 
 -- a value of the one type, put where the other is wanted
 pub suits_as : {types : Types} {given wanted : WordType} {e : TermTree} → Suits types given e → rules.Suits given wanted → Suits types wanted e
-suits_as is (rules.suits flow) = record { word = is.word; has_type = is.has_type; kind = is.kind; label = λ e. is.label (still flow e) }
-  where
-    still : {label wanted : Label} → rules.FlowsTo label wanted → wanted ≡ Public → label ≡ Public
-    still rules.public_flows e = refl
-    still rules.secret_flows e = e
+suits_as is (rules.suits flow) = record { word = is.word; has_type = is.has_type; kind = is.kind; label = λ e. is.label (still_public flow e) }
 
 pub result_suits : (types : Types) (result : Option WordType) (value : Option TermTree) (given wanted : WordType) → IsResult types result value → Word given ≡ result_value result → rules.Suits given wanted → Suits types wanted (value_given value)
 result_suits types None value given wanted is same suit = absurd cc

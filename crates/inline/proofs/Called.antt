@@ -1,6 +1,5 @@
 -- What is known of procedures that may be called, and of the names where they are.
-use Rattle.std.proofs.Common.{◌≡◌, ℕ, suc, ◌+◌, ◌<◌, ◌≤◌, true, List, [], ◌∷◌, ◌++◌, length, Option, Some, None, slice_get, ◌⊎◌, inl, inr, arith, length-append}
-use Rattle.std.specs.Str.{bytes_eq}
+use Rattle.std.proofs.Common.{◌≡◌, ℕ, suc, ◌+◌, ◌<◌, ◌≤◌, true, List, [], ◌∷◌, ◌++◌, length, Option, Some, None, arith, length-append}
 use Rattle.inline.specs.declared.flat.FlatVariable.{FlatVariable}
 use Rattle.inline.specs.declared.numbering.Numbered.{Numbered}
 use Rattle.inline.specs.Flat.{TermTree, word_as, array_as}
@@ -8,12 +7,10 @@ use Rattle.inline.specs.FlatMeaning.{Values, value_in, after_all, path_along, pa
 use Rattle.inline.specs.FlatTyping.{Types, with_type}
 use Rattle.inline.specs.Numbering.{Numbers, callables, naming, block, names_after, names_after_all, value_of, right_end, right_variables, element_variables, call_variables, call_result, dropped_variables, declared_in, declared_in_all, numbers_taken, numbers_taken_all}
 use Rattle.inline.specs.Path.{either, first_fault}
-use Rattle.language.specs.declared.typing.Callee.{Callee}
-use Rattle.language.specs.declared.typing.Declared.TheVariants.{Procedure, Variable}
+use Rattle.language.specs.declared.typing.Declared.TheVariants.{Variable}
 use Rattle.language.specs.declared.signature.Label.{Label}
-use Rattle.language.specs.declared.typing.VariableType.{VariableType}
 use Rattle.language.specs.declared.typing.WordType.{WordType}
-use Rattle.language.specs.Meaning.{named, Bodies, Returned}
+use Rattle.language.specs.Meaning.{Bodies, Returned}
 use Rattle.language.specs.State.{State, Word}
 use Rattle.language.specs.Tree.{StatementTree, BlockTree, ProcedureTree}
 use Rattle.language.specs.Types.{Scope}
@@ -22,8 +19,8 @@ use Rattle.language.specs.WellTyped.{labelled, AreNew, IsWellTyped, declares, de
 use Rattle.names.specs.Scope.{found, declared}
 use Rattle.inline.proofs.Comes.{Comes}
 use Rattle.inline.proofs.Linked.{Linked, later, linked_declared, variable_as}
-use Rattle.inline.proofs.Lookup.{found-split}
 use Rattle.inline.proofs.Parameters.{NoVariables}
+use Rattle.inline.proofs.Procedures.{EachCallable, IsCallable, callable_declared}
 use Rattle.inline.proofs.Terms.{Shows, word_at}
 
 -- a result that is the flat one's value, where there is one
@@ -60,42 +57,26 @@ pub record Behaves (before : List ProcedureTree) (p : ProcedureTree) : Type 0 wh
   pub keeps : (names : Numbers) (types : Types) (n : ℕ) → Linked (with_parameters scope p.parameters) names types n → (x : ℕ) → Spares names n x → (m : Values)
       → after_all m (block (callables before) names n p.body) x ≡ m x
 
--- a name stands for a procedure that does
-pub record Meant (earlier : List ProcedureTree) (text : List ℕ) (p : ProcedureTree) : Type 0 where
-  pub before : List ProcedureTree
-  pub named : named [] earlier text ≡ Some (before, p)
-  pub behaves : Behaves before p
-
--- so does each that may be called
-abbrev pub CallsAreKept : List ProcedureTree → Scope → Type 0
-CallsAreKept earlier scope = (text : List ℕ) (c : Callee) (p : ProcedureTree) → found scope text ≡ Some (Procedure c) → slice_get earlier c.number ≡ Some p → Meant earlier text p
+-- the statement that each procedure meets, in the scope of those before it
+abbrev pub IsKept : List ProcedureTree → Scope → ProcedureTree → Type 0
+IsKept before scope p = Behaves before p
 
 -- where a statement begins: its names go together with numbers, of which the next is n, and with types
 pub record Ready (earlier : List ProcedureTree) (scope : Scope) (names : Numbers) (n : ℕ) : Type 0 where
   pub types : Types
   pub linked : Linked scope names types n
-  pub calls : CallsAreKept earlier scope
+  pub calls : EachCallable earlier (IsCallable IsKept earlier) scope
 
 pub ready_later : {earlier : List ProcedureTree} {scope : Scope} {names : Numbers} (n m : ℕ) → n ≤ m → Ready earlier scope names n → Ready earlier scope names m
 ready_later {scope = scope} {names = names} n m more ready = record { types = ready.types; linked = later scope names ready.types n m more ready.linked; calls = ready.calls }
 
 -- after a declaration
-pub same_calls : (earlier : List ProcedureTree) (scope : Scope) (text : List ℕ) (v : VariableType) → CallsAreKept earlier scope → CallsAreKept earlier (declared scope text (Variable v))
-same_calls earlier scope text v old_calls other c p is there = by_name (found-split scope text (Variable v) other (Procedure c) is)
-  where
-    no_procedure : (v : VariableType) (c : Callee) → Variable v ≡ Procedure c → ⊥
-    no_procedure v c h = cc
-
-    by_name : (found scope other ≡ Some (Procedure c)) ⊎ ((bytes_eq other text ≡ true) × (Variable v ≡ Procedure c)) → Meant earlier other p
-    by_name (inl old) = old_calls other c p old there
-    by_name (inr new) = absurd (no_procedure v c new.1)
-
 pub ready_declared : {earlier : List ProcedureTree} {scope : Scope} {names : Numbers} (n : ℕ) → Ready earlier scope names n → (text : List ℕ) (own : FlatVariable) → found scope text ≡ None
     → Ready earlier (declared scope text (Variable (variable_as own))) (naming names text n own) (n + 1)
 ready_declared {earlier = earlier} {scope = scope} {names = names} n ready text own new = record {
   types = with_type ready.types n own;
   linked = linked_declared scope names ready.types n ready.linked text own new;
-  calls = same_calls earlier scope text (variable_as own) ready.calls;
+  calls = callable_declared earlier (IsCallable IsKept earlier) scope text (variable_as own) ready.calls;
 }
 
 module _ (earlier : List ProcedureTree) where

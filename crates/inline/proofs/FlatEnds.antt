@@ -73,7 +73,7 @@ element_asked s bracket target text index kind words size i there count u is sam
     ended (fault_at (indexed bracket size i))
     (subst (Evaluates s (element bracket target text index))
     (ap₂ (element_held bracket) there same ∙ (element_found bracket kind words size i count ∙ ap (λ f. ending_by f (word_at kind (slice_index words i))) (either-none (fault_at (indexed bracket size i)))))
-    (by_operands (element bracket target text index) (u ∷ []) (one_more index [] u [] is none_left)))
+    (by_operands (one_more is none_left)))
   where
     ended : (f : Option Place) → Evaluates s (element bracket target text index) (ending_by f (word_at kind (slice_index words i))) → Comes (Evaluates s (element bracket target text index)) (λ w. Unit {0}) f
     ended None is = well _ is tt
@@ -89,13 +89,13 @@ with_another s text kind words i w there = ap (λ o. with_some s text (with_elem
 module _ (ps : List ProcedureTree) (text : List ℕ) (body : BlockTree) (names : Numbers) (turn : ℕ → Values → Values) (path : ℕ → Values → Path)
     (step : (i : ℕ) (s : State) (m : Values) → Shows names s m → Comes (RunsAll ps (counting s text i) body) (λ t. Shows names t (turn i m)) (first_fault (path i m))) where
   same_turns : (k i n : ℕ) (s : State) (m : Values) → n - i ≡ k → Shows names s m → Comes (Turns ps s text body i n) (λ t. Shows names t (flat.turns k i turn m)) (first_fault (path_of_turns k i turn path m))
-  same_turns zero i n s m count shows = well s (no_turn ps s text body i n (omega arith)) shows
+  same_turns zero i n s m count shows = well s (no_turn (omega arith)) shows
   same_turns (suc k) i n s m count shows =
       let more : i < n = omega arith in
       subst (Comes (Turns ps s text body i n) (λ t. Shows names t (flat.turns (suc k) i turn m))) (sym (across (path i m) (path_of_turns k (i + 1) turn path (turn i m))))
       (then_comes (step i s m shows)
-      (λ t is good. also (same_turns k (i + 1) n t (turn i m) (omega arith) good) (λ u are shows. (u, a_turn ps s t text body i n (gives u) more is are, shows)) (λ at are. a_turn ps s t text body i n (faults at) more is are))
-      (λ at is. turn_faults ps s text body i n at more is))
+      (λ t is good. also (same_turns k (i + 1) n t (turn i m) (omega arith) good) (λ u are shows. (u, a_turn more is are, shows)) (λ at are. a_turn more is are))
+      (λ at is. turn_faults more is))
 
 -- Conditionals.
 
@@ -104,10 +104,10 @@ one_arm : (ps : List ProcedureTree) (s : State) (place : Place) (condition : Exp
     → (b : Bool) → (v == 0) ≡ b → Comes (Runs ps s (conditional place condition accepted otherwise)) (λ t. Shows names t (if b then if_false else if_true)) (first_fault (if b then q else p))
 one_arm ps s place condition accepted otherwise names if_true if_false p q c v is same one other true e =
     let off = ap (λ x. not (x == 0)) same ∙ ap not e in
-    also other (λ t are shows. (t, declines ps s place condition accepted otherwise c (gives t) is off are, shows)) (λ at are. declines ps s place condition accepted otherwise c (faults at) is off are)
+    also other (λ t are shows. (t, declines is off are, shows)) (λ at are. declines is off are)
 one_arm ps s place condition accepted otherwise names if_true if_false p q c v is same one other false e =
     let on = ap (λ x. not (x == 0)) same ∙ ap not e in
-    also one (λ t are shows. (t, accepts ps s place condition accepted otherwise c (gives t) is on are, shows)) (λ at are. accepts ps s place condition accepted otherwise c (faults at) is on are)
+    also one (λ t are shows. (t, accepts is on are, shows)) (λ at are. accepts is on are)
 
 -- One statement behind a block.
 at_end : {Is : Ending State → Type 0} (b : FlatBlock) (last : FlatTree) (m : Values) (Good : State → Values → Type 0) → Comes Is (λ t. Good t (after (after_all m b) last)) (either (first_fault (path_along m b)) (first_fault (path_at (after_all m b) last)))
@@ -190,10 +190,10 @@ module _ (ps : List ProcedureTree) where
         (also ((right_means ps scope names n ready has).comes s m shows plain)
         (λ r is good. (
           with_value r.state text (single (word_given r.word)),
-          declares ps s place label mutable kind text value r is,
+          declares is,
           shows_declared scope names next.types k next.linked r.state end good.shows text own (single (word_given r.word)) (v ∷ []) (holds_word (labelled kind label) mutable (word_given r.word) v good.word) new,
         ))
-        (λ at is. declaration_faults ps s place at label mutable kind text value is))
+        (λ at is. declaration_faults is))
     same_end (rules.declares_array {scope = scope} {place = place} {label = label} {mutable = mutable} {kind = kind} {size = size} {text = text} {values = values} new all count flow) names n ready plain s m shows =
         let own = array_as (labelled kind label) mutable size in
         let terms = map (term names) (written values) in
@@ -201,14 +201,14 @@ module _ (ps : List ProcedureTree) where
         (also (values_come scope names ready.types n ready.linked s m shows all (small_values values plain.1))
         (λ vs is same. (
           with_value s text (made_array kind size vs),
-          declares_array ps s place label mutable kind size text values vs is,
+          declares_array is,
           shows_declared scope names ready.types n ready.linked s m shows text own (made_array kind size vs) (elements m size terms)
               (record {
                 is = ap (λ us. Some (made_array kind size us)) same ∙ (ap Some (made_filled kind size (map (value_in m) terms)) ∙ ap (λ us. Some (state.array kind us)) (sym (elements_filled m size terms)));
                 count = filled_count m names count;
               }) new,
         ))
-        (λ at is. first_value_faults ps s place at label mutable kind size text values is))
+        (λ at is. first_value_faults is))
     same_end (rules.assigns {scope = scope} {place = place} {target = target} {text = text} {right = value} is has (rules.suits {kind = kind} {wanted = label} suits) flow) names n ready plain s m shows =
         let tree = right_block (callables ps) names n value in
         let taken = right (callables ps) names n value in
@@ -220,11 +220,11 @@ module _ (ps : List ProcedureTree) where
         (also ((right_means ps scope names n ready has).comes s m shows plain)
         (λ r is good. (
           with_value r.state text (single (word_given r.word)),
-          assigns ps s place target text value r is,
+          assigns is,
           shows_changed scope names ready.types n ready.linked r.state end good.shows text (word_as own true) (single (word_given r.word)) (v ∷ []) (holds_word own true (word_given r.word) v good.word) (number_of names text)
               (x.found ∙ ap (λ (y : Numbered). Some (entry y.number (word_as own true))) (sym x.here)) refl,
         ))
-        (λ at is. assignment_faults ps s place target at text value is))
+        (λ at is. assignment_faults is))
     same_end (rules.assigns_element {scope = scope} {place = place} {bracket = bracket} {target = target} {text = text} {index = index} {array = own} is has (rules.of_value {e = value} given) (rules.suits suits) flow) names n ready plain s m shows =
         let i = value_in m (term names index) in
         let v = value_in m (term names value) in
@@ -240,12 +240,12 @@ module _ (ps : List ProcedureTree) where
         also ((means scope names ready.types n ready.linked given plain.1).value s m shows)
         (λ w are alike. (
           with_some s text (with_element (s text) u.value w),
-          assigns_element ps s place bracket target text index (computed value) old u (record { word = Some w; state = s }) there one (of_expr ps s value w are),
+          assigns_element there one (of_expr are),
           element_shown scope names ready.types n ready.linked text own is s m shows u w i v (ap (λ (w : state.Word). w.value) same) alike,
         ))
-        (λ at are. right_faults ps s place bracket target at text index (computed value) old there (expr_faults ps s value at are)))
-        (λ at there. target_faults ps s place bracket target at text index (computed value) there))
-        (λ at one. target_faults ps s place bracket target at text index (computed value) (operand_faults (element bracket target text index) at (this_faults index [] at one)))))
+        (λ at are. right_faults there (expr_faults are)))
+        (λ at there. target_faults there))
+        (λ at one. target_faults (operand_faults (this_faults one)))))
     same_end (rules.assigns_element {scope = scope} {place = place} {bracket = bracket} {target = target} {text = text} {index = index} {array = own} is has (rules.of_call {c = c} given) (rules.suits suits) flow) names n ready plain s m shows =
         let i = value_in m (term names index) in
         let y = number_of names text in
@@ -282,12 +282,12 @@ module _ (ps : List ProcedureTree) where
         also (call_gives ps scope names (n + 1) next given s began shown plain.1)
         (λ r are good. (
           with_some r.state text (with_element (r.state text) u.value (word_given r.word)),
-          assigns_element ps s place bracket target text index (called c) old u r there one are,
+          assigns_element there one are,
           element_shown scope names ready.types n ready.linked text own is r.state end good.shows u (word_given r.word) i v (ap (λ (w : state.Word). w.value) same) good.word,
         ))
-        (λ at are. right_faults ps s place bracket target at text index (called c) old there are))
-        (λ at there. target_faults ps s place bracket target at text index (called c) there))
-        (λ at one. target_faults ps s place bracket target at text index (called c) (operand_faults (element bracket target text index) at (this_faults index [] at one)))))
+        (λ at are. right_faults there are))
+        (λ at there. target_faults there))
+        (λ at one. target_faults (operand_faults (this_faults one)))))
     same_end (rules.calls {scope = scope} {c = c} is) names n ready plain s m shows =
         let known = call_means ps scope names n ready is in
         let tree = call_block (callables ps c.name) names n c.arguments in
@@ -301,10 +301,10 @@ module _ (ps : List ProcedureTree) where
         (also (known.comes s m shows plain)
         (λ r are agrees. (
           r.state,
-          calls ps s c r are,
+          calls are,
           shows_kept names r.state end (after_all end last) agrees.shows (λ name x there. let low = ready.linked.below name x there in dropped_keeps k x.number (omega arith) result value end),
         ))
-        (λ at are. call_faults ps s c at are)))
+        (λ at are. call_faults are)))
     same_end (rules.chooses {scope = scope} {place = place} {condition = condition} {accepted = accepted} {otherwise = otherwise} has one other) names n ready plain s m shows =
         let k = n + numbers_taken_all (callables ps) accepted in
         let v = value_in m (term names condition) in
@@ -319,7 +319,7 @@ module _ (ps : List ProcedureTree) where
         (subst (Comes (Runs ps s (conditional place condition accepted otherwise)) (λ t. Shows names t (if v == 0 then if_false else if_true))) (sym (across (path_in m (term names condition)) (if v == 0 then q else p)))
         (then_comes ((means scope names ready.types n ready.linked has plain.0).value s m shows)
         (λ c is same. one_arm ps s place condition accepted otherwise names if_true if_false p q c v is (ap (λ (w : state.Word). w.value) same) first_arm other_arm (v == 0) refl)
-        (λ at is. condition_faults ps s place at condition accepted otherwise is)))
+        (λ at is. condition_faults is)))
     same_end (rules.repeats {scope = scope} {place = place} {counter = counter} {text = text} {low = low} {high = high} {body = body} one other new inner) names n ready plain s m shows =
         let a = value_in m (term names low) in
         let b = value_in m (term names high) in
@@ -339,17 +339,17 @@ module _ (ps : List ProcedureTree) where
         (ap (λ f. either f (first_fault (path_of_turns (b - a) a turn path m))) (ap (either (first_fault p)) (either-none (first_fault q))) ∙ sym (across₃ p q (bounded n a b ∷ path_of_turns (b - a) a turn path m)))
         (then_comes (more_values s ((means scope names ready.types n ready.linked one plain.0).value s m shows) (more_values s ((means scope names ready.types n ready.linked other plain.1).value s m shows) (no_values s)))
         (λ vs is same. bounded_by vs is same (same_turns ps text body names turn path step (b - a) a b s m refl shows))
-        (λ at is. bounds_fault ps s place counter at text low high body is)))
+        (λ at is. bounds_fault is)))
       where
         bounded_by : {a b : ℕ} {good : State → Type 0} {fault : Option Place} (vs : List state.Word) → EvaluatesAll s (low ∷ high ∷ []) (gives vs) → vs ≡ word_at Uint32 a ∷ word_at Uint32 b ∷ []
             → Comes (Turns ps s text body a b) good fault → Comes (Runs ps s (loop place counter text low high body)) good fault
         bounded_by {a = a} {b = b} vs is same turns =
             let are = subst (λ us. EvaluatesAll s (low ∷ high ∷ []) (gives us)) same is in
-            also turns (λ t all good. (t, loops ps s place counter text low high body (word_at Uint32 a) (word_at Uint32 b) (gives t) are all, good)) (λ at all. loops ps s place counter text low high body (word_at Uint32 a) (word_at Uint32 b) (faults at) are all)
+            also turns (λ t all good. (t, loops are all, good)) (λ at all. loops are all)
 
     pub same_ends : {scope : Scope} {control : Label} {b : BlockTree} → rules.AreWellTyped ps scope control b → (names : Numbers) (n : ℕ) → Ready ps scope names n
         → ArePlain b → (s : State) (m : Values) → Shows names s m → SameEnds names n b s m
-    same_ends rules.no_statement names n ready plain s m shows = well s (ends ps s) shows
+    same_ends rules.no_statement names n ready plain s m shows = well s ends shows
     same_ends (rules.one_more {statement = statement} {rest = rest} here there) names n ready plain s m shows =
         let tree = numbering.statement (callables ps) names n statement in
         let k = n + numbers_taken (callables ps) statement in
@@ -359,5 +359,5 @@ module _ (ps : List ProcedureTree) where
         (subst (Comes (RunsAll ps s (first statement rest)) (λ t. Shows (names_after_all (callables ps) later_names k rest) t (after_all (after_all m tree) more))) (sym (fault_chain tree more m))
         (then_comes (same_end here names n ready plain.0 s m shows)
         (λ t is good. also (same_ends there later_names k (ready_after ps here names n ready) plain.1 t (after_all m tree) good)
-        (λ u are shows. (u, goes_on ps s t statement rest (gives u) is are, shows)) (λ at are. goes_on ps s t statement rest (faults at) is are))
-        (λ at is. stops ps s statement rest at is)))
+        (λ u are shows. (u, goes_on is are, shows)) (λ at are. goes_on is are))
+        (λ at is. stops is)))

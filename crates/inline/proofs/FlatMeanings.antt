@@ -20,26 +20,18 @@ use Rattle.language.specs.Types.{Scope}
 use Rattle.language.specs.Typing.{body_scope, parameter_as, scope_after_all, violations, with_parameters, with_procedure}
 use Rattle.language.specs.WellTyped as rules
 use Rattle.names.specs.Scope.{declared}
-use Rattle.inline.proofs.Called.{Agrees, HasResult, nothing_given, a_word, Behaves, BodyComes, CallsAreKept, Ready, same_calls, ready_after_all}
+use Rattle.inline.proofs.Called.{Agrees, HasResult, nothing_given, a_word, Behaves, BodyComes, IsKept, Ready, ready_after_all}
 use Rattle.inline.proofs.Comes.{Comes, well, fails, then_comes, also, across}
 use Rattle.inline.proofs.FlatEnds.{same_ends}
 use Rattle.inline.proofs.Kept.{block_keeps}
 use Rattle.inline.proofs.Linked.{Linked}
 use Rattle.inline.proofs.Parameters.{shows_arguments, arrays_same, all_own, where_begun, linked_parameters}
 use Rattle.inline.proofs.Passing.{kind_suits}
-use Rattle.inline.proofs.Procedures.{Stand, own_typing, variables_within, earlier_within}
+use Rattle.inline.proofs.Procedures.{Stand, IsCallable, callable_parameters, callable_within, own_typing, variables_within}
 use Rattle.inline.proofs.States.{shows_before}
 use Rattle.inline.proofs.Terms.{Shows, means}
 
 -- Procedures.
-
--- the statement that each procedure meets, in the scope of those before it
-abbrev pub IsKept : List ProcedureTree → Scope → ProcedureTree → Type 0
-IsKept before scope p = Behaves before p
-
-within_parameters : (earlier : List ProcedureTree) (ps : List ParameterTree) (scope : Scope) → CallsAreKept earlier scope → CallsAreKept earlier (with_parameters scope ps)
-within_parameters earlier [] scope calls = calls
-within_parameters earlier (p ∷ ps) scope calls = within_parameters earlier ps (declared scope p.name (parameter_as p)) (same_calls earlier scope p.name _ calls)
 
 -- a result, where there is one
 pub no_result : {scope : Scope} {result : Option WordType} {o : Option ReturnTree} → rules.Returns scope result o → result ≡ None → o ≡ None
@@ -51,26 +43,21 @@ result_comes : (before : List ProcedureTree) (p : ProcedureTree) (start end : St
     → RunsAll before start p.body (gives end) → {result : Option WordType} {o : Option ReturnTree} → rules.Returns scope result o → p.returned ≡ o → IsSmallReturn o
     → Comes (Bodies before p start) (Agrees names m result (value_of names o)) (first_fault (path_of_result m (value_of names o)))
 result_comes before p start end scope names types n m linked shows run rules.nothing_returned is small =
-    well (record { word = None; state = end }) (returns_nothing before p start end run is) (record { word = nothing_given; shows = shows })
+    well (record { word = None; state = end }) (returns_nothing run is) (record { word = nothing_given; shows = shows })
 result_comes before p start end scope names types n m linked shows run (rules.value_returned {r = r} has suit) is small =
     let v = value_in m (term names r.value) in
     also ((means scope names types n linked has small).value end m shows)
     (λ w gives same. (
       record { word = Some w; state = end },
-      returns before p start end r w run is gives,
+      returns run is gives,
       record { word = a_word (same ∙ ap (λ k. record { kind = k; value = v }) (kind_suits suit)); shows = shows },
     ))
-    (λ at fails. return_faults before p start end r at run is fails)
+    (λ at fails. return_faults run is fails)
 
 module _ (before : List ProcedureTree) (scope : Scope) (p : ProcedureTree) (stand : Stand IsKept before scope) (typed : rules.IsProcedure before scope p) (plain : IsGrammatical p) where
-  calls_within : CallsAreKept before (with_procedure scope (length before) p)
-  calls_within text c q is there =
-      let known = stand.callable text c q (earlier_within IsKept before scope stand p typed.is_new text c q is there) there in
-      record { before = known.before; named = known.is; behaves = known.good }
-
   module _ (names : Numbers) (types : Types) (n : ℕ) (linked : Linked (body_scope scope (length before) p) names types n) where
     pub begins : Ready before (body_scope scope (length before) p) names n
-    begins = record { types = types; linked = linked; calls = within_parameters before p.parameters (with_procedure scope (length before) p) calls_within }
+    begins = record { types = types; linked = linked; calls = callable_parameters before (IsCallable IsKept before) p.parameters (with_procedure scope (length before) p) (callable_within IsKept before scope stand p typed.is_new) }
 
     pub body_comes : (s : State) (m : Values) → Shows names s m → BodyComes before p names n s m
     body_comes s m shows =
@@ -84,7 +71,7 @@ module _ (before : List ProcedureTree) (scope : Scope) (p : ProcedureTree) (stan
         also (result_comes before p s t (scope_after_all (body_scope scope (length before) p) p.body) last ready.types (n + numbers_taken_all known p.body) end ready.linked good run typed.returns refl plain.returned)
         (λ r is agrees. (r, is, record { word = agrees.word; shows = shows_before known p.body names n r.state end agrees.shows }))
         (λ at is. is))
-        (λ at run. statements_fault before p s at run)
+        (λ at run. statements_fault run)
 
   abbrev pub behaves : Behaves before p
   behaves = record {
@@ -107,8 +94,8 @@ word_same (a_word same) = ap (λ (w : Word). Some w.value) same
 ended : (program : ProgramTree) (args : List Arg) (before : List ProcedureTree) (p : ProcedureTree) (outcome : Results) (fault : Option Place) → exported [] program.procedures ≡ Some (before, p)
     → Comes (Bodies before p (holding p.parameters args)) (λ r. record { returned = option_map (λ (w : Word). w.value) r.word; arrays = final_arrays r.state p.parameters } ≡ outcome) fault
     → Gives program args (ending_by fault outcome)
-ended program args before p outcome fault is (well r body same) = subst (λ x. Gives program args (gives x)) same (ends_well before p r.word r.state is body)
-ended program args before p outcome fault is (fails at body) = meets_fault before p at is body
+ended program args before p outcome fault is (well r body same) = subst (λ x. Gives program args (gives x)) same (ends_well is body)
+ended program args before p outcome fault is (fails at body) = meets_fault is body
 
 pub flat_keeps_meaning : (program : ProgramTree) (before : List ProcedureTree) (p : ProcedureTree) (args : List Arg) → length (violations program) ≡ 0 → exported [] program.procedures ≡ Some (before, p)
     → AllByRecursion IsGrammatical before → IsGrammatical p → AreWithin (map param_of p.parameters) args → Gives program args (ending_of (flattened before p) args)

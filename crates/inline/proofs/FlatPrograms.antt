@@ -21,7 +21,7 @@ use Rattle.inline.proofs.Hiding.{either_false, hides_none, hides_parameters}
 use Rattle.inline.proofs.Linked.{Linked}
 use Rattle.inline.proofs.Listed.{Lists, lists_end, block_takes, all_counted}
 use Rattle.inline.proofs.Parameters.{linked_parameters, all_own}
-use Rattle.inline.proofs.Procedures.{Stand, Exported, IsWithin, own_typing, variables_within, earlier_within, within_parameters}
+use Rattle.inline.proofs.Procedures.{Stand, Exported, IsAt, IsWithin, own_typing, variables_within, earlier_within, callable_parameters}
 use Rattle.inline.proofs.Terms.{means, suits_there}
 
 -- a value is returned exactly where there is a result
@@ -47,7 +47,7 @@ module _ (before : List ProcedureTree) (at : Scope) (p : ProcedureTree) (stand :
       (hides_parameters typed.parameters (hides_none (with_procedure at (length before) p) (variables_within TypedBody before at stand p typed.is_new)) split.0, split.1)
 
   within : IsWithin before at inside
-  within = within_parameters before at typed.parameters (earlier_within TypedBody before at stand p typed.is_new)
+  within = callable_parameters before (IsAt at) p.parameters (with_procedure at (length before) p) (earlier_within TypedBody before at stand p typed.is_new)
 
   body_typed : (all : List FlatVariable) (control : Label) (names : Numbers) (types : Types) (n : ℕ) → Linked inside names types n → (control ≡ Secret → assigns_public at p ≡ false)
       → Lists all n (declared_in_all (callables before) p.body) → AreTyped all types control (block (callables before) names n p.body)

@@ -23,13 +23,13 @@ use Rattle.language.specs.Meaning.{exported}
 use Rattle.language.specs.Size.{Extents, extents_of, right_nodes, right_words, statement_nodes, block_nodes, nodes_of, bodies_of, held_words, parameter_words, statement_words, block_words, declared_bytes, size_violations}
 use Rattle.language.specs.Tree.{ExprTree, RightTree, StatementTree, element_assignment, BlockTree, ParameterTree, ProcedureTree, ProgramTree, ReturnTree, written}
 use Rattle.language.specs.Types.{Scope, when}
-use Rattle.language.specs.Typing.{violations}
+use Rattle.language.specs.Typing.{violations, with_procedure}
 use Rattle.language.specs.WellTyped.{labelled, Gives, of_call, of_value, IsWellTyped, declares, declares_array, assigns, assigns_element, calls, chooses, repeats, AreWellTyped, no_statement, one_more, IsProcedure, Returns, nothing_returned, value_returned}
 use Rattle.word.specs.declared.place.Place.{Place}
 use Rattle.inline.proofs.CallSizes.{same_nodes, same_all, same_result, GoTogether, value_there, dropped_nodes, dropped_words, words-append, SizedBody, call_sized}
 use Rattle.inline.proofs.ChainTypes.{chain-nodes}
 use Rattle.inline.proofs.Parameters.{own, all_own}
-use Rattle.inline.proofs.Procedures.{Stand, IsWithin, own_typing, earlier_within, within_after, within_declared, within_parameters}
+use Rattle.inline.proofs.Procedures.{Stand, IsAt, IsWithin, own_typing, earlier_within, callable_after, callable_declared, callable_parameters}
 
 -- Limits.
 
@@ -144,7 +144,7 @@ module _ (earlier : List ProcedureTree) (at : Scope) (stand : Stand SizedBody ea
         let more = b.words in
         record { nodes = omega (arith, left, right, same_nodes names condition); words = omega (arith, sum, few, more) }
     statement_sized (repeats {scope = scope} {text = text} {low = low} {high = high} {body = body} has is new all) inside names n =
-        let b = block_sized all (within_declared earlier at scope text _ new inside) (naming names text n (word_as counter_type false)) (n + 1) in
+        let b = block_sized all (callable_declared earlier (IsAt at) scope text _ inside) (naming names text n (word_as counter_type false)) (n + 1) in
         let same = b.nodes in
         let few = b.words in
         record { nodes = omega (arith, same, same_nodes names low, same_nodes names high); words = omega (arith, few) }
@@ -153,7 +153,7 @@ module _ (earlier : List ProcedureTree) (at : Scope) (stand : Stand SizedBody ea
     block_sized no_statement inside names n = record { nodes = refl; words = omega arith }
     block_sized (one_more {statement = s} {rest = rest} here there) inside names n =
         let a = statement_sized here inside names n in
-        let b = block_sized there (within_after earlier at here inside) (names_after known names n s) (n + numbers_taken known s) in
+        let b = block_sized there (callable_after earlier (IsAt at) here inside) (names_after known names n s) (n + numbers_taken known s) in
         let whole = chain-nodes (statement known names n s) (block known (names_after known names n s) (n + numbers_taken known s) rest) in
         let sum = words-append (declared_in known s) (declared_in_all known rest) in
         let left = a.nodes in
@@ -170,7 +170,7 @@ return_together (value_returned has suit) = tt
 
 sized_one : (before : List ProcedureTree) (at : Scope) (p : ProcedureTree) → Stand SizedBody before at → IsProcedure before at p → SizedBody before at p
 sized_one before at p stand typed =
-    let inside = within_parameters before at typed.parameters (earlier_within SizedBody before at stand p typed.is_new) in
+    let inside = callable_parameters before (IsAt at) p.parameters (with_procedure at (length before) p) (earlier_within SizedBody before at stand p typed.is_new) in
     record {
       nodes = λ names n. (block_sized before at stand typed.body inside names n).nodes;
       words = (block_sized before at stand typed.body inside [] 0).words;

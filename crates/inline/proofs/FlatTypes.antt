@@ -28,7 +28,7 @@ use Rattle.inline.proofs.Hiding.{Hides, hides_after, hides_counter, either_false
 use Rattle.inline.proofs.KnownLemmas.{AllKnown}
 use Rattle.inline.proofs.Linked.{Linked, Serves, KnownAs, linked_beside, linked_declared, known_word, known_array, later, with_type-same}
 use Rattle.inline.proofs.Listed.{Lists, IsCounted, call_takes, right_takes, statement_takes, passed_over, all_counted, lists_first, lists_left, lists_right}
-use Rattle.inline.proofs.Procedures.{Stand, IsWithin, within_after, within_declared}
+use Rattle.inline.proofs.Procedures.{Stand, IsAt, IsWithin, callable_after, callable_declared}
 use Rattle.inline.proofs.Terms.{means, suits_there}
 
 -- Labels.
@@ -257,7 +257,7 @@ module _ (earlier : List ProcedureTree) where
               (means scope names types n linked low plain.0).typed,
               (means scope names types n linked high plain.1).typed,
               record { new = linked.fresh n (omega arith); listed = lists_first all n own (declared_in_all known body) lists },
-              typed_block inner (within_declared earlier at scope text _ new within) (λ e. (hides_counter scope text new (hush e).0, (hush e).1)) (naming names text n own) (with_type types n own) (n + 1) (linked_declared scope names types n linked text own new) plain.2
+              typed_block inner (callable_declared earlier (IsAt at) scope text _ within) (λ e. (hides_counter scope text new (hush e).0, (hush e).1)) (naming names text n own) (with_type types n own) (n + 1) (linked_declared scope names types n linked text own new) plain.2
                   (lists_right all n (own ∷ []) (declared_in_all known body) lists),
             ),
             tt,
@@ -273,5 +273,5 @@ module _ (earlier : List ProcedureTree) where
           let quiet = λ (e : outer ≡ Secret). either_false (statement_assigns at s) (block_assigns at rest) (hush e).1 in
           chain-typed all types (joined outer control) front (block known next m rest)
           (typed_statement here within (λ e. ((hush e).0, (quiet e).0)) names types n linked plain.0 (lists_left all n (declared_in known s) (declared_in_all known rest) lists))
-          (typed_block there (within_after earlier at here within) (λ e. (hides_after at here (hush e).0 (quiet e).0, (quiet e).1)) next (types_after_all types front) m (linked_after here names types n linked) plain.1
+          (typed_block there (callable_after earlier (IsAt at) here within) (λ e. (hides_after at here (hush e).0 (quiet e).0, (quiet e).1)) next (types_after_all types front) m (linked_after here names types n linked) plain.1
           (lists_right all n (declared_in known s) (declared_in_all known rest) lists))

@@ -27,7 +27,6 @@ pub mod FlatMeanings
 pub mod TypesKept
 pub mod Fitting
 pub mod FittingBodies
-pub mod KnownNames
 pub mod BlockLemmas
 pub mod RowLemmas
 pub mod PassLemmas

@@ -154,9 +154,9 @@ module _ (scope : Scope) (names : Numbers) (types : Types) (s : State) where
           (then_comes ((means scope names types n linked g.has small.0).value s m shows)
           (λ w one same.
           also rest
-          (λ vs all holds. (w ∷ vs, one_more e (word_arguments ps es) w vs one all, word_whole p ps e es n m w vs g.form (same ∙ ap (λ k. word_at k v) (kind_suits g.suits)) holds))
-          (λ at all. later_faults e (word_arguments ps es) w at one all))
-          (λ at one. this_faults e (word_arguments ps es) at one))))
+          (λ vs all holds. (w ∷ vs, one_more one all, word_whole p ps e es n m w vs g.form (same ∙ ap (λ k. word_at k v) (kind_suits g.suits)) holds))
+          (λ at all. later_faults one all))
+          (λ at one. this_faults one))))
       by_form false form more =
           let a = array_passed scope names types n linked is form in
           subst (λ b. Goal p ps e es n m b p.form) (sym form)

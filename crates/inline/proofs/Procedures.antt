@@ -1,5 +1,5 @@
 -- A statement about each procedure that may be called, by induction over the text.
-use Rattle.std.proofs.Common.{◌≡◌, ◌≢◌, ℕ, zero, suc, ◌<◌, Bool, true, false, if◌then◌else◌, List, [], ◌∷◌, ◌++◌, length, Some, None, is_some, refl, sym, ap, ◌∙◌, subst, arith, slice_get, length-append}
+use Rattle.std.proofs.Common.{◌≡◌, ◌≢◌, ℕ, zero, suc, ◌<◌, Bool, true, false, if◌then◌else◌, List, [], ◌∷◌, ◌++◌, length, Some, None, is_some, refl, sym, ap, ◌∙◌, subst, arith, slice_get, length-append, ◌⊎◌, inl, inr}
 use Rattle.std.proofs.lemmas.List.{nil_from_length}
 use Rattle.std.proofs.lemmas.Option.{none-some, same_Some}
 use Rattle.std.specs.List.{AllByRecursion}
@@ -13,10 +13,10 @@ use Rattle.language.specs.Meaning.{exported, named}
 use Rattle.language.specs.Tree.{ParameterTree, ProcedureTree, ProgramTree, StatementTree}
 use Rattle.names.specs.Scope.{found, declared}
 use Rattle.language.specs.Types.{Scope}
-use Rattle.language.specs.Typing.{assigns_public, scope_after, violations, with_parameters, with_procedure}
-use Rattle.language.specs.WellTyped.{IsWellTyped, declares, declares_array, assigns, assigns_element, calls, chooses, repeats, AreNew, no_parameter, one_is_new, IsProcedure, AreProcedures, no_procedure, one_procedure}
+use Rattle.language.specs.Typing.{assigns_public, parameter_as, scope_after, violations, with_parameters, with_procedure}
+use Rattle.language.specs.WellTyped.{IsWellTyped, declares, declares_array, assigns, assigns_element, calls, chooses, repeats, IsProcedure, AreProcedures, no_procedure, one_procedure}
 use Rattle.inline.proofs.KnownLemmas.{named-kept, named-missed, named-new}
-use Rattle.inline.proofs.Lookup.{found-new, found-other}
+use Rattle.inline.proofs.Lookup.{found-new, found-other, found-split}
 use Rattle.inline.proofs.Parameters.{NoVariables}
 use Rattle.typing_laws.proofs.Programs.{programs}
 
@@ -50,6 +50,39 @@ module _ (Extra : ProcedureTree → Type 0) where
   all_front [] p all = (tt, all.0)
   all_front (q ∷ ps) p all = let rest = all_front ps p all.1 in ((all.0, rest.0), rest.1)
 
+-- What is true of each procedure that a scope lets call, of these.
+abbrev pub EachCallable : List ProcedureTree → (List ℕ → Callee → ProcedureTree → Type 0) → Scope → Type 0
+EachCallable earlier Is scope = (text : List ℕ) (c : Callee) (p : ProcedureTree) → found scope text ≡ Some (Procedure c) → slice_get earlier c.number ≡ Some p → Is text c p
+
+-- In a body it stays true: no declaration adds one.
+module _ (earlier : List ProcedureTree) (Is : List ℕ → Callee → ProcedureTree → Type 0) where
+  pub callable_declared : (scope : Scope) (name : List ℕ) (v : VariableType) → EachCallable earlier Is scope → EachCallable earlier Is (declared scope name (Variable v))
+  callable_declared scope name v each text c p is there = by_name (found-split scope name (Variable v) text (Procedure c) is)
+    where
+      by_name : (found scope text ≡ Some (Procedure c)) ⊎ ((bytes_eq text name ≡ true) × (Variable v ≡ Procedure c)) → Is text c p
+      by_name (inl old) = each text c p old there
+      by_name (inr new) = absurd (no_callee c v (ap (λ d. Some d) (sym new.1)))
+
+  pub callable_after : {scope : Scope} {control : Label} {s : StatementTree} → IsWellTyped earlier scope control s → EachCallable earlier Is scope → EachCallable earlier Is (scope_after scope s)
+  callable_after (declares {scope = scope} {text = text} new has suit flow) each = callable_declared scope text _ each
+  callable_after (declares_array {scope = scope} {text = text} new suit count flow) each = callable_declared scope text _ each
+  callable_after (assigns is has suit flow) each = each
+  callable_after (assigns_element is has value suit flow) each = each
+  callable_after (calls is) each = each
+  callable_after (chooses has one other) each = each
+  callable_after (repeats low high new inner) each = each
+
+  pub callable_parameters : (ps : List ParameterTree) (scope : Scope) → EachCallable earlier Is scope → EachCallable earlier Is (with_parameters scope ps)
+  callable_parameters [] scope each = each
+  callable_parameters (p ∷ ps) scope each = callable_parameters ps (declared scope p.name (parameter_as p)) (callable_declared scope p.name _ each)
+
+-- it stands in the scope where the body's procedure begins
+abbrev pub IsAt : Scope → List ℕ → Callee → ProcedureTree → Type 0
+IsAt at text c p = found at text ≡ Some (Procedure c)
+
+abbrev pub IsWithin : List ProcedureTree → Scope → Scope → Type 0
+IsWithin earlier at scope = EachCallable earlier (IsAt at) scope
+
 -- Procedures that may be called. The statement is of a procedure, those before it, and the scope that those make.
 
 module _ (Good : List ProcedureTree → Scope → ProcedureTree → Type 0) where
@@ -66,7 +99,7 @@ module _ (Good : List ProcedureTree → Scope → ProcedureTree → Type 0) wher
     pub variables : NoVariables scope
     pub below : (text : List ℕ) (c : Callee) → found scope text ≡ Some (Procedure c) → c.number < length earlier
     pub new : (text : List ℕ) → found scope text ≡ None → named [] earlier text ≡ None
-    pub callable : (text : List ℕ) (c : Callee) (p : ProcedureTree) → found scope text ≡ Some (Procedure c) → slice_get earlier c.number ≡ Some p → IsCallable earlier text c p
+    pub callable : EachCallable earlier (IsCallable earlier) scope
 
   none_stand : Stand [] []
   none_stand = record {
@@ -98,7 +131,7 @@ module _ (Good : List ProcedureTree → Scope → ProcedureTree → Type 0) wher
     variables_within text v is = variables_by text (bytes_eq text p.name) refl v is
 
     -- which may not call itself
-    pub earlier_within : (text : List ℕ) (c : Callee) (q : ProcedureTree) → found after text ≡ Some (Procedure c) → slice_get earlier c.number ≡ Some q → found scope text ≡ Some (Procedure c)
+    pub earlier_within : IsWithin earlier scope after
     earlier_within text c q is get = by_name (bytes_eq text p.name) refl
       where
         by_name : (b : Bool) → bytes_eq text p.name ≡ b → found scope text ≡ Some (Procedure c)
@@ -106,6 +139,10 @@ module _ (Good : List ProcedureTree → Scope → ProcedureTree → Type 0) wher
             let same = same_callee own c (sym (here text e) ∙ is) in
             absurd (none-some q (sym (get_none earlier) ∙ (ap (λ (d : Callee). slice_get earlier d.number) same ∙ get)))
         by_name false e = sym (there text e) ∙ is
+
+    -- so what it may call is what stands before it
+    pub callable_within : EachCallable earlier (IsCallable earlier) after
+    callable_within text c q is get = stand.callable text c q (earlier_within text c q is get) get
 
     below_by : (text : List ℕ) (c : Callee) (b : Bool) → bytes_eq text p.name ≡ b → found after text ≡ Some (Procedure c) → c.number < length (earlier ++ p ∷ [])
     below_by text c true e is =
@@ -178,30 +215,3 @@ module _ (Good : List ProcedureTree → Scope → ProcedureTree → Type 0) wher
     -- of a program that violates no rule
     pub own_typing : (program : ProgramTree) (before : List ProcedureTree) (p : ProcedureTree) → length (violations program) ≡ 0 → exported [] program.procedures ≡ Some (before, p) → AllByRecursion Extra before → Exported before p
     own_typing program before p h is all = the_export ((programs program).0 (nil_from_length (violations program) h)).procedures before p none_stand all is
-
--- In a body.
-
--- what may be called from a scope stands in the other, where the body's procedure begins
-abbrev pub IsWithin : List ProcedureTree → Scope → Scope → Type 0
-IsWithin earlier at scope = (text : List ℕ) (c : Callee) (p : ProcedureTree) → found scope text ≡ Some (Procedure c) → slice_get earlier c.number ≡ Some p → found at text ≡ Some (Procedure c)
-
-module _ (earlier : List ProcedureTree) (at : Scope) where
-  pub within_declared : (scope : Scope) (name : List ℕ) (v : VariableType) → found scope name ≡ None → IsWithin earlier at scope → IsWithin earlier at (declared scope name (Variable v))
-  within_declared scope name v new within text c p is get = by_name (bytes_eq text name) refl
-    where
-      by_name : (b : Bool) → bytes_eq text name ≡ b → found at text ≡ Some (Procedure c)
-      by_name true e = absurd (no_callee c v (sym is ∙ found-new scope name (Variable v) text e new))
-      by_name false e = within text c p (sym (found-other scope name (Variable v) text e) ∙ is) get
-
-  pub within_after : {scope : Scope} {control : Label} {s : StatementTree} → IsWellTyped earlier scope control s → IsWithin earlier at scope → IsWithin earlier at (scope_after scope s)
-  within_after (declares {scope = scope} {text = text} new has suit flow) within = within_declared scope text _ new within
-  within_after (declares_array {scope = scope} {text = text} new suit count flow) within = within_declared scope text _ new within
-  within_after (assigns is has suit flow) within = within
-  within_after (assigns_element is has value suit flow) within = within
-  within_after (calls is) within = within
-  within_after (chooses has one other) within = within
-  within_after (repeats low high new inner) within = within
-
-  pub within_parameters : {scope : Scope} {ps : List ParameterTree} → AreNew scope ps → IsWithin earlier at scope → IsWithin earlier at (with_parameters scope ps)
-  within_parameters no_parameter within = within
-  within_parameters (one_is_new {scope = scope} {p = p} here there) within = within_parameters there (within_declared scope p.name _ here within)

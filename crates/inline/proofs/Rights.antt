@@ -53,8 +53,8 @@ module _ (earlier : List ProcedureTree) (scope : Scope) (names : Numbers) (n : �
       let result = word_result (call_result (callables earlier c.name)) given k.result in
       subst (λ p. Comes (Rights earlier s (called c)) (IsGiven names end given (value_given value)) (either (first_fault (path_along m tree)) (first_fault p))) (path_given end value)
       (also (k.comes s m shows small)
-      (λ r is agrees. (r, of_call earlier s c (gives r) is, record { word = given_word (subst (λ o. HasResult end o value r.word) result agrees.word); shows = agrees.shows }))
-      (λ at is. of_call earlier s c (faults at) is))
+      (λ r is agrees. (r, of_call is, record { word = given_word (subst (λ o. HasResult end o value r.word) result agrees.word); shows = agrees.shows }))
+      (λ at is. of_call is))
 
   -- what is known of a right side
   pub record RightMeans (value : RightTree) (given : WordType) : Type 0 where
@@ -69,8 +69,8 @@ module _ (earlier : List ProcedureTree) (scope : Scope) (names : Numbers) (n : �
   right_means {given = given} (rules.of_value {e = e} has) = record {
     comes = λ s m shows small.
         also ((means scope names ready.types n ready.linked has small).value s m shows)
-        (λ w is same. (record { word = Some w; state = s }, of_expr earlier s e w is, record { word = same; shows = shows }))
-        (λ at is. expr_faults earlier s e at is);
+        (λ w is same. (record { word = Some w; state = s }, of_expr is, record { word = same; shows = shows }))
+        (λ at is. expr_faults is);
     keeps = λ x spares m. refl;
   }
   right_means {given = given} (rules.of_call {c = c} is) =

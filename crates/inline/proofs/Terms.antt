@@ -57,15 +57,15 @@ module _ (s : State) where
 
   pub more_values : {e : ExprTree} {es : List ExprTree} {v : state.Word} {vs : List state.Word} {one other : Option Place} → Comes (Evaluates s e) (λ w. w ≡ v) one → Comes (EvaluatesAll s es) (λ ws. ws ≡ vs) other
       → Comes (EvaluatesAll s (e ∷ es)) (λ ws. ws ≡ v ∷ vs) (either one other)
-  more_values {e = e} {es = es} (fails at is) rest = fails at (this_faults e es at is)
-  more_values {e = e} {es = es} (well w is same) (fails at later) = fails at (later_faults e es w at is later)
-  more_values {e = e} {es = es} (well w is same) (well ws are all) = well (w ∷ ws) (one_more e es w ws is are) (ap₂ (λ x xs. x ∷ xs) same all)
+  more_values {e = e} {es = es} (fails at is) rest = fails at (this_faults is)
+  more_values {e = e} {es = es} (well w is same) (fails at later) = fails at (later_faults is later)
+  more_values {e = e} {es = es} (well w is same) (well ws are all) = well (w ∷ ws) (one_more is are) (ap₂ (λ x xs. x ∷ xs) same all)
 
   -- a node, once its operands have come to these values
   at_node : (e : ExprTree) (vs : List state.Word) (w : state.Word) (one other : Option Place) → Comes (EvaluatesAll s (operands e)) (λ ws. ws ≡ vs) one → applied s e vs ≡ ending_by other w → Comes (Evaluates s e) (λ v. v ≡ w) (either one other)
-  at_node e vs w _ other (fails at is) makes = fails at (operand_faults e at is)
-  at_node e vs w _ None (well ws are all) makes = well w (subst (Evaluates s e) (ap (applied s e) all ∙ makes) (by_operands e ws are)) refl
-  at_node e vs w _ (Some at) (well ws are all) makes = fails at (subst (Evaluates s e) (ap (applied s e) all ∙ makes) (by_operands e ws are))
+  at_node e vs w _ other (fails at is) makes = fails at (operand_faults is)
+  at_node e vs w _ None (well ws are all) makes = well w (subst (Evaluates s e) (ap (applied s e) all ∙ makes) (by_operands are)) refl
+  at_node e vs w _ (Some at) (well ws are all) makes = fails at (subst (Evaluates s e) (ap (applied s e) all ∙ makes) (by_operands are))
 
   -- nodes that meet no fault of their own
   with_none : (e : ExprTree) (w : state.Word) → operands e ≡ [] → applied s e [] ≡ gives w → Comes (Evaluates s e) (λ v. v ≡ w) None
@@ -256,9 +256,9 @@ module _ (scope : Scope) (names : Numbers) (types : Types) (n : ℕ) (linked : L
       }
 
 -- where it is put
+pub still_public : {label wanted : Label} → rules.FlowsTo label wanted → wanted ≡ Public → label ≡ Public
+still_public rules.public_flows e = refl
+still_public rules.secret_flows e = e
+
 pub suits_there : {names : Numbers} {types : Types} {e : ExprTree} {given wanted : WordType} → Means names types e given → rules.Suits given wanted → Suits types wanted (term names e)
-suits_there means (rules.suits {kind = kind} {label = label} flow) = record { word = labelled kind label; has_type = means.typed; kind = refl; label = still flow }
-  where
-    still : {label wanted : Label} → rules.FlowsTo label wanted → wanted ≡ Public → label ≡ Public
-    still rules.public_flows e = refl
-    still rules.secret_flows e = e
+suits_there means (rules.suits {kind = kind} {label = label} flow) = record { word = labelled kind label; has_type = means.typed; kind = refl; label = still_public flow }

@@ -1,32 +1,15 @@
 // What a call hands to a called body: the words that it passes, and the names in which the body begins.
 
 ghost use Rattle.std.specs.Prelude.{◌≡◌, ◌++◌, ◌∷◌, [], length, map, IfOk, OnOk};
-ghost use Rattle.std.specs.Option.{option_map};
 ghost use Rattle.inline.specs.Flat.{chain, flat_block, flat_tree};
 ghost use Rattle.inline.specs.Numbering.{begun, naming, number_given, own_variable, passed, passed_variables, single};
-ghost use Rattle.language.specs.Meaning.{named};
-ghost use Rattle.language.specs.Tree.{expr_tree, parameter_tree, procedure_tree};
+ghost use Rattle.language.specs.Tree.{expr_tree, parameter_tree};
 
 use crate::numbering::{Numbered, Numbering, add};
 use crate::{FlatStatement, FlatVariable};
-use language::{Expr, Form, Parameter, Procedure, WordType};
+use language::{Expr, Form, Parameter, WordType};
 use names::Names;
 use std::alloc::AllocError;
-
-/// The first procedure of a name, and those before it.
-pub fn find<'p, 'a>(
-    procedures: &'p [Procedure<'a>],
-    name: &str,
-) -> Option<(&'p [Procedure<'a>], &'p Procedure<'a>)>
-    ensures { option_map (λ found. (map procedure_tree found.0.now, procedure_tree found.1.now)) result ≡ named [] (map procedure_tree procedures.now) name.now }
-{
-    for (index, procedure) in procedures.iter().enumerate() {
-        if procedure.name == name {
-            return Some((&procedures[..index], procedure));
-        }
-    }
-    None
-}
 
 /// Puts a statement behind a block.
 pub fn push(flat: &mut Vec<FlatStatement>, one: FlatStatement) -> Result<(), AllocError>

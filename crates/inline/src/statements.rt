@@ -11,12 +11,12 @@ ghost use Rattle.inline.specs.Numbering.{naming, single};
 ghost use Rattle.language.specs.Tree.{block_tree, call_tree, declaration, expr_tree, right_tree, statement_tree};
 ghost use Rattle.language.specs.Tree as source;
 
-use crate::calls::{find, push};
+use crate::calls::push;
 use crate::numbering::{Numbered, Numbering, add, counter};
 use crate::{FlatStatement, FlatVariable, Term};
 use language::{
     Assignment, Call, Counter, Declaration, ElementAssignment, Expr, Procedure, RightSide,
-    Statement, WordType,
+    Statement, WordType, procedure_named,
 };
 use std::alloc::AllocError;
 
@@ -53,7 +53,7 @@ impl<'a> Numbering<'a> {
         ensures block { OnOk result (flat_block flat.new.items ≡ chain (flat_block flat.old.items) (numbered.call_block (called_by earlier.now call.now.name.now) self.now.names (length declared.old.items) (map expr_tree call.now.arguments.items))) }
         ensures declared { OnOk result (declared.new.items ≡ declared.old.items ++ numbered.call_variables (called_by earlier.now call.now.name.now) (map expr_tree call.now.arguments.items)) }
     {
-        let Some((before, callee)) = find(earlier, call.name) else {
+        let Some((before, callee)) = procedure_named(earlier, call.name) else {
             return Ok(Given {
                 word: None,
                 value: None,
