@@ -1,6 +1,6 @@
 use Rattle.std.proofs.Common.{◌≡◌, ℕ, ◌+◌, ◌*◌, List, map, ap, ap₂, ◌∙◌}
 use Rattle.codegen.specs.Emitted.{depth_in_all}
-use Rattle.codegen.specs.Generated.{program_base, program_height, step_limit}
+use Rattle.codegen.specs.Generated.{program_base, program_slots, step_limit}
 use Rattle.expression_code.specs.Layout.{Frame, slots_from, temporaries_offset}
 use Rattle.codegen.specs.Room.{frame_of}
 use Rattle.codegen.proofs.ImageLemmas.{fields_allowed}
@@ -19,7 +19,7 @@ new-requires c =
     ∙ ap₂ (made p.declared) c.controls.ensures depths) in
     let start = c.temporaries.ensures ∙ ap (λ (f : Frame). temporaries_offset f.declared f.controls f.depths) laid in
     let slots = c.in_ok-slots.ensures ∙ ap (λ ps. slots_from 0 ps) c.parameters.ensures in
-    let frame : c.temporaries.result + 4 * c.temporaries-2.result ≡ program_base p + 4 * program_height p = ap₂ (λ m n. m + 4 * n) start c.temporaries-2.ensures in
+    let frame : c.temporaries.result + 4 * c.temporaries-2.result ≡ program_base p + 4 * program_slots p = ap₂ (λ m n. m + 4 * n) start c.temporaries-2.ensures in
     let steps = c.step_limit-max_steps.ensures ∙ ap step_limit c.work.ensures in
     let words = c.in_ok-words.ensures.words ∙ ap (λ code. map word_of code) (c.as_slice-2.ensures.value ∙ c.in_ok-code.ensures) in
     fields_allowed p c.requires c.in_ok-slots.slots.items c.result_slot-returned.result (c.temporaries.result + 4 * c.temporaries-2.result) c.step_limit-max_steps.result c.in_ok-words.words.items slots c.result_slot-returned.ensures frame steps words c.in_ok-words.ensures.fit
