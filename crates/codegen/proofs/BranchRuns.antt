@@ -7,13 +7,13 @@ use Rattle.inline.specs.FlatTyping.{types_of, HasType}
 use Rattle.branch_removal.specs.Straight.{StraightBlock, branch}
 use Rattle.branch_removal.specs.StraightMeaning.{StraightState, after, after_all, path_at, path_along}
 use Rattle.codegen.specs.Jumps.{branch_code}
+use Rattle.expression_code.specs.Registers.{slots_to}
 use Rattle.expression_code.specs.TermCode.{expr_code, height_of}
 use Rattle.language.specs.declared.typing.WordType.{WordType}
 use Rattle.rv_code.specs.declared.instructions.Instr.{Instr}
 use Rattle.rv_machine.specs.Machine as machine
-use Rattle.expression_code.proofs.ExpressionRuns.{expr_runs}
 use Rattle.codegen.proofs.Jumps.{Still, branching}
-use Rattle.codegen.proofs.Showing.{Shown, ready_valued, ready_still}
+use Rattle.codegen.proofs.Showing.{Shown, first_runs, ready_valued, ready_still}
 use Rattle.codegen.proofs.Slots.{hidden_then, hidden_by, hidden_kept}
 use Rattle.expression_code.proofs.Straight.{Setting, base_of, Runs, seq, weaken}
 use Rattle.expression_code.proofs.Values.{Ready}
@@ -24,7 +24,7 @@ record Tested (z : Setting) (condition : TermTree) (env : StraightState) (s : ma
   there : s.regs 5 ≡ value_in env.variables condition
 
 module _ (z : Setting) (depth : ℕ) (condition : TermTree) (word : WordType) (accepted otherwise : StraightBlock) (m n : ℕ) {xs ys : List Instr}
-    (has : HasType (types_of z.declared) condition word) (room : base_of z + 4 * height_of condition ≤ z.size) (within : depth ≤ z.depths)
+    (has : HasType (types_of z.declared) condition word) (room : base_of z + 4 * slots_to (height_of condition) ≤ z.size) (within : depth ≤ z.depths)
     (near : 2 * (length xs + length ys) + 8 < 2 ^ 19)
     (one : Runs z m (λ env. path_along env accepted) xs (Ready z) (Shown z depth (λ env. after_all env accepted)))
     (two : Runs z n (λ env. path_along env otherwise) ys (Ready z) (Shown z depth (λ env. after_all env otherwise))) where
@@ -44,7 +44,7 @@ module _ (z : Setting) (depth : ℕ) (condition : TermTree) (word : WordType) (a
   }
 
   -- the condition, and then one of both arms
-  pub branch_runs : Runs z (16 * term_nodes condition + (2 + m + n)) (λ env. path_at env (branch condition accepted otherwise)) (expr_code z.declared (base_of z) condition ++ branch_code xs ys) (Ready z) (Shown z depth (λ env. after env (branch condition accepted otherwise)))
+  pub branch_runs : Runs z (16 * term_nodes condition + (2 + m + n)) (λ env. path_at env (branch condition accepted otherwise)) (expr_code z.declared (base_of z) 0 condition ++ branch_code xs ys) (Ready z) (Shown z depth (λ env. after env (branch condition accepted otherwise)))
   branch_runs =
       weaken z {P = Ready z}
       (λ env s fine ready. ready)
@@ -53,7 +53,7 @@ module _ (z : Setting) (depth : ℕ) (condition : TermTree) (word : WordType) (a
         hidden = hidden_then z depth s done.middle t (hidden_kept z depth s done.middle within done.first.kept) done.second.hidden;
       })
       (seq z
-      (expr_runs z has (base_of z) (omega arith) (omega arith) room)
+      (first_runs z has room)
       (branching z {P = Tested z condition} {S = Shown z depth (λ env. after env (branch condition accepted otherwise))} value near
       (λ env s tested. tested.there)
       (λ env s t some tested still. ready_still z env s t tested.ready still)

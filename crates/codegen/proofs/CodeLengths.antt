@@ -13,8 +13,7 @@ use Rattle.inline.specs.FlatSize.{term_nodes, terms_nodes}
 use Rattle.language.specs.declared.signature.Kind.{Kind}
 use Rattle.language.specs.Size.{element_bytes, array_words}
 use Rattle.rv_code.specs.declared.instructions.Instr.{Instr}
-use Rattle.rv_code.specs.declared.instructions.Instr.TheVariants.{Register, Load, Store}
-use Rattle.rv_code.specs.declared.operations.RegisterOperation.TheVariants.{Add}
+use Rattle.rv_code.specs.declared.instructions.Instr.TheVariants.{Load, Store}
 use Rattle.expression_code.proofs.TermLengths.{height, one_of, load_length, store_length, constant_length, address_length, expr_length}
 
 -- Pieces.
@@ -33,29 +32,28 @@ pub fill_length : (declared : List FlatVariable) (free : ℕ) (kind : Kind) (o :
 fill_length declared free kind o [] = omega arith
 fill_length declared free kind o (e ∷ es) =
     let h = height e in
-    simp length-append (omega (arith, h, expr_length declared free e, element_store_length kind o, fill_length declared free kind (o + element_bytes kind) es))
+    simp length-append (omega (arith, h, expr_length declared free 0 e, element_store_length kind o, fill_length declared free kind (o + element_bytes kind) es))
 
-index_length : (declared : List FlatVariable) (free : ℕ) (index value : TermTree) → length (index_code declared free index value) ≤ 16 * term_nodes index + 16 * term_nodes value + 6
-index_length declared free index value =
-    simp length-append (omega (arith, expr_length declared free index, store_length 5 free, expr_length declared (free + 4) value, load_length 6 free))
+index_length : (declared : List FlatVariable) (free : ℕ) (index value : TermTree) → length (index_code declared free index value) ≤ 16 * term_nodes index + 16 * term_nodes value
+index_length declared free index value = simp length-append (omega (arith, expr_length declared free 0 index, expr_length declared free 1 value))
 
 put_length : (kind : Kind) (o : ℕ) → length (put_code kind o) ≤ 5
 put_length kind o =
-    let e = length-append (address_code 6 kind o) (Store (store_by kind) 5 6 (lower_part o) ∷ []) in
-    omega (arith, e, address_length 6 kind o)
+    let e = length-append (address_code 5 kind o) (Store (store_by kind) 6 5 (lower_part o) ∷ []) in
+    omega (arith, e, address_length 5 kind o)
 
 put_under_length : (control : ℕ) (kind : Kind) (o : ℕ) → length (put_under_code control kind o) ≤ 16
 put_under_length control kind o =
-    let xs = address_code 6 kind o ++ (Register Add 28 6 0 ∷ Load (load_by kind) 6 6 (lower_part o) ∷ []) in
-    let a = length-append (address_code 6 kind o) (Register Add 28 6 0 ∷ Load (load_by kind) 6 6 (lower_part o) ∷ []) in
-    let b = length-append xs (load_code 7 control) in
-    let c = length-append (xs ++ load_code 7 control) merge_code in
-    let d = length-append (xs ++ load_code 7 control ++ merge_code) (Store (store_by kind) 5 28 (lower_part o) ∷ []) in
-    omega (arith, a, b, c, d, address_length 6 kind o, load_length 7 control)
+    let xs = address_code 5 kind o ++ Load (load_by kind) 7 5 (lower_part o) ∷ [] in
+    let a = length-append (address_code 5 kind o) (Load (load_by kind) 7 5 (lower_part o) ∷ []) in
+    let b = length-append xs (load_code 29 control) in
+    let c = length-append (xs ++ load_code 29 control) (merge_code 6 7 29) in
+    let d = length-append (xs ++ load_code 29 control ++ merge_code 6 7 29) (Store (store_by kind) 6 5 (lower_part o) ∷ []) in
+    omega (arith, a, b, c, d, address_length 5 kind o, load_length 29 control)
 
 bounds_length : (declared : List FlatVariable) (next free : ℕ) (low high : TermTree) → length (bounds_code declared next free low high) ≤ 16 * term_nodes low + 16 * term_nodes high + 6
 bounds_length declared next free low high =
-    simp length-append (omega (arith, expr_length declared free low, store_length 5 next, expr_length declared free high, store_length 5 (next + 4)))
+    simp length-append (omega (arith, expr_length declared free 0 low, store_length 5 next, expr_length declared free 0 high, store_length 5 (next + 4)))
 
 pub test_length : (next : ℕ) → length (test_code next) ≤ 7
 test_length next = simp length-append (omega (arith, load_length 6 next, load_length 5 (next + 4)))
@@ -76,7 +74,7 @@ module _ (declared : List FlatVariable) (controls depths : ℕ) where
 
   mutual
     pub statement_length : (depth : ℕ) (s : StraightTree) → length (statement_code declared controls depths depth s) ≤ 32 * statement_nodes s
-    statement_length depth (set x value) = simp length-append (omega (arith, expr_length declared free value, store_length 5 (variable_offset declared x)))
+    statement_length depth (set x value) = simp length-append (omega (arith, expr_length declared free 0 value, store_length 5 (variable_offset declared x)))
     statement_length depth (clear x size) =
         let h = clear_length (variable_offset declared x) (array_words (kind_at declared x) size) in
         omega (arith, h)
@@ -88,10 +86,10 @@ module _ (declared : List FlatVariable) (controls depths : ℕ) where
         omega (arith, e, index_length declared free index value, put_length (kind_at declared x) (variable_offset declared x))
     statement_length depth (take control within condition) =
         simp length-append
-        (omega (arith, expr_length declared free condition, within_length declared within, store_length 7 (control_offset declared control), store_length 5 (control_offset declared (control + 1))))
+        (omega (arith, expr_length declared free 0 condition, within_length declared within, store_length 7 (control_offset declared control), store_length 5 (control_offset declared (control + 1))))
     statement_length depth (set_under control x value) =
         simp length-append
-        (omega (arith, expr_length declared free value, load_length 6 (variable_offset declared x), load_length 7 (control_offset declared control), store_length 5 (variable_offset declared x)))
+        (omega (arith, expr_length declared free 0 value, load_length 6 (variable_offset declared x), load_length 7 (control_offset declared control), store_length 5 (variable_offset declared x)))
     statement_length depth (put_under control place x size index value) =
         let e = length-append (index_code declared free index value) (put_under_code (control_offset declared control) (kind_at declared x) (variable_offset declared x)) in
         omega (arith, e, index_length declared free index value, put_under_length (control_offset declared control) (kind_at declared x) (variable_offset declared x))
@@ -100,9 +98,9 @@ module _ (declared : List FlatVariable) (controls depths : ℕ) where
         let ys = block_code declared controls depths depth otherwise in
         let a = block_length depth accepted in
         let b = block_length depth otherwise in
-        let e = length-append (expr_code declared free condition) (branch_code xs ys) in
+        let e = length-append (expr_code declared free 0 condition) (branch_code xs ys) in
         let f = branch_length xs ys (32 * block_nodes accepted + 32 * block_nodes otherwise) (omega (arith, a, b)) in
-        omega (arith, e, f, expr_length declared free condition)
+        omega (arith, e, f, expr_length declared free 0 condition)
     statement_length depth (repeats x low high body) =
         let next = next_offset declared controls depth in
         let ys = block_code declared controls depths (depth + 1) body in

@@ -17,6 +17,7 @@ use Rattle.branch_removal.specs.StraightMeaning.{StraightState, with_variable, w
 use Rattle.branch_removal.specs.StraightTyping.{IsFilled, types_but}
 use Rattle.codegen.specs.Emitted.{store_by, element_store_code, fill_code, statement_code, height_of_all}
 use Rattle.expression_code.specs.Layout.{variable_offset}
+use Rattle.expression_code.specs.Registers.{slots_to}
 use Rattle.expression_code.specs.TermCode.{upper_part, lower_part, expr_code, height_of}
 use Rattle.language.specs.declared.signature.Kind.{Kind}
 use Rattle.language.specs.declared.typing.WordType.{WordType}
@@ -143,8 +144,8 @@ module _ (z : Setting) (depth : ℕ) (within : depth ≤ z.depths) (x size : ℕ
   filled k [] env = env
   filled k (e ∷ es) env = filled (k + 1) es (step k e env)
 
-  one_runs : (k : ℕ) (e : TermTree) → k < size → Suits (types_but z.declared x) word e → base_of z + 4 * height_of e ≤ z.size
-      → Runs z (16 * term_nodes e + 3) (steps_of e) (expr_code z.declared (base_of z) e ++ element_store_code word.kind (at k)) (Ready z) (Shown z depth (step k e))
+  one_runs : (k : ℕ) (e : TermTree) → k < size → Suits (types_but z.declared x) word e → base_of z + 4 * slots_to (height_of e) ≤ z.size
+      → Runs z (16 * term_nodes e + 3) (steps_of e) (expr_code z.declared (base_of z) 0 e ++ element_store_code word.kind (at k)) (Ready z) (Shown z depth (step k e))
   one_runs k e below suits room =
       let every = suits_among (types_but z.declared x) (types_of z.declared) (but_among z.declared x) word e suits in
       let before = element_before z x size word mutable known k below in
@@ -164,7 +165,7 @@ module _ (z : Setting) (depth : ℕ) (within : depth ≤ z.depths) (x size : ℕ
       (element_runs z word.kind (at k) (element_inside z x size word mutable known k below) (place_aligned z.declared x d k z.frame z.even))
       (λ env s t ready valued. valued.held))
 
-  fill_from : (k o : ℕ) (es : List TermTree) → o ≡ at k → AllSuit (types_but z.declared x) word es → k + length es ≤ size → base_of z + 4 * height_of_all es ≤ z.size
+  fill_from : (k o : ℕ) (es : List TermTree) → o ≡ at k → AllSuit (types_but z.declared x) word es → k + length es ≤ size → base_of z + 4 * slots_to (height_of_all es) ≤ z.size
       → Runs z (32 * terms_nodes es) (λ env. path_in_all env.variables es) (fill_code z.declared (base_of z) word.kind o es) (Ready z) (Shown z depth (filled k es))
   fill_from k o [] is suits few room =
       weaken z
@@ -186,7 +187,7 @@ module _ (z : Setting) (depth : ℕ) (within : depth ≤ z.depths) (x size : ℕ
         hidden = hidden_then z depth s done.middle t done.first.hidden done.second.hidden;
       })
       (seq z
-      (as_code z (ap (λ p. expr_code z.declared (base_of z) e ++ element_store_code word.kind p) is) (one_runs k e (omega (arith, few)) suits.0 (omega (arith, room, a))))
+      (as_code z (ap (λ p. expr_code z.declared (base_of z) 0 e ++ element_store_code word.kind p) is) (one_runs k e (omega (arith, few)) suits.0 (omega (arith, room, a))))
       (along z (λ env. one_path_all (types_but z.declared x) env.variables (step k e env).variables (λ y f there public. unread z.declared x env.variables _ y f there) word es suits.1)
       (beside z (step k e) (fill_from (k + 1) (o + element_bytes word.kind) es (omega (arith, is)) suits.1 (omega (arith, few)) (omega (arith, room, b)))))
       (λ env s t ready done. done.ready)))
@@ -229,7 +230,7 @@ module _ (z : Setting) (depth : ℕ) (within : depth ≤ z.depths) (x size : ℕ
       by_number true is = ap (λ n. (filled 0 values env).variables n) (eqb-true y x is) ∙ values_there 0 values env [] (env.variables x) suits refl refl long
       by_number false is = other_kept 0 values env y is
 
-pub fill_runs : (z : Setting) (depth x : ℕ) (values : List TermTree) → IsFilled z.declared x (length values) values → base_of z + 4 * height_of_all values ≤ z.size → depth ≤ z.depths
+pub fill_runs : (z : Setting) (depth x : ℕ) (values : List TermTree) → IsFilled z.declared x (length values) values → base_of z + 4 * slots_to (height_of_all values) ≤ z.size → depth ≤ z.depths
     → Runs z (32 * (1 + length values + terms_nodes values)) (λ env. path_at env (fill x values)) (statement_code z.declared z.controls z.depths depth (fill x values)) (Ready z) (Shown z depth (λ env. after env (fill x values)))
 fill_runs z depth x values typed room within =
     let d : FlatVariable = array_as typed.word typed.mutable (length values) in

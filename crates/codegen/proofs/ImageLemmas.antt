@@ -19,7 +19,7 @@ use Rattle.language.specs.declared.signature.Param.{Param}
 use Rattle.language.specs.declared.typing.WordType.{WordType}
 use Rattle.language.specs.Size.{held_words, array_words}
 use Rattle.expression_code.proofs.OffsetLemmas.{parameter_words}
-use Rattle.codegen.specs.Generated.{program_base, program_code, program_height, result_slot, step_limit, image_of}
+use Rattle.codegen.specs.Generated.{program_base, program_code, program_slots, result_slot, step_limit, image_of}
 use Rattle.expression_code.specs.Layout.{slots_from, result_offset}
 use Rattle.codegen.specs.Room.{HasRoom}
 use Rattle.inline.specs.declared.flat.FlatVariable.{FlatVariable}
@@ -113,7 +113,7 @@ code_there : (p : StraightProgram) → 1 ≤ length (map word_of (program_code p
 code_there p = simp (length-map, length-append) (omega arith)
 
 -- the frame of a program with room
-pub room_frame : (p : StraightProgram) → HasRoom p → program_base p + 4 * program_height p ≤ 65536
+pub room_frame : (p : StraightProgram) → HasRoom p → program_base p + 4 * program_slots p ≤ 65536
 room_frame p room =
     let d = room.declared in
     let n = room.nodes in
@@ -139,8 +139,8 @@ image_allowed p room fit =
       returned = returned_is p.declared (slots_end 0 (slots_from 0 p.parameters)) p.returned (omega (arith, end, few)) d;
       frame_aligned = omega arith;
       frame_size = room_frame p room;
-      slots_inside = slots_inside 0 (program_base p + 4 * program_height p) p.parameters (omega (arith, few));
-      returned_inside = returned_inside p.declared (program_base p + 4 * program_height p) p.returned (omega arith);
+      slots_inside = slots_inside 0 (program_base p + 4 * program_slots p) p.parameters (omega (arith, few));
+      returned_inside = returned_inside p.declared (program_base p + 4 * program_slots p) p.returned (omega arith);
       some_step = omega arith;
       steps = omega (arith, w);
       some_word = code_there p;
@@ -151,7 +151,7 @@ image_allowed p room fit =
 -- so are fields that are equal to them, one by one
 pub fields_allowed : (p : StraightProgram) → HasRoom p → (slots : List Slot) (returned : Option ResultSlot) (frame steps : ℕ) (words : List ℕ)
     → slots ≡ slots_from 0 p.parameters → returned ≡ option_map (result_slot p.declared) p.returned
-    → frame ≡ program_base p + 4 * program_height p → steps ≡ step_limit p.work
+    → frame ≡ program_base p + 4 * program_slots p → steps ≡ step_limit p.work
     → words ≡ map word_of (program_code p) → All (λ word. word < 2 ^ 32) words
     → IsImage (record { slots = slots; returned = returned; frame_bytes = frame; max_steps = steps; words = words })
 fields_allowed p room slots returned frame steps words a b c d e fit =

@@ -1,5 +1,5 @@
 -- The code of a loop.
-use Rattle.std.proofs.Common.{◌≡◌, ℕ, zero, suc, ◌+◌, ◌-◌, ◌*◌, ◌^◌, ◌<◌, ◌≤◌, true, false, nat_lt, List, [], ◌∷◌, ◌++◌, length, Some, slice_get, slice_index, refl, sym, ap, ap₂, ◌∙◌, arith, inr, append_assoc}
+use Rattle.std.proofs.Common.{◌≡◌, ℕ, zero, suc, ◌+◌, ◌-◌, ◌*◌, ◌%◌, ◌^◌, ◌<◌, ◌≤◌, true, false, nat_lt, List, [], ◌∷◌, ◌++◌, length, Some, slice_get, slice_index, refl, sym, ap, ap₂, ◌∙◌, arith, inr, append_assoc}
 use Rattle.std.proofs.lemmas.Bool.Decides.{nat_tests}
 use Rattle.std.proofs.lemmas.Option.{same_Some}
 use Rattle.inline.specs.Flat.{TermTree, word_as}
@@ -12,6 +12,7 @@ use Rattle.branch_removal.specs.StraightMeaning.{StraightState, counted, after, 
 use Rattle.codegen.specs.Emitted.{bounds_code, test_code, count_code}
 use Rattle.codegen.specs.Jumps.{loop_code}
 use Rattle.expression_code.specs.Layout.{variable_offset, next_offset}
+use Rattle.expression_code.specs.Registers.{slots_to}
 use Rattle.expression_code.specs.TermCode.{store_code, expr_code, height_of}
 use Rattle.word.specs.Operators.{word_of}
 use Rattle.rv_code.specs.declared.instructions.Instr.{Instr}
@@ -22,15 +23,15 @@ use Rattle.rv_machine.specs.Bytes.{ByteMap, number_at}
 use Rattle.rv_machine.specs.Effects.{sum_of}
 use Rattle.rv_machine.specs.Machine as machine
 use Rattle.expression_code.proofs.Computing.{computing_runs}
-use Rattle.expression_code.proofs.ExpressionRuns.{expr_runs, pushed, value_word}
+use Rattle.expression_code.proofs.ExpressionRuns.{value_word}
 use Rattle.expression_code.proofs.Held.{HeldAt, held_regs}
 use Rattle.codegen.proofs.Jumps.{Still, looping}
 use Rattle.expression_code.proofs.Pieces.{load_runs}
-use Rattle.codegen.proofs.Showing.{Shown, ready_with, ready_below, ready_behind, word_before, wrote_as}
+use Rattle.codegen.proofs.Showing.{Shown, first_runs, ready_with, ready_below, ready_behind, word_before, wrote_as}
 use Rattle.codegen.proofs.Slots.{Hidden, hidden_then, hidden_less, hidden_by, hidden_wrote, hidden_beyond, hidden_number, put_wrote, other_number, ready_set}
 use Rattle.expression_code.proofs.Stores.{store_runs}
 use Rattle.expression_code.proofs.Straight.{Setting, base_of, none, Runs, seq, quiet, quietly, weaken, as_code, beside}
-use Rattle.expression_code.proofs.Values.{Kept, Ready, kept_number, kept_less, put_there}
+use Rattle.expression_code.proofs.Values.{Kept, Ready, kept_number, kept_less, kept_then, put_kept, put_there}
 
 -- So many turns are left, the next of them for this number: both of the loop's words tell it.
 pub record AtLoop (z : Setting) (next left i : ℕ) (env : StraightState) (s : machine.State) : Type 0 where
@@ -175,10 +176,34 @@ module _ (z : Setting) (depth : ℕ) (within : depth < z.depths) where
 
   -- Both bounds.
 
+  -- the word at an offset has an expression's value
+  record Pushed (e : TermTree) (o : ℕ) (env : StraightState) (s t : machine.State) : Type 0 where
+    held : HeldAt z t
+    there : number_at t.bytes 4 (z.frame + o) ≡ Some (value_in env.variables e)
+    kept : Kept z o s t
+
+  pushed : (e : TermTree) (o : ℕ) → HasType (types_of z.declared) e counter_type → base_of z + 4 * slots_to (height_of e) ≤ z.size → o ≤ base_of z → o % 4 ≡ 0 → o + 4 ≤ z.size
+      → Runs z (16 * term_nodes e + 3) (λ env. path_in env.variables e) (expr_code z.declared (base_of z) 0 e ++ store_code 5 o) (Ready z) (Pushed e o)
+  pushed e o has room below aligned inside =
+      weaken z {P = Ready z}
+      (λ env s fine ready. ready)
+      (λ env s t fine ready done.
+      let m = done.middle in
+      let one = done.first in
+      let two = done.second in
+      record {
+        held = two.held;
+        there = put_there z 5 o (value_in env.variables e) env m t two one.there (value_word z.declared e counter_type env.variables ready.fits has);
+        kept = kept_then z o s m t (kept_less z o (base_of z) s m below one.kept) (put_kept z 4 5 o env m t two);
+      })
+      (quiet z (first_runs z has room)
+      (store_runs z 5 (omega arith) (λ e. omega arith) (λ e. omega arith) o aligned inside)
+      (λ env s t ready valued. valued.held))
+
   abbrev Begun : TermTree → TermTree → StraightState → machine.State → machine.State → Type 0
   Begun low high env s t = AtLoop z next (value_in env.variables high - value_in env.variables low) (value_in env.variables low) env t × Hidden z depth s t
 
-  bounds_runs : (low high : TermTree) → HasType (types_of z.declared) low counter_type → HasType (types_of z.declared) high counter_type → base_of z + 4 * height_of low ≤ z.size → base_of z + 4 * height_of high ≤ z.size
+  bounds_runs : (low high : TermTree) → HasType (types_of z.declared) low counter_type → HasType (types_of z.declared) high counter_type → base_of z + 4 * slots_to (height_of low) ≤ z.size → base_of z + 4 * slots_to (height_of high) ≤ z.size
       → Runs z (16 * term_nodes low + 3 + (16 * term_nodes high + 3)) (λ env. path_in env.variables low ++ path_in env.variables high) (bounds_code z.declared next (base_of z) low high) (Ready z) (Begun low high)
   bounds_runs low high has_low has_high room_low room_high =
       let inside = next_inside in
@@ -200,24 +225,16 @@ module _ (z : Setting) (depth : ℕ) (within : depth < z.depths) where
         },
         hidden_then z depth s m t (hidden_below z depth next s m (omega arith) one.kept) (hidden_below z depth (next + 4) m t (omega arith) two.kept),
       ))
-      (as_code z (append_assoc (expr_code z.declared (base_of z) low ++ store_code 5 next) (expr_code z.declared (base_of z) high) (store_code 5 (next + 4)))
+      (as_code z (append_assoc (expr_code z.declared (base_of z) 0 low ++ store_code 5 next) (expr_code z.declared (base_of z) 0 high) (store_code 5 (next + 4)))
       (seq z
-      (pushed z low next (16 * term_nodes low) (λ env s ready. value_word z.declared low counter_type env.variables ready.fits has_low) (omega arith) (omega (arith, inside))
-      (weaken z {P' = Ready z}
-      (λ env s fine ready. ready)
-      (λ env s t fine ready valued. record { held = valued.held; there = valued.there; kept = kept_less z next (base_of z) s t (omega (arith, base)) valued.kept })
-      (expr_runs z has_low (base_of z) (omega arith) (omega arith) room_low)))
-      (pushed z high (next + 4) (16 * term_nodes high) (λ env s ready. value_word z.declared high counter_type env.variables ready.fits has_high) (omega arith) (omega (arith, inside))
-      (weaken z {P' = Ready z}
-      (λ env s fine ready. ready)
-      (λ env s t fine ready valued. record { held = valued.held; there = valued.there; kept = kept_less z (next + 4) (base_of z) s t (omega (arith, base)) valued.kept })
-      (expr_runs z has_high (base_of z) (omega arith) (omega arith) room_high)))
+      (pushed low next has_low room_low (omega (arith, base)) (omega arith) (omega (arith, inside)))
+      (pushed high (next + 4) has_high room_high (omega (arith, base)) (omega arith) (omega (arith, inside)))
       (λ env s t ready done. ready_below z next (omega arith) env s t ready done.held done.kept)))
 
   module _ (x : ℕ) (low high : TermTree) (body : StraightBlock) (n : ℕ) {ys : List Instr}
       (known : slice_get z.declared x ≡ Some (word_as counter_type false))
       (has_low : HasType (types_of z.declared) low counter_type) (has_high : HasType (types_of z.declared) high counter_type)
-      (room_low : base_of z + 4 * height_of low ≤ z.size) (room_high : base_of z + 4 * height_of high ≤ z.size)
+      (room_low : base_of z + 4 * slots_to (height_of low) ≤ z.size) (room_high : base_of z + 4 * slots_to (height_of high) ≤ z.size)
       (near : 2 * (length (test_code next) + length (count_code next (variable_offset z.declared x) ++ ys)) + 8 < 2 ^ 19)
       (inner : Runs z n (λ env. path_along env body) ys (Ready z) (Shown z (depth + 1) (λ env. after_all env body))) where
     abbrev one_turn : ℕ → StraightState → StraightState

@@ -7,6 +7,7 @@ use Rattle.branch_removal.specs.StraightTyping.{IsTyped, AreTyped, types_but}
 use Rattle.codegen.specs.Emitted.{count_code, block_code, height_of_all, height_in, height_in_all, depth_in, depth_in_all}
 use Rattle.expression_code.specs.Layout.{variable_offset, next_offset, temporaries_offset}
 use Rattle.codegen.specs.Placed.{IsPlaced, ArePlacedTerms, HasPlace, HavePlaces}
+use Rattle.expression_code.specs.Registers.{slots_to}
 use Rattle.expression_code.specs.TermCode.{height_of}
 use Rattle.inline.specs.declared.flat.FlatVariable.{FlatVariable}
 use Rattle.inline.specs.Flat.{TermTree, array_as}
@@ -38,10 +39,10 @@ module _ (declared : List FlatVariable) (controls depths : ℕ) (small : 4 * dec
   abbrev free : ℕ
   free = temporaries_offset declared controls depths
 
-  term_placed : {e : TermTree} {word : WordType} (low : ℕ) → HasType (types_of declared) e word → low + 4 * height_of e ≤ 65536 → IsPlaced (length declared) low e
-  term_placed low has room = (typed_among declared has, room)
+  term_placed : {e : TermTree} {word : WordType} (place : ℕ) → HasType (types_of declared) e word → free + 4 * slots_to (height_of e + place) ≤ 65536 → IsPlaced (length declared) free place e
+  term_placed place has room = (typed_among declared has, room)
 
-  values_placed : (x : ℕ) (word : WordType) (es : List TermTree) → AllSuit (types_but declared x) word es → free + 4 * height_of_all es ≤ 65536 → ArePlacedTerms (length declared) free es
+  values_placed : (x : ℕ) (word : WordType) (es : List TermTree) → AllSuit (types_but declared x) word es → free + 4 * slots_to (height_of_all es) ≤ 65536 → ArePlacedTerms (length declared) free es
   values_placed x word [] suit room = tt
   values_placed x word (e ∷ es) suit room =
       let l = le-max_left (height_of e) (height_of_all es) in
@@ -55,8 +56,8 @@ module _ (declared : List FlatVariable) (controls depths : ℕ) (small : 4 * dec
       (omega (arith, e, n, small), omega (arith, e, n, small))
 
   mutual
-    statement_placed : (depth : ℕ) (s : StraightTree) → IsTyped declared controls s → free + 4 * height_in s ≤ 65536 → depth + depth_in s ≤ depths → statement_nodes s ≤ 6000 → HasPlace declared controls depths depth s
-    statement_placed depth (set x value) typed room deep nodes = (known_among declared x _ typed.known, term_placed free typed.suits.has_type room)
+    statement_placed : (depth : ℕ) (s : StraightTree) → IsTyped declared controls s → free + 4 * slots_to (height_in s) ≤ 65536 → depth + depth_in s ≤ depths → statement_nodes s ≤ 6000 → HasPlace declared controls depths depth s
+    statement_placed depth (set x value) typed room deep nodes = (known_among declared x _ typed.known, term_placed 0 typed.suits.has_type (omega (arith, room)))
     statement_placed depth (clear x size) typed room deep nodes =
         (known_among declared x _ typed.known, (fits_in_frame x size typed.word typed.mutable typed.known).0)
     statement_placed depth (fill x values) typed room deep nodes =
@@ -64,14 +65,14 @@ module _ (declared : List FlatVariable) (controls depths : ℕ) (small : 4 * dec
     statement_placed depth (put place x size index value) typed room deep nodes =
         let l = le-max_left (height_of index) (1 + height_of value) in
         let r = le-max_right (height_of index) (1 + height_of value) in
-        (known_among declared x _ typed.known, term_placed free typed.index_type (omega (arith, room, l)), term_placed (free + 4) typed.suits.has_type (omega (arith, room, r)))
-    statement_placed depth (take control within condition) typed room deep nodes = (typed.0, typed.1, term_placed free typed.2.1 room)
+        (known_among declared x _ typed.known, term_placed 0 typed.index_type (omega (arith, room, l)), term_placed 1 typed.suits.has_type (omega (arith, room, r)))
+    statement_placed depth (take control within condition) typed room deep nodes = (typed.0, typed.1, term_placed 0 typed.2.1 (omega (arith, room)))
     statement_placed depth (set_under control x value) typed room deep nodes =
-        (typed.0, known_among declared x _ typed.1.known, term_placed free typed.1.suits.has_type room)
+        (typed.0, known_among declared x _ typed.1.known, term_placed 0 typed.1.suits.has_type (omega (arith, room)))
     statement_placed depth (put_under control place x size index value) typed room deep nodes =
         let l = le-max_left (height_of index) (1 + height_of value) in
         let r = le-max_right (height_of index) (1 + height_of value) in
-        (typed.0, known_among declared x _ typed.1.known, term_placed free typed.1.index_type (omega (arith, room, l)), term_placed (free + 4) typed.1.suits.has_type (omega (arith, room, r)))
+        (typed.0, known_among declared x _ typed.1.known, term_placed 0 typed.1.index_type (omega (arith, room, l)), term_placed 1 typed.1.suits.has_type (omega (arith, room, r)))
     statement_placed depth (branch condition accepted otherwise) typed room deep nodes =
         let inner = max (height_in_all accepted) (height_in_all otherwise) in
         let a = le-max_left (height_of condition) inner in
@@ -82,7 +83,7 @@ module _ (declared : List FlatVariable) (controls depths : ℕ) (small : 4 * dec
         let f = le-max_right (depth_in_all accepted) (depth_in_all otherwise) in
         let g = block_length declared controls depths depth accepted in
         let h = block_length declared controls depths depth otherwise in (
-          term_placed free typed.0 (omega (arith, room, a)),
+          term_placed 0 typed.0 (omega (arith, room, a)),
           blocks_placed depth accepted typed.1 (omega (arith, room, b, c)) (omega (arith, deep, e)) (omega (arith, nodes)),
           blocks_placed depth otherwise typed.2 (omega (arith, room, b, d)) (omega (arith, deep, f)) (omega (arith, nodes)),
           omega (arith, g, h, nodes),
@@ -102,13 +103,13 @@ module _ (declared : List FlatVariable) (controls depths : ℕ) (small : 4 * dec
         let h = block_length declared controls depths (depth + 1) body in (
           known_among declared x _ typed.2,
           omega (arith, deep),
-          term_placed free typed.0 (omega (arith, room, a, c)),
-          term_placed free typed.1 (omega (arith, room, a, d)),
+          term_placed 0 typed.0 (omega (arith, room, a, c)),
+          term_placed 0 typed.1 (omega (arith, room, a, d)),
           blocks_placed (depth + 1) body typed.3 (omega (arith, room, b)) (omega (arith, deep)) (omega (arith, nodes)),
           omega (arith, e, f, g, h, nodes),
         )
 
-    pub blocks_placed : (depth : ℕ) (b : StraightBlock) → AreTyped declared controls b → free + 4 * height_in_all b ≤ 65536 → depth + depth_in_all b ≤ depths → block_nodes b ≤ 6000 → HavePlaces declared controls depths depth b
+    pub blocks_placed : (depth : ℕ) (b : StraightBlock) → AreTyped declared controls b → free + 4 * slots_to (height_in_all b) ≤ 65536 → depth + depth_in_all b ≤ depths → block_nodes b ≤ 6000 → HavePlaces declared controls depths depth b
     blocks_placed depth nothing typed room deep nodes = tt
     blocks_placed depth (first s rest) typed room deep nodes =
         let l = le-max_left (height_in s) (height_in_all rest) in

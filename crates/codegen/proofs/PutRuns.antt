@@ -15,7 +15,8 @@ use Rattle.branch_removal.specs.StraightMeaning.{StraightState, with_variable, w
 use Rattle.branch_removal.specs.StraightTyping.{IsPut}
 use Rattle.codegen.specs.Emitted.{store_by, index_code, put_code, put_under_code, merge_code, statement_code, height_of_put}
 use Rattle.expression_code.specs.Layout.{variable_offset, result_offset, control_offset}
-use Rattle.expression_code.specs.TermCode.{lower_part, load_by, load_code, store_code, address_code, kind_at, expr_code, height_of}
+use Rattle.expression_code.specs.Registers.{slots_to}
+use Rattle.expression_code.specs.TermCode.{lower_part, load_by, address_code, kind_at, expr_code, height_of}
 use Rattle.language.specs.declared.signature.Kind.{Kind}
 use Rattle.language.specs.declared.signature.Kind.TheVariants.{Boolean, Uint8, Uint16, Uint32}
 use Rattle.language.specs.declared.typing.WordType.{WordType}
@@ -24,7 +25,6 @@ use Rattle.language.specs.Types.{bits_of}
 use Rattle.word.specs.declared.place.Place.{Place}
 use Rattle.rv_code.specs.declared.instructions.Instr.{Instr}
 use Rattle.rv_code.specs.declared.instructions.Instr.TheVariants as instr
-use Rattle.rv_code.specs.declared.operations.RegisterOperation.TheVariants.{Add}
 use Rattle.rv_machine.specs.Bytes.{ByteMap, number_at, with_number}
 use Rattle.rv_machine.specs.Effects.{load_size, loaded_value, store_size, sum_of, address_of, sign_extended}
 use Rattle.rv_machine.specs.Machine as machine
@@ -32,18 +32,19 @@ use Rattle.rv_machine.specs.Registers.{register}
 use Rattle.rv_machine.specs.Sizes.{byte_count}
 use Rattle.expression_code.proofs.Arithmetic.{lower_fits}
 use Rattle.expression_code.proofs.Computing.{computing_runs}
-use Rattle.expression_code.proofs.Elements.{IsFree, Addressed, address_runs}
-use Rattle.expression_code.proofs.ExpressionRuns.{steps_of, expr_runs, pushed, value_word, kind_known}
+use Rattle.expression_code.proofs.Elements.{Addressed, address_runs}
+use Rattle.expression_code.proofs.ExpressionRuns.{steps_of, expr_runs, kind_known}
 use Rattle.expression_code.proofs.Held.{HeldAt, held_regs, held_store, frame_there}
+use Rattle.expression_code.proofs.Homes.{IsFree}
 use Rattle.codegen.proofs.Marks.{Indexed, by_index}
 use Rattle.expression_code.proofs.Masks.{mask_of, merged, merge}
 use Rattle.expression_code.proofs.Pieces.{load_runs}
 use Rattle.expression_code.proofs.Places.{place_of, place_within, place_aligned, ends_before_result}
-use Rattle.codegen.proofs.Showing.{Shown, ready_with}
+use Rattle.codegen.proofs.Showing.{Shown, first_runs, ready_with}
 use Rattle.codegen.proofs.Slots.{Wrote, Hidden, hidden_then, hidden_by, hidden_kept, hidden_wrote, cut_kind, cut_element, ready_put, ready_under}
-use Rattle.expression_code.proofs.Steps.{Inside, loading, storing, computing}
+use Rattle.expression_code.proofs.Steps.{Inside, loading, storing}
 use Rattle.expression_code.proofs.Straight.{Setting, base_of, none, Runs, seq, quiet, weaken, cheaper, as_code}
-use Rattle.expression_code.proofs.Values.{Ready, Pushed, kept_number, kept_less, ready_after}
+use Rattle.expression_code.proofs.Values.{Ready, kept_less, ready_after}
 
 pub store_bytes : (kind : Kind) → byte_count (store_size (store_by kind)) ≡ element_bytes kind
 store_bytes Boolean = refl
@@ -63,18 +64,11 @@ load_plain Uint8 v = refl
 load_plain Uint16 v = refl
 load_plain Uint32 v = refl
 
-regroup : (a b c d : List Instr) → ((a ++ b) ++ c) ++ d ≡ a ++ ((b ++ c) ++ d)
-regroup a b c d = ap (λ l. l ++ d) (append_assoc a b c) ∙ append_assoc a (b ++ c) d
-
--- the address is the same in the copy
-copied : (a b l : ℕ) → b ≡ sum_of a 0 → sum_of b l ≡ sum_of a l
-copied a b l e = omega (arith, e)
-
--- an index in the left operand's register, and what the value's register has
+-- an index and a value in the registers of the first two temporaries
 pub record Aimed (z : Setting) (i : ℕ) (value : StraightState → ℕ) (env : StraightState) (s : machine.State) : Type 0 where
   pub ready : Ready z env s
-  pub six : s.regs 6 ≡ i
-  pub five : s.regs 5 ≡ value env
+  pub five : s.regs 5 ≡ i
+  pub six : s.regs 6 ≡ value env
 
 module _ (z : Setting) (x size : ℕ) (word : WordType) (mutable : Bool) (known : slice_get z.declared x ≡ Some (array_as word mutable size)) where
   abbrev d : FlatVariable
@@ -105,17 +99,17 @@ module _ (z : Setting) (x size : ℕ) (word : WordType) (mutable : Bool) (known 
       let even : (z.frame + at i) % element_bytes word.kind ≡ 0 = place_aligned z.declared x d i z.frame z.even in
       record { even = ap (λ m. (z.frame + at i) % m) is ∙ even; low = omega arith; high = omega (arith, h, is) }
 
-  left_free : IsFree 6
-  left_free = record { small = omega arith; nonzero = λ e. omega arith; not_base = λ e. omega arith; not_scratch = λ e. omega arith }
+  index_free : IsFree 5
+  index_free = record { small = omega arith; nonzero = λ e. omega arith; not_base = λ e. omega arith; not_scratch = λ e. omega arith }
 
-  addressed_at : (i : ℕ) (value : StraightState → ℕ) → i < size → Runs z 4 none (address_code 6 word.kind offset) (Aimed z i value) (λ env s t. Addressed z 6 offset (at i) env s t)
+  addressed_at : (i : ℕ) (value : StraightState → ℕ) → i < size → Runs z 4 none (address_code 5 word.kind offset) (Aimed z i value) (λ env s t. Addressed z 5 offset (at i) env s t)
   addressed_at i value below =
       let h = element_inside i below in
       let ends = z.ends in
       weaken z
-      (λ env s fine aimed. (aimed.ready.held, aimed.six, omega (arith, h, ends)))
+      (λ env s fine aimed. (aimed.ready.held, aimed.five, omega (arith, h, ends)))
       (λ env s t fine aimed done. done)
-      (address_runs z 6 left_free word.kind offset (λ env. i))
+      (address_runs z 5 index_free word.kind offset (λ env. i))
 
   there_at : (i n : ℕ) (s : machine.State) → n ≡ element_bytes word.kind → i < size → HeldAt z s → is_some (number_at s.bytes n (z.frame + at i)) ≡ true
   there_at i n s is below held =
@@ -134,22 +128,22 @@ module _ (z : Setting) (x size : ℕ) (word : WordType) (mutable : Bool) (known 
       let m = done.middle in
       let one = done.first in
       let two = done.second in
-      let five : m.regs 5 ≡ value env = one.others 5 (λ e. omega arith) (λ e. omega arith) ∙ aimed.five in
+      let six : m.regs 6 ≡ value env = one.others 6 (λ e. omega arith) (λ e. omega arith) ∙ aimed.six in
       let written : t.bytes ≡ with_number s.bytes (element_bytes word.kind) (z.frame + at i) (value env) =
-      written_as n (z.frame + at i) (register m.regs 5) m t (store_bytes word.kind) two.written
-      ∙ (ap (λ (b : ByteMap). with_number b (element_bytes word.kind) (z.frame + at i) (register m.regs 5)) one.same ∙ ap (λ v. with_number s.bytes (element_bytes word.kind) (z.frame + at i) v) five) in
+      written_as n (z.frame + at i) (register m.regs 6) m t (store_bytes word.kind) two.written
+      ∙ (ap (λ (b : ByteMap). with_number b (element_bytes word.kind) (z.frame + at i) (register m.regs 6)) one.same ∙ ap (λ v. with_number s.bytes (element_bytes word.kind) (z.frame + at i) v) six) in
       record {
         held = held_store z s t (element_bytes word.kind) (at i) (value env) (element_inside i below) (ap (λ (regs : ℕ → ℕ). regs 2) two.same ∙ one.others 2 (λ e. omega arith) (λ e. omega arith)) written aimed.ready.held;
         written = written;
       })
       (quiet z (addressed_at i value below)
-      (storing z (store_by word.kind) 5 6 (lower_part offset) (z.frame + at i) (omega arith, omega arith, lower_fits offset) (access i n (store_bytes word.kind) below))
+      (storing z (store_by word.kind) 6 5 (lower_part offset) (z.frame + at i) (omega arith, omega arith, lower_fits offset) (access i n (store_bytes word.kind) below))
       (λ env s t aimed done. record { address = done.address; data_there = there_at i n t (store_bytes word.kind) below done.held }))
 
   -- The index and the value.
 
   module _ (place : Place) (index value : TermTree) (has : HasType (types_of z.declared) index counter_type) (word' : WordType) (has' : HasType (types_of z.declared) value word')
-      (room : base_of z + 4 * height_of_put index value ≤ z.size) (depth : ℕ) (within : depth ≤ z.depths) where
+      (room : base_of z + 4 * slots_to (height_of_put index value) ≤ z.size) (depth : ℕ) (within : depth ≤ z.depths) where
     abbrev number_of : StraightState → ℕ
     number_of env = value_in env.variables index
 
@@ -160,55 +154,39 @@ module _ (z : Setting) (x size : ℕ) (word : WordType) (mutable : Bool) (known 
       aimed : Aimed z i value_of env t
       hidden : Hidden z depth s t
 
-    height_left : base_of z + 4 * height_of index ≤ z.size
-    height_left = let l = le-max_left (height_of index) (1 + height_of value) in omega (arith, room, l)
+    room_left : base_of z + 4 * slots_to (height_of index) ≤ z.size
+    room_left = let l = le-max_left (height_of index) (1 + height_of value) in omega (arith, room, l)
 
-    height_right : base_of z + 4 + 4 * height_of value ≤ z.size
-    height_right = let r = le-max_right (height_of index) (1 + height_of value) in omega (arith, room, r)
+    room_right : base_of z + 4 * slots_to (height_of value + 1) ≤ z.size
+    room_right = let r = le-max_right (height_of index) (1 + height_of value) in omega (arith, room, r)
 
-    ready_pushed : (env : StraightState) (s t : machine.State) → Ready z env s → Pushed z index (base_of z) env s t → Ready z env t
-    ready_pushed env s t ready done = ready_after z env s t ready done.held done.kept
-
-    -- the index lies in the first temporary
+    -- the index is the first temporary
     record Stacked (env : StraightState) (s : machine.State) : Type 0 where
       ready : Ready z env s
-      stack : number_at s.bytes 4 (z.frame + base_of z) ≡ Some (number_of env)
+      five : s.regs 5 ≡ number_of env
 
-    value_piece : (i : ℕ) → Runs z (16 * term_nodes value + 3) (steps_of value) (expr_code z.declared (base_of z + 4) value ++ load_code 6 (base_of z)) (Indexed Stacked number_of size i) (Readied i)
+    value_piece : (i : ℕ) → Runs z (16 * term_nodes value) (steps_of value) (expr_code z.declared (base_of z) 1 value) (Indexed Stacked number_of size i) (Readied i)
     value_piece i =
-        let h = height_right in
-        weaken z {P = Indexed Stacked number_of size i}
-        (λ env s fine given. given)
-        (λ env s t fine given done.
-        let m = done.middle in
-        let one = done.first in
-        let two = done.second in
-        let kept = kept_less z (base_of z) (base_of z + 4) s m (omega arith) one.kept in
-        let ready = ready_after z env s m given.given.ready one.held kept in
-        let stack : number_at m.bytes 4 (z.frame + base_of z) ≡ Some i = kept_number z (base_of z + 4) s m one.kept 4 (base_of z) (omega arith) ∙ (given.given.stack ∙ ap Some given.is) in
+        weaken z {P' = Indexed Stacked number_of size i}
+        (λ env s fine given. given.given.ready)
+        (λ env s t fine given one.
+        let kept = kept_less z (base_of z) (base_of z + 4 * 0) s t (omega arith) one.kept in
         record {
           aimed = record {
-            ready = ready_with z env m t ready two.held two.same;
-            six = same_Some (t.regs 6) i (sym two.there ∙ stack);
-            five = two.others 5 (λ e. omega arith) ∙ one.there;
+            ready = ready_after z env s t given.given.ready one.held kept;
+            five = one.lower 0 (omega arith) (omega arith) ∙ (given.given.five ∙ given.is);
+            six = one.there;
           };
-          hidden = hidden_then z depth s m t (hidden_kept z depth s m within kept) (hidden_by z depth m t two.same);
+          hidden = hidden_kept z depth s t within kept;
         })
-        (quiet z
-        (weaken z {P' = Indexed Stacked number_of size i}
-        (λ env s fine given. given.given.ready)
-        (λ env s t fine given done. done)
-        (expr_runs z has' (base_of z + 4) (omega arith) (omega arith) h))
-        (load_runs z 6 (base_of z) (omega arith) (omega (arith, h)) (omega arith) (λ e. omega arith) (λ e. omega arith))
-        (λ env s t given valued. valued.held))
+        (expr_runs z (base_of z) (omega arith) (omega arith) has' 1 room_right)
 
     -- The index, and behind its mark what is done at it.
     at_element : {n : ℕ} {tail : List Instr} (change : StraightState → StraightState)
         → ((i : ℕ) → i < size → Runs z n none tail (Aimed z i value_of) (λ env s t. Hidden z depth s t × (number_of env ≡ i → Ready z (change env) t)))
-        → Runs z (16 * term_nodes index + 3 + (16 * term_nodes value + 3 + n)) (λ env. path_in env.variables index ++ indexed place size (number_of env) ∷ path_in env.variables value) (index_code z.declared (base_of z) index value ++ tail) (Ready z) (Shown z depth change)
+        → Runs z (16 * term_nodes index + (16 * term_nodes value + n)) (λ env. path_in env.variables index ++ indexed place size (number_of env) ∷ path_in env.variables value) (index_code z.declared (base_of z) index value ++ tail) (Ready z) (Shown z depth change)
     at_element {tail = tail} change act =
-        let h = height_right in
-        as_code z (regroup (expr_code z.declared (base_of z) index ++ store_code 5 (base_of z)) (expr_code z.declared (base_of z + 4) value) (load_code 6 (base_of z)) tail)
+        as_code z (append_assoc (expr_code z.declared (base_of z) 0 index) (expr_code z.declared (base_of z) 1 value) tail)
         (weaken z {P = Ready z}
         (λ env s fine ready. ready)
         (λ env s t fine ready done. record {
@@ -216,8 +194,7 @@ module _ (z : Setting) (x size : ℕ) (word : WordType) (mutable : Bool) (known 
           hidden = hidden_then z depth s done.middle t (hidden_kept z depth s done.middle within done.first.kept) done.second.hidden;
         })
         (seq z
-        (pushed z index (base_of z) (16 * term_nodes index) (λ env s ready. value_word z.declared index counter_type env.variables ready.fits has) (omega arith) (omega (arith, h))
-        (expr_runs z has (base_of z) (omega arith) (omega arith) height_left))
+        (first_runs z has room_left)
         (by_index z {P = Stacked} place size number_of
         (λ i below.
         weaken z {P = Indexed Stacked number_of size i} {R = Shown z depth change}
@@ -227,7 +204,7 @@ module _ (z : Setting) (x size : ℕ) (word : WordType) (mutable : Bool) (known 
           hidden = hidden_then z depth s done.middle t done.first.hidden done.second.0;
         })
         (quiet z (value_piece i) (act i below) (λ env s t given done. done.aimed))))
-        (λ env s t ready done. record { ready = ready_pushed env s t ready done; stack = done.there })))
+        (λ env s t ready done. record { ready = ready_after z env s t ready done.held done.kept; five = done.there })))
 
     put_done : (i : ℕ) → i < size → word'.kind ≡ word.kind → Runs z 5 none (put_code word.kind offset) (Aimed z i value_of) (λ env s t. Hidden z depth s t × (number_of env ≡ i → Ready z (with_element env x (number_of env) (value_of env)) t))
     put_done i below same =
@@ -250,52 +227,35 @@ module _ (z : Setting) (x size : ℕ) (word : WordType) (mutable : Bool) (known 
       -- what has been loaded, beside where the element lies
       record Both (i : ℕ) (env : StraightState) (s t : machine.State) : Type 0 where
         held : HeldAt z t
-        address : address_of t.regs 28 (lower_part offset) ≡ z.frame + at i
-        old : t.regs 6 ≡ slice_index (env.variables x) i
-        new : t.regs 5 ≡ value_of env
+        address : address_of t.regs 5 (lower_part offset) ≡ z.frame + at i
+        old : t.regs 7 ≡ slice_index (env.variables x) i
+        new : t.regs 6 ≡ value_of env
         same : t.bytes ≡ s.bytes
 
-      abbrev AddressedHere : ℕ → StraightState → machine.State → Type 0
-      AddressedHere i env s = HeldAt z s × (address_of s.regs 6 (lower_part offset) ≡ z.frame + at i)
-
-      both_piece : (i : ℕ) → i < size → Runs z 6 none (address_code 6 word.kind offset ++ (instr.Register Add 28 6 0 ∷ instr.Load (load_by word.kind) 6 6 (lower_part offset) ∷ [])) (Aimed z i value_of) (Both i)
+      both_piece : (i : ℕ) → i < size → Runs z 5 none (address_code 5 word.kind offset ++ instr.Load (load_by word.kind) 7 5 (lower_part offset) ∷ []) (Aimed z i value_of) (Both i)
       both_piece i below =
           let n = byte_count (load_size (load_by word.kind)) in
           weaken z {P = Aimed z i value_of}
           (λ env s fine aimed. aimed)
           (λ env s t fine aimed done.
-          let m1 = done.middle in
-          let m2 = done.second.middle in
+          let m = done.middle in
           let one = done.first in
-          let two = done.second.first in
-          let three = done.second.second in
-          let copy : m2.regs 28 ≡ sum_of (m1.regs 6) 0 = two.there in
-          let x28 : t.regs 28 ≡ sum_of (m1.regs 6) 0 = three.others 28 (λ e. omega arith) ∙ copy in
-          let same : m2.bytes ≡ s.bytes = two.same ∙ one.same in
-          let found : number_at m2.bytes n (z.frame + at i) ≡ Some (slice_index (env.variables x) i) =
-          ap (λ k. number_at m2.bytes k (z.frame + at i)) (load_bytes word.kind) ∙ (ap (λ (b : ByteMap). number_at b (element_bytes word.kind) (z.frame + at i)) same ∙ aimed.ready.variables_there x d i known below) in
+          let two = done.second in
+          let found : number_at m.bytes n (z.frame + at i) ≡ Some (slice_index (env.variables x) i) =
+          ap (λ k. number_at m.bytes k (z.frame + at i)) (load_bytes word.kind) ∙ (ap (λ (b : ByteMap). number_at b (element_bytes word.kind) (z.frame + at i)) one.same ∙ aimed.ready.variables_there x d i known below) in
           record {
-            held = held_regs z s t (three.others 2 (λ e. omega arith) ∙ (two.others 2 (λ e. omega arith) ∙ one.others 2 (λ e. omega arith) (λ e. omega arith))) (three.same ∙ same) aimed.ready.held;
-            address = copied (m1.regs 6) (t.regs 28) (sign_extended 12 (lower_part offset)) x28 ∙ one.address;
-            old = three.there ∙ (load_plain word.kind three.value ∙ same_Some three.value (slice_index (env.variables x) i) (sym three.found ∙ found));
-            new = three.others 5 (λ e. omega arith) ∙ (two.others 5 (λ e. omega arith) ∙ (one.others 5 (λ e. omega arith) (λ e. omega arith) ∙ aimed.five));
-            same = three.same ∙ same;
+            held = held_regs z s t (two.others 2 (λ e. omega arith) ∙ one.others 2 (λ e. omega arith) (λ e. omega arith)) (two.same ∙ one.same) aimed.ready.held;
+            address = ap (λ r. sum_of r (sign_extended 12 (lower_part offset))) (two.others 5 (λ e. omega arith)) ∙ one.address;
+            old = two.there ∙ (load_plain word.kind two.value ∙ same_Some two.value (slice_index (env.variables x) i) (sym two.found ∙ found));
+            new = two.others 6 (λ e. omega arith) ∙ (one.others 6 (λ e. omega arith) (λ e. omega arith) ∙ aimed.six);
+            same = two.same ∙ one.same;
           })
-          (seq z (addressed_at i value_of below)
-          (seq z {P = AddressedHere i}
-          (weaken z
-          (λ env s fine given. tt)
-          (λ env s t fine given done. done)
-          (computing z (instr.Register Add 28 6 0) 28 (λ regs. sum_of (register regs 6) 0) (omega arith, omega arith, omega arith) (λ e. omega arith) (λ pc regs. refl)))
-          (loading z (load_by word.kind) 6 6 (lower_part offset) (z.frame + at i) (omega arith, omega arith, lower_fits offset) (λ e. omega arith) (access i n (load_bytes word.kind) below))
-          (λ env s t given moves. record {
-            address = ap (λ r. sum_of r (sign_extended 12 (lower_part offset))) (moves.others 6 (λ e. omega arith)) ∙ given.1;
-            data_there = ap (λ (b : ByteMap). is_some (number_at b n (z.frame + at i))) moves.same ∙ there_at i n s (load_bytes word.kind) below given.0;
-          }))
-          (λ env s t aimed done. (done.held, done.address)))
+          (quiet z (addressed_at i value_of below)
+          (loading z (load_by word.kind) 7 5 (lower_part offset) (z.frame + at i) (omega arith, omega arith, lower_fits offset) (λ e. omega arith) (access i n (load_bytes word.kind) below))
+          (λ env s t aimed done. record { address = done.address; data_there = there_at i n t (load_bytes word.kind) below done.held }))
 
       under_done : (i : ℕ) → i < size → word'.kind ≡ word.kind
-          → Runs z 13 none (put_under_code (control_offset z.declared c) word.kind offset) (Aimed z i value_of) (λ env s t. Hidden z depth s t × (number_of env ≡ i → Ready z (if env.controls c then with_element env x (number_of env) (value_of env) else env) t))
+          → Runs z 12 none (put_under_code (control_offset z.declared c) word.kind offset) (Aimed z i value_of) (λ env s t. Hidden z depth s t × (number_of env ≡ i → Ready z (if env.controls c then with_element env x (number_of env) (value_of env) else env) t))
       under_done i below same_kind =
           let o = control_offset z.declared c in
           let n = byte_count (store_size (store_by word.kind)) in
@@ -315,20 +275,20 @@ module _ (z : Setting) (x size : ℕ) (word : WordType) (mutable : Bool) (known 
           let v = value_of env in
           let old = slice_index (env.variables x) i in
           let mask = env.controls c in
-          let x7 : m2.regs 7 ≡ mask_of mask = same_Some (m2.regs 7) (mask_of mask) (sym two.there ∙ ready1.controls_there c among) in
-          let x6 : m2.regs 6 ≡ old = two.others 6 (λ e. omega arith) ∙ one.old in
-          let x5 : m2.regs 5 ≡ v = two.others 5 (λ e. omega arith) ∙ one.new in
-          let mixed : merged (m2.regs 7) (m2.regs 6) (m2.regs 5) ≡ merged (mask_of mask) old v = ap (λ m. merged m (m2.regs 6) (m2.regs 5)) x7 ∙ (ap (λ m. merged (mask_of mask) m (m2.regs 5)) x6 ∙ ap (λ m. merged (mask_of mask) old m) x5) in
+          let x29 : m2.regs 29 ≡ mask_of mask = same_Some (m2.regs 29) (mask_of mask) (sym two.there ∙ ready1.controls_there c among) in
+          let x7 : m2.regs 7 ≡ old = two.others 7 (λ e. omega arith) ∙ one.old in
+          let x6 : m2.regs 6 ≡ v = two.others 6 (λ e. omega arith) ∙ one.new in
+          let mixed : merged (m2.regs 29) (m2.regs 7) (m2.regs 6) ≡ merged (mask_of mask) old v = ap (λ m. merged m (m2.regs 7) (m2.regs 6)) x29 ∙ (ap (λ m. merged (mask_of mask) m (m2.regs 6)) x7 ∙ ap (λ m. merged (mask_of mask) old m) x6) in
           let fits : v < 2 ^ bits_of word.kind = subst (λ k. v < 2 ^ bits_of k) same_kind (value_fits (types_of z.declared) env.variables aimed.ready.fits has') in
           let long = (aimed.ready.fits x d known).count in
           let old_fits : old < 2 ^ bits_of word.kind = (aimed.ready.fits x d known).within i 0 (omega (arith, long, below)) in
-          let made : m3.regs 5 ≡ chosen env i = ap (λ (regs : ℕ → ℕ). regs 5) three.registers ∙ (mixed ∙ merge mask old v (cut_kind word.kind old old_fits) (cut_kind word.kind v fits)) in
+          let made : m3.regs 6 ≡ chosen env i = ap (λ (regs : ℕ → ℕ). regs 6) three.registers ∙ (mixed ∙ merge mask old v (cut_kind word.kind old old_fits) (cut_kind word.kind v fits)) in
           let same : m3.bytes ≡ s.bytes = three.same ∙ (two.same ∙ one.same) in
           let ready3 = ready_with z env s m3 aimed.ready three.held same in
           let w = chosen env i in
           let w_fits = chosen_below mask v old (2 ^ bits_of word.kind) fits old_fits in
           let written : t.bytes ≡ with_number m3.bytes (element_bytes word.kind) (z.frame + at i) w =
-          written_as n (z.frame + at i) (register m3.regs 5) m3 t (store_bytes word.kind) four.written ∙ ap (λ u. with_number m3.bytes (element_bytes word.kind) (z.frame + at i) u) made in
+          written_as n (z.frame + at i) (register m3.regs 6) m3 t (store_bytes word.kind) four.written ∙ ap (λ u. with_number m3.bytes (element_bytes word.kind) (z.frame + at i) u) made in
           let wrote : Wrote z (element_bytes word.kind) (at i) w m3 t = record {
             held = held_store z m3 t (element_bytes word.kind) (at i) w (element_inside i below) (ap (λ (regs : ℕ → ℕ). regs 2) four.same) written three.held;
             written = written;
@@ -340,17 +300,17 @@ module _ (z : Setting) (x size : ℕ) (word : WordType) (mutable : Bool) (known 
           (quiet z
           (quiet z
           (quiet z (both_piece i below)
-          (load_runs z 7 o (omega arith) (omega (arith, among, space)) (omega arith) (λ e. omega arith) (λ e. omega arith))
+          (load_runs z 29 o (omega arith) (omega (arith, among, space)) (omega arith) (λ e. omega arith) (λ e. omega arith))
           (λ env s t aimed both. both.held))
-          (computing_runs z merge_code refl)
+          (computing_runs z (merge_code 6 7 29) refl)
           (λ env s t aimed done. done.second.held))
-          (storing z (store_by word.kind) 5 28 (lower_part offset) (z.frame + at i) (omega arith, omega arith, lower_fits offset) (access i n (store_bytes word.kind) below))
+          (storing z (store_by word.kind) 6 5 (lower_part offset) (z.frame + at i) (omega arith, omega arith, lower_fits offset) (access i n (store_bytes word.kind) below))
           (λ env s t aimed done.
           let m2 = done.middle in
           let m1 = done.first.middle in
-          let x28 : t.regs 28 ≡ m1.regs 28 = ap (λ (regs : ℕ → ℕ). regs 28) done.second.registers ∙ done.first.second.others 28 (λ e. omega arith) in
+          let x5 : t.regs 5 ≡ m1.regs 5 = ap (λ (regs : ℕ → ℕ). regs 5) done.second.registers ∙ done.first.second.others 5 (λ e. omega arith) in
           record {
-            address = ap (λ r. sum_of r (sign_extended 12 (lower_part offset))) x28 ∙ done.first.first.address;
+            address = ap (λ r. sum_of r (sign_extended 12 (lower_part offset))) x5 ∙ done.first.first.address;
             data_there = there_at i n t (store_bytes word.kind) below done.second.held;
           }))
         where
@@ -363,7 +323,7 @@ module _ (z : Setting) (x size : ℕ) (word : WordType) (mutable : Bool) (known 
           under_same false env t j ready =
               ready_under z false x (env.variables x) env t (subst (λ (l : List ℕ). Ready z (with_variable env x l) t) (set-get_or (env.variables x) j 0) ready)
 
-module _ (z : Setting) (depth : ℕ) (place : Place) (x size : ℕ) (index value : TermTree) (typed : IsPut z.declared x size index value) (room : base_of z + 4 * height_of_put index value ≤ z.size) (within : depth ≤ z.depths) where
+module _ (z : Setting) (depth : ℕ) (place : Place) (x size : ℕ) (index value : TermTree) (typed : IsPut z.declared x size index value) (room : base_of z + 4 * slots_to (height_of_put index value) ≤ z.size) (within : depth ≤ z.depths) where
   kind_is : kind_at z.declared x ≡ typed.word.kind
   kind_is = kind_known z.declared x (array_as typed.word typed.mutable size) typed.known
 

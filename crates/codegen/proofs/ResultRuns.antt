@@ -8,6 +8,7 @@ use Rattle.language.specs.declared.typing.WordType.{WordType}
 use Rattle.branch_removal.specs.StraightMeaning.{StraightState}
 use Rattle.codegen.specs.Generated.{result_code, result_height}
 use Rattle.expression_code.specs.Layout.{result_offset}
+use Rattle.expression_code.specs.Registers.{slots_to}
 use Rattle.rv_machine.specs.Machine as machine
 use Rattle.expression_code.proofs.ExpressionRuns.{value_word}
 use Rattle.codegen.proofs.Results.{Left}
@@ -27,7 +28,7 @@ pub record Given (z : Setting) (value : Option TermTree) (env : StraightState) (
   pub left : Left z.frame z.declared value env.variables t.bytes
 
 module _ (z : Setting) where
-  pub result_runs : (returned : Option WordType) (value : Option TermTree) → IsResult (types_of z.declared) returned value → base_of z + 4 * result_height value ≤ z.size → Runs z (32 * value_nodes value) (steps_of_result value) (result_code z.declared (base_of z) value) (Ready z) (Given z value)
+  pub result_runs : (returned : Option WordType) (value : Option TermTree) → IsResult (types_of z.declared) returned value → base_of z + 4 * slots_to (result_height value) ≤ z.size → Runs z (32 * value_nodes value) (steps_of_result value) (result_code z.declared (base_of z) value) (Ready z) (Given z value)
   result_runs returned None typed room =
       weaken z
       (λ env s fine ready. ready)

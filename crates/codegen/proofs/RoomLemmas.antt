@@ -24,7 +24,7 @@ use Rattle.rv_code.specs.declared.instructions.Instr.TheVariants.{Ecall}
 
 result_length : (declared : List FlatVariable) (free : ℕ) (value : Option TermTree) → length (result_code declared free value) ≤ 32 * value_nodes value
 result_length declared free None = omega arith
-result_length declared free (Some value) = simp length-append (omega (arith, expr_length declared free value, store_length 5 (result_offset declared)))
+result_length declared free (Some value) = simp length-append (omega (arith, expr_length declared free 0 value, store_length 5 (result_offset declared)))
 
 result_height_fits : (value : Option TermTree) → result_height value ≤ value_nodes value
 result_height_fits None = omega arith

@@ -11,6 +11,7 @@ use Rattle.branch_removal.specs.StraightMeaning.{StraightState, with_variable, h
 use Rattle.branch_removal.specs.StraightTyping.{IsSet, IsAmong}
 use Rattle.codegen.specs.Emitted.{masks_code, within_code, merge_code, statement_code}
 use Rattle.expression_code.specs.Layout.{variable_offset, control_offset}
+use Rattle.expression_code.specs.Registers.{slots_to}
 use Rattle.expression_code.specs.TermCode.{store_code, expr_code, height_of}
 use Rattle.language.specs.declared.signature.Kind.TheVariants.{Boolean}
 use Rattle.language.specs.declared.signature.Label.{Label}
@@ -22,15 +23,15 @@ use Rattle.rv_machine.specs.Bytes.{ByteMap, number_at}
 use Rattle.rv_machine.specs.Effects.{sum_of, difference_of}
 use Rattle.rv_machine.specs.Machine as machine
 use Rattle.expression_code.proofs.Computing.{Computed, computing_runs}
-use Rattle.expression_code.proofs.ExpressionRuns.{steps_of, expr_runs}
+use Rattle.expression_code.proofs.ExpressionRuns.{steps_of}
 use Rattle.expression_code.proofs.Held.{HeldAt}
 use Rattle.expression_code.proofs.Masks.{mask_of, mask_when, mask_otherwise, masks_join, merged, merge}
 use Rattle.expression_code.proofs.Pieces.{Took, load_runs}
-use Rattle.codegen.proofs.Showing.{Shown, suits_fits, value_runs, ready_valued, ready_with, word_before, wrote_as}
+use Rattle.codegen.proofs.Showing.{Shown, Evaluated, suits_fits, first_runs, value_runs, ready_valued, ready_with, word_before, wrote_as}
 use Rattle.codegen.proofs.Slots.{hidden_then, hidden_by, hidden_kept, hidden_wrote, put_wrote, cut_kind, ready_set, ready_under, ready_taken}
 use Rattle.expression_code.proofs.Stores.{store_runs}
 use Rattle.expression_code.proofs.Straight.{Setting, base_of, none, Then, Runs, quiet, weaken, cheaper, idle}
-use Rattle.expression_code.proofs.Values.{Ready, Valued}
+use Rattle.expression_code.proofs.Values.{Ready}
 
 -- a condition, as f and as g, in the registers of the masks
 pub record Prepared (z : Setting) (f g : StraightState → Bool) (env : StraightState) (s : machine.State) : Type 0 where
@@ -84,8 +85,8 @@ module _ (z : Setting) where
       (computing_runs z (instr.Register And 7 7 6 ∷ instr.Register And 5 5 6 ∷ []) refl)
       (λ env s t prepared took. took.held))
 
-  pub set_runs : (depth x : ℕ) (value : TermTree) → IsSet z.declared x value → base_of z + 4 * height_of value ≤ z.size → depth ≤ z.depths
-      → Runs z (32 * (1 + term_nodes value)) (steps_of value) (expr_code z.declared (base_of z) value ++ store_code 5 (variable_offset z.declared x)) (Ready z) (Shown z depth (λ env. with_variable env x (value_in env.variables value ∷ [])))
+  pub set_runs : (depth x : ℕ) (value : TermTree) → IsSet z.declared x value → base_of z + 4 * slots_to (height_of value) ≤ z.size → depth ≤ z.depths
+      → Runs z (32 * (1 + term_nodes value)) (steps_of value) (expr_code z.declared (base_of z) 0 value ++ store_code 5 (variable_offset z.declared x)) (Ready z) (Shown z depth (λ env. with_variable env x (value_in env.variables value ∷ [])))
   set_runs depth x value typed room within =
       let o = variable_offset z.declared x in
       let before = word_before z x typed.word typed.mutable typed.known in
@@ -113,7 +114,7 @@ module _ (z : Setting) where
   either_list true v old l is = refl
   either_list false v old l is = sym is
 
-  pub set_under_runs : (depth c x : ℕ) (value : TermTree) → c < z.controls → IsSet z.declared x value → base_of z + 4 * height_of value ≤ z.size → depth ≤ z.depths
+  pub set_under_runs : (depth c x : ℕ) (value : TermTree) → c < z.controls → IsSet z.declared x value → base_of z + 4 * slots_to (height_of value) ≤ z.size → depth ≤ z.depths
       → Runs z (32 * (1 + term_nodes value)) (steps_of value) (statement_code z.declared z.controls z.depths depth (set_under c x value)) (Ready z) (Shown z depth (λ env. after env (set_under c x value)))
   set_under_runs depth c x value among typed room within =
       let o = variable_offset z.declared x in
@@ -165,7 +166,7 @@ module _ (z : Setting) where
       (λ env s t ready valued. valued.held))
       (load_runs z 7 k (omega arith) (omega (arith, among, space)) (omega arith) (λ e. omega arith) (λ e. omega arith))
       (λ env s t ready done. done.second.held))
-      (computing_runs z merge_code refl)
+      (computing_runs z (merge_code 5 6 7) refl)
       (λ env s t ready done. done.second.held))
       (store_runs z 5 (omega arith) (λ e. omega arith) (λ e. omega arith) o (omega arith) (omega (arith, before, space)))
       (λ env s t ready done. done.second.held)))
@@ -175,7 +176,7 @@ module _ (z : Setting) where
       single (x ∷ []) one = refl
       single (x ∷ y ∷ l) one = absurd (omega (arith, one))
 
-  pub take_runs : (depth c : ℕ) (within : Option ℕ) (condition : TermTree) (label : Label) → c + 1 < z.controls → IsAmong z.controls within → HasType (types_of z.declared) condition (labelled Boolean label) → base_of z + 4 * height_of condition ≤ z.size → depth ≤ z.depths
+  pub take_runs : (depth c : ℕ) (within : Option ℕ) (condition : TermTree) (label : Label) → c + 1 < z.controls → IsAmong z.controls within → HasType (types_of z.declared) condition (labelled Boolean label) → base_of z + 4 * slots_to (height_of condition) ≤ z.size → depth ≤ z.depths
       → Runs z (32 * (1 + term_nodes condition)) (steps_of condition) (statement_code z.declared z.controls z.depths depth (take c within condition)) (Ready z) (Shown z depth (λ env. after env (take c within condition)))
   take_runs depth c within condition label below among has room inside =
       let o = control_offset z.declared c in
@@ -183,7 +184,7 @@ module _ (z : Setting) where
       let f : StraightState → Bool = λ env. not (value_in env.variables condition == 0) in
       let g : StraightState → Bool = λ env. value_in env.variables condition == 0 in
       let space = z.room in
-      let prepared : (env : StraightState) (s t : machine.State) → Ready z env s → Then (Valued z condition (base_of z)) (Computed z masks_code) env s t → Prepared z f g env t = λ env s t ready done.
+      let prepared : (env : StraightState) (s t : machine.State) → Ready z env s → Then (Evaluated z condition) (Computed z masks_code) env s t → Prepared z f g env t = λ env s t ready done.
       let m = done.middle in
       let truth = value_fits (types_of z.declared) env.variables ready.fits has in
       record {
@@ -216,7 +217,7 @@ module _ (z : Setting) where
       (quiet z
       (quiet z
       (quiet z
-      (quiet z (expr_runs z has (base_of z) (omega arith) (omega arith) room)
+      (quiet z (first_runs z has room)
       (computing_runs z masks_code refl)
       (λ env s t ready valued. valued.held))
       (within_runs within f g among)

@@ -5,9 +5,10 @@ use Rattle.inline.specs.declared.flat.FlatVariable.{FlatVariable}
 use Rattle.inline.specs.Fitting.{Fits}
 use Rattle.inline.specs.Flat.{TermTree, word_as}
 use Rattle.inline.specs.FlatMeaning.{Values, value_in}
-use Rattle.inline.specs.FlatTyping.{types_of, Suits}
+use Rattle.inline.specs.FlatTyping.{types_of, HasType, Suits}
 use Rattle.branch_removal.specs.StraightMeaning.{StraightState}
 use Rattle.expression_code.specs.Layout.{variable_offset, result_offset, control_offset, next_offset}
+use Rattle.expression_code.specs.Registers.{slots_to}
 use Rattle.expression_code.specs.TermCode.{height_of, expr_code}
 use Rattle.language.specs.declared.signature.Kind.{Kind}
 use Rattle.language.specs.declared.typing.WordType.{WordType}
@@ -19,25 +20,39 @@ use Rattle.expression_code.proofs.Held.{HeldAt, held_regs}
 use Rattle.codegen.proofs.Jumps.{Still}
 use Rattle.expression_code.proofs.Places.{bytes_of, place_of, place_within, ends_before_result}
 use Rattle.codegen.proofs.Slots.{Wrote, Hidden, other_number}
-use Rattle.expression_code.proofs.Straight.{Setting, base_of, Runs}
-use Rattle.expression_code.proofs.Values.{Kept, Ready, Valued, kept_number, kept_by, ready_after}
+use Rattle.expression_code.proofs.Straight.{Setting, base_of, Runs, weaken}
+use Rattle.expression_code.proofs.Values.{Kept, Ready, Valued, kept_number, kept_less, kept_by, ready_after}
 
 -- the state that is made of the one before is shown, and the words of the loops around are as they were
 pub record Shown (z : Setting) (depth : ℕ) (change : StraightState → StraightState) (env : StraightState) (s t : machine.State) : Type 0 where
   pub ready : Ready z (change env) t
   pub hidden : Hidden z depth s t
 
+-- the value's register has what an expression means, and only slots of temporaries are written
+pub record Evaluated (z : Setting) (e : TermTree) (env : StraightState) (s t : machine.State) : Type 0 where
+  pub held : HeldAt z t
+  pub there : t.regs 5 ≡ value_in env.variables e
+  pub kept : Kept z (base_of z) s t
+
 -- a value that suits a type is within the type's kind
 pub suits_fits : (declared : List FlatVariable) (word : WordType) (e : TermTree) (m : Values) → Fits (types_of declared) m → Suits (types_of declared) word e → value_in m e < 2 ^ bits_of word.kind
 suits_fits declared word e m fits suits = subst (λ (kind : Kind). value_in m e < 2 ^ bits_of kind) suits.kind (value_fits (types_of declared) m fits suits.has_type)
 
 module _ (z : Setting) where
-  -- the code of an expression, with the first temporaries
-  pub value_runs : (word : WordType) (e : TermTree) → Suits (types_of z.declared) word e → base_of z + 4 * height_of e ≤ z.size → Runs z (16 * term_nodes e) (steps_of e) (expr_code z.declared (base_of z) e) (Ready z) (Valued z e (base_of z))
-  value_runs word e suits room = expr_runs z suits.has_type (base_of z) (omega arith) (omega arith) room
+  -- The code of an expression that no temporary lives beside.
+
+  pub first_runs : {e : TermTree} {word : WordType} → HasType (types_of z.declared) e word → base_of z + 4 * slots_to (height_of e) ≤ z.size → Runs z (16 * term_nodes e) (steps_of e) (expr_code z.declared (base_of z) 0 e) (Ready z) (Evaluated z e)
+  first_runs has room =
+      weaken z {P' = Ready z}
+      (λ env s fine ready. ready)
+      (λ env s t fine ready done. record { held = done.held; there = done.there; kept = kept_less z (base_of z) (base_of z + 4 * 0) s t (omega arith) done.kept })
+      (expr_runs z (base_of z) (omega arith) (omega arith) has 0 (omega (arith, room)))
+
+  pub value_runs : (word : WordType) (e : TermTree) → Suits (types_of z.declared) word e → base_of z + 4 * slots_to (height_of e) ≤ z.size → Runs z (16 * term_nodes e) (steps_of e) (expr_code z.declared (base_of z) 0 e) (Ready z) (Evaluated z e)
+  value_runs word e suits room = first_runs suits.has_type room
 
   -- the state is shown after an expression as before it
-  pub ready_valued : (e : TermTree) (env : StraightState) (s t : machine.State) → Ready z env s → Valued z e (base_of z) env s t → Ready z env t
+  pub ready_valued : (e : TermTree) (env : StraightState) (s t : machine.State) → Ready z env s → Evaluated z e env s t → Ready z env t
   ready_valued e env s t ready valued = ready_after z env s t ready valued.held valued.kept
 
   -- as long as nothing is written

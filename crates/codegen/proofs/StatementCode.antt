@@ -75,11 +75,11 @@ module _ (declared : List FlatVariable) (controls depths depth : ℕ) where
 
     pub branch_made : (old middle new xs ys : List Instr)
         → xs ≡ block_code declared controls depths depth (straight_block ones) → ys ≡ block_code declared controls depths depth (straight_block others)
-        → middle ≡ old ++ expr_code declared (temporaries_offset declared controls depths) (term_tree condition.now) → new ≡ middle ++ branch_code xs ys
+        → middle ≡ old ++ expr_code declared (temporaries_offset declared controls depths) 0 (term_tree condition.now) → new ≡ middle ++ branch_code xs ys
         → new ≡ old ++ statement_code declared controls depths depth (straight_tree statement)
     branch_made old middle new xs ys x y first' last' =
         last' ∙ (ap₂ (λ (front back : List Instr). front ++ back) first' (ap₂ branch_code x y)
-        ∙ (append_assoc old (expr_code declared (temporaries_offset declared controls depths) (term_tree condition.now)) (branch_code (block_code declared controls depths depth (straight_block ones)) (block_code declared controls depths depth (straight_block others)))
+        ∙ (append_assoc old (expr_code declared (temporaries_offset declared controls depths) 0 (term_tree condition.now)) (branch_code (block_code declared controls depths depth (straight_block ones)) (block_code declared controls depths depth (straight_block others)))
         ∙ ap (λ (s : StraightTree). old ++ statement_code declared controls depths depth s) (sym tree_of_branch)))
 
   module _ (statement : StraightStatement) (x : ℕ) (low high : Bor Term) (body : Vec StraightStatement Global) (is : statement ≡ code.Repeat x low high body)

@@ -1,5 +1,5 @@
 use Rattle.std.proofs.Common.{◌≡◌, ℕ, ◌+◌, ◌*◌, map, ap, ap₂, ◌∙◌}
-use Rattle.codegen.specs.Generated.{program_base, program_height, step_limit}
+use Rattle.codegen.specs.Generated.{program_base, program_slots, step_limit}
 use Rattle.expression_code.specs.Layout.{Frame, slots_from, temporaries_offset}
 use Rattle.codegen.proofs.ImageLemmas.{fields_allowed}
 use Rattle.rv_code.specs.Words.{word_of}
@@ -10,7 +10,7 @@ new-requires c =
     let p = c.args.straight.now in
     let start = c.temporaries.ensures ∙ ap (λ (f : Frame). temporaries_offset f.declared f.controls f.depths) c.requires.frame in
     let slots = c.in_ok-slots.ensures ∙ ap (λ ps. slots_from 0 ps) c.parameters.ensures in
-    let frame : c.temporaries.result + 4 * c.temporaries-2.result ≡ program_base p + 4 * program_height p = ap₂ (λ m n. m + 4 * n) start c.temporaries-2.ensures in
+    let frame : c.temporaries.result + 4 * c.temporaries-2.result ≡ program_base p + 4 * program_slots p = ap₂ (λ m n. m + 4 * n) start c.temporaries-2.ensures in
     let steps = c.step_limit-max_steps.ensures ∙ ap step_limit c.work.ensures in
     let words = c.in_ok-words.ensures.words ∙ ap (λ code. map word_of code) (c.as_slice.ensures.value ∙ c.in_ok-code.ensures) in
     fields_allowed p c.requires.room c.in_ok-slots.slots.items c.result_slot-returned.result (c.temporaries.result + 4 * c.temporaries-2.result) c.step_limit-max_steps.result c.in_ok-words.words.items slots c.result_slot-returned.ensures frame steps words c.in_ok-words.ensures.fit
