@@ -13,7 +13,7 @@ use Rattle.language.specs.declared.signature.Label.{Label}
 use Rattle.language.specs.declared.typing.Callee.{Callee}
 use Rattle.language.specs.declared.typing.ValueType.{ValueType}
 use Rattle.language.specs.Grammatical.{AreAllSmall}
-use Rattle.language.specs.Meaning.{Calls, argument_faults, body_faults, body_ends, copied_out, is_word, gives, faults}
+use Rattle.language.specs.Meaning.{Calls, argument_faults, body_faults, body_ends, copied_out, is_word}
 use Rattle.language.specs.Meaning as meaning
 use Rattle.language.specs.State.{State}
 use Rattle.language.specs.Tree.{ExprTree, CallTree, ParameterTree, ProcedureTree}

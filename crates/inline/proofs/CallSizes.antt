@@ -1,7 +1,7 @@
 -- A call has as many nodes once its names are numbers, and what it declares besides takes no more words than a third of them.
 use Rattle.std.proofs.Common.{◌≡◌, ℕ, ◌+◌, ◌*◌, ◌≤◌, Bool, true, false, if◌then◌else◌, List, [], ◌∷◌, ◌++◌, length, map, Option, None, Some, refl, sym, subst, arith}
 use Rattle.inline.specs.declared.flat.FlatVariable.{FlatVariable}
-use Rattle.inline.specs.Flat.{TermTree, FlatBlock, elements_by, word_as}
+use Rattle.inline.specs.Flat.{TermTree, elements_by}
 use Rattle.inline.specs.Flat as flat
 use Rattle.inline.specs.FlatSize.{term_nodes, terms_nodes, body_nodes, value_nodes, declared_words}
 use Rattle.inline.specs.Numbering.{Numbers, Callable, callable, callables, passed, passed_variables, begun, call_block, call_variables, call_result, call_value, value_given, value_of, declared_in_all, dropped_block, dropped_variables, names_after_all, block, term}

@@ -18,8 +18,8 @@ use Rattle.language.specs.declared.typing.ArrayType.{ArrayType}
 use Rattle.language.specs.declared.typing.ValueType.TheVariants.{Array}
 use Rattle.language.specs.declared.typing.WordType.{WordType}
 use Rattle.language.specs.Grammatical.{AreAllSmall, IsPlain, ArePlain}
-use Rattle.language.specs.Meaning.{Ending, Evaluates, EvaluatesAll, by_operands, operand_faults, none_left, one_more, this_faults, gives, faults, element_held, made_array, counting, with_some, with_element, word_given, of_expr, expr_faults, Runs, RunsAll, Turns, no_turn, turn_faults, a_turn, declares, declaration_faults, declares_array, first_value_faults, assigns, assignment_faults, target_faults, right_faults, assigns_element, calls, call_faults, condition_faults, accepts, declines, bounds_fault, loops, ends, stops, goes_on}
-use Rattle.language.specs.State.{State, Value, single, with_value}
+use Rattle.language.specs.Meaning.{Ending, Evaluates, EvaluatesAll, by_operands, operand_faults, none_left, one_more, this_faults, gives, element_held, made_array, counting, with_some, with_element, word_given, of_expr, expr_faults, Runs, RunsAll, Turns, no_turn, turn_faults, a_turn, declares, declaration_faults, declares_array, first_value_faults, assigns, assignment_faults, target_faults, right_faults, assigns_element, calls, call_faults, condition_faults, accepts, declines, bounds_fault, loops, ends, stops, goes_on}
+use Rattle.language.specs.State.{State, single, with_value}
 use Rattle.language.specs.State as state
 use Rattle.language.specs.Tree.{ExprTree, element, called, computed, StatementTree, element_assignment, call, conditional, loop, BlockTree, first, ProcedureTree, written}
 use Rattle.language.specs.Types.{Scope}

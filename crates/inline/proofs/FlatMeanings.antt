@@ -1,5 +1,5 @@
 -- A program that violates no rule comes to what the flat program comes to.
-use Rattle.std.proofs.Common.{◌≡◌, ℕ, ◌+◌, List, [], ◌∷◌, ◌++◌, length, map, Option, None, Some, refl, sym, ap, ap₂, ◌∙◌, subst}
+use Rattle.std.proofs.Common.{◌≡◌, ℕ, ◌+◌, List, [], ◌++◌, length, map, Option, None, Some, refl, sym, ap, ap₂, ◌∙◌, subst}
 use Rattle.std.specs.List.{AllByRecursion}
 use Rattle.std.specs.Option.{option_map}
 use Rattle.word.specs.declared.place.Place.{Place}
@@ -15,11 +15,10 @@ use Rattle.language.specs.Grammatical.{IsGrammatical, IsSmallReturn}
 use Rattle.language.specs.Meaning.{Bodies, statements_fault, returns, returns_nothing, return_faults, Gives, ends_well, meets_fault, RunsAll, exported, final_arrays, gives, holding}
 use Rattle.language.specs.Results.{Results}
 use Rattle.language.specs.State.{State, Word}
-use Rattle.language.specs.Tree.{ParameterTree, ProcedureTree, ProgramTree, ReturnTree}
+use Rattle.language.specs.Tree.{ProcedureTree, ProgramTree, ReturnTree}
 use Rattle.language.specs.Types.{Scope}
-use Rattle.language.specs.Typing.{body_scope, parameter_as, scope_after_all, violations, with_parameters, with_procedure}
+use Rattle.language.specs.Typing.{body_scope, scope_after_all, violations, with_procedure}
 use Rattle.language.specs.WellTyped as rules
-use Rattle.names.specs.Scope.{declared}
 use Rattle.inline.proofs.Called.{Agrees, HasResult, nothing_given, a_word, Behaves, BodyComes, IsKept, Ready, ready_after_all}
 use Rattle.inline.proofs.Comes.{Comes, well, fails, then_comes, also, across}
 use Rattle.inline.proofs.FlatEnds.{same_ends}

@@ -3,10 +3,10 @@ use Rattle.std.proofs.Common.{◌≡◌, ℕ, ◌+◌, ◌*◌, ◌≤◌, ◌||
 use Rattle.std.proofs.lemmas.Bool.Decides.{nat_tests}
 use Rattle.std.proofs.lemmas.List.{length-map}
 use Rattle.std.specs.List.{AllByRecursion}
-use Rattle.inline.specs.Flat.{chain, elements_by, word_as, array_as, counter_type}
+use Rattle.inline.specs.Flat.{elements_by, word_as, counter_type}
 use Rattle.inline.specs.Flat as tree
 use Rattle.inline.specs.FlatSize as flat
-use Rattle.inline.specs.FlatSize.{term_nodes, body_nodes, value_nodes, words_by, declared_words, IsSized}
+use Rattle.inline.specs.FlatSize.{term_nodes, body_nodes, words_by, declared_words, IsSized}
 use Rattle.inline.specs.Numbering.{Numbers, Callables, callables, call_block, call_variables, call_result, call_value, right_block, right_variables, right_end, right, value_given, dropped_block, dropped_variables, declared_in, declared_in_all, numbers_taken, numbers_taken_all, naming, names_after, statement, block, single, number_of, size_of, param_of, parameter_names, return_names, flattened}
 use Rattle.language.specs.declared.limits.TheConstants.{MOST_NODES, MOST_BODIES, MOST_DECLARED_BYTES}
 use Rattle.language.specs.declared.rule.Rule.{Rule}

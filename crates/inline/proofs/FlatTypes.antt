@@ -4,9 +4,9 @@ use Rattle.std.proofs.Common.{◌≡◌, ℕ, suc, ◌+◌, Bool, false, true, L
 use Rattle.std.proofs.lemmas.List.{length-map}
 use Rattle.inline.specs.declared.flat.FlatVariable.{FlatVariable}
 use Rattle.inline.specs.declared.numbering.Numbered.{Numbered}
-use Rattle.inline.specs.Flat.{FlatBlock, chain, word_as, array_as, numbers_in}
+use Rattle.inline.specs.Flat.{chain, word_as, array_as, numbers_in}
 use Rattle.inline.specs.Flat as tree
-use Rattle.inline.specs.FlatTyping.{Types, IsTyped, AreTyped, IsPut, Suits, types_after, types_after_all, with_type, counter_type}
+use Rattle.inline.specs.FlatTyping.{Types, AreTyped, IsPut, Suits, types_after_all, with_type, counter_type}
 use Rattle.inline.specs.FlatTyping as flat
 use Rattle.inline.specs.Numbering.{Numbers, Callables, callables, call_block, call_variables, call_result, call_value, right_block, right_variables, right_end, right, value_given, element_block, element_variables, dropped_block, dropped_variables, statement, block, names_after, names_after_all, naming, number_of, size_of, declared_in, declared_in_all, numbers_taken, numbers_taken_all, term, single}
 use Rattle.language.specs.declared.signature.Kind.TheVariants.{Boolean}

@@ -5,7 +5,7 @@ use Rattle.std.specs.Str.{bytes_eq}
 use lib.Pointwise.{bytes_decides}
 use Rattle.inline.specs.declared.numbering.Numbered.{Numbered}
 use Rattle.inline.specs.Flat as flat
-use Rattle.inline.specs.Flat.{FlatBlock, elements_by, numbers_in}
+use Rattle.inline.specs.Flat.{elements_by, numbers_in}
 use Rattle.inline.specs.FlatMeaning.{Values, value_in, path_in, after_all, path_along}
 use Rattle.inline.specs.FlatMeaning as flat_meaning
 use Rattle.inline.specs.FlatTyping.{Types}
@@ -15,7 +15,7 @@ use Rattle.language.specs.declared.signature.Form.{Form}
 use Rattle.language.specs.declared.signature.Form.TheVariants.{SingleWord, FixedArray, MutableArray}
 use Rattle.language.specs.declared.typing.WordType.{WordType}
 use Rattle.language.specs.Grammatical.{AreAllSmall}
-use Rattle.language.specs.Meaning.{is_word, EvaluatesAll, none_left, one_more, this_faults, later_faults, gives, faults, word_arguments, argument_held, words_left, array_named, with_some}
+use Rattle.language.specs.Meaning.{is_word, EvaluatesAll, none_left, one_more, this_faults, later_faults, word_arguments, argument_held, words_left, array_named, with_some}
 use Rattle.language.specs.Meaning as meaning
 use Rattle.language.specs.State.{State, Value, Word, single}
 use Rattle.language.specs.Tree.{ExprTree, ParameterTree}

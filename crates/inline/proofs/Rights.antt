@@ -9,7 +9,7 @@ use Rattle.language.specs.declared.signature.Label.{Label}
 use Rattle.language.specs.declared.typing.ValueType.TheVariants.{Word}
 use Rattle.language.specs.declared.typing.WordType.{WordType}
 use Rattle.language.specs.Grammatical.{IsSmallRight}
-use Rattle.language.specs.Meaning.{Rights, of_call, of_expr, expr_faults, Returned, word_given, gives, faults}
+use Rattle.language.specs.Meaning.{Rights, of_call, of_expr, expr_faults, Returned, word_given}
 use Rattle.language.specs.State.{State}
 use Rattle.language.specs.State as state
 use Rattle.language.specs.Tree.{RightTree, called, CallTree, ProcedureTree}

@@ -10,7 +10,6 @@ use Rattle.language.specs.declared.signature.Form.{Form}
 use Rattle.language.specs.declared.signature.Form.TheVariants.{SingleWord, FixedArray, MutableArray}
 use Rattle.language.specs.declared.signature.Kind.{Kind}
 use Rattle.language.specs.declared.signature.Kind.TheVariants.{Boolean, Uint32}
-use Rattle.language.specs.declared.signature.Label.{Label}
 use Rattle.language.specs.declared.values.Arg.{Arg}
 use Rattle.language.specs.declared.values.Arg.TheVariants as arg
 use Rattle.language.specs.Operators.{divides, truth_of, binary_word, prefix_word, rotated_word, converted_word, selected_word}
@@ -67,24 +66,24 @@ applied s e vs = gives (record { kind = Boolean; value = 0 })
 mutual
   -- in this state an expression comes to this
   pub data Evaluates (s : State) : ExprTree → Ending Word → Type 0 where
-    by_operands : {e : ExprTree} {vs : List Word}
+    by_operands : {e vs : _}
         → EvaluatesAll s (operands e) (gives vs)
         → Evaluates s e (applied s e vs)
-    operand_faults : {e : ExprTree} {place : Place}
+    operand_faults : {e place : _}
         → EvaluatesAll s (operands e) (faults place)
         → Evaluates s e (faults place)
 
   -- expressions, from left to right
   pub data EvaluatesAll (s : State) : List ExprTree → Ending (List Word) → Type 0 where
     none_left : EvaluatesAll s [] (gives [])
-    one_more : {e : ExprTree} {es : List ExprTree} {v : Word} {vs : List Word}
+    one_more : {e es v vs : _}
         → Evaluates s e (gives v)
         → EvaluatesAll s es (gives vs)
         → EvaluatesAll s (e ∷ es) (gives (v ∷ vs))
-    this_faults : {e : ExprTree} {es : List ExprTree} {place : Place}
+    this_faults : {e es place : _}
         → Evaluates s e (faults place)
         → EvaluatesAll s (e ∷ es) (faults place)
-    later_faults : {e : ExprTree} {es : List ExprTree} {v : Word} {place : Place}
+    later_faults : {e es v place : _}
         → Evaluates s e (gives v)
         → EvaluatesAll s es (faults place)
         → EvaluatesAll s (e ∷ es) (faults place)
@@ -175,16 +174,16 @@ counting s text i = with_value s text (single (record { kind = Uint32; value = i
 mutual
   -- with these earlier procedures, a call in a state
   pub data Calls : List ProcedureTree → State → CallTree → Ending Returned → Type 0 where
-    argument_faults : {ps before : List ProcedureTree} {p : ProcedureTree} {s : State} {c : CallTree} {place : Place}
+    argument_faults : {ps before s place : _} {p : ProcedureTree} {c : CallTree}
         → named [] ps c.name ≡ Some (before, p)
         → EvaluatesAll s (word_arguments p.parameters c.arguments) (faults place)
         → Calls ps s c (faults place)
-    body_faults : {ps before : List ProcedureTree} {p : ProcedureTree} {s : State} {c : CallTree} {vs : List Word} {place : Place}
+    body_faults : {ps before s vs place : _} {p : ProcedureTree} {c : CallTree}
         → named [] ps c.name ≡ Some (before, p)
         → EvaluatesAll s (word_arguments p.parameters c.arguments) (gives vs)
         → Bodies before p (begun s p.parameters c.arguments vs) (faults place)
         → Calls ps s c (faults place)
-    body_ends : {ps before : List ProcedureTree} {p : ProcedureTree} {s t : State} {c : CallTree} {vs : List Word} {w : Option Word}
+    body_ends : {ps before s t vs w : _} {p : ProcedureTree} {c : CallTree}
         → named [] ps c.name ≡ Some (before, p)
         → EvaluatesAll s (word_arguments p.parameters c.arguments) (gives vs)
         → Bodies before p (begun s p.parameters c.arguments vs) (gives (record { word = w; state = t }))
@@ -192,19 +191,19 @@ mutual
 
   -- a procedure's body and its `return`, in a map of its own
   pub data Bodies : List ProcedureTree → ProcedureTree → State → Ending Returned → Type 0 where
-    statements_fault : {ps : List ProcedureTree} {p : ProcedureTree} {s : State} {place : Place}
+    statements_fault : {ps s place : _} {p : ProcedureTree}
         → RunsAll ps s p.body (faults place)
         → Bodies ps p s (faults place)
-    returns_nothing : {ps : List ProcedureTree} {p : ProcedureTree} {s t : State}
+    returns_nothing : {ps s t : _} {p : ProcedureTree}
         → RunsAll ps s p.body (gives t)
         → p.returned ≡ None
         → Bodies ps p s (gives (record { word = None; state = t }))
-    returns : {ps : List ProcedureTree} {p : ProcedureTree} {s t : State} {r : ReturnTree} {w : Word}
+    returns : {ps s t w : _} {p : ProcedureTree} {r : ReturnTree}
         → RunsAll ps s p.body (gives t)
         → p.returned ≡ Some r
         → Evaluates t r.value (gives w)
         → Bodies ps p s (gives (record { word = Some w; state = t }))
-    return_faults : {ps : List ProcedureTree} {p : ProcedureTree} {s t : State} {r : ReturnTree} {place : Place}
+    return_faults : {ps s t place : _} {p : ProcedureTree} {r : ReturnTree}
         → RunsAll ps s p.body (gives t)
         → p.returned ≡ Some r
         → Evaluates t r.value (faults place)
@@ -212,86 +211,86 @@ mutual
 
   -- a right side
   pub data Rights : List ProcedureTree → State → RightTree → Ending Returned → Type 0 where
-    of_call : {ps : List ProcedureTree} {s : State} {c : CallTree} {ending : Ending Returned}
+    of_call : {ps s c ending : _}
         → Calls ps s c ending
         → Rights ps s (called c) ending
-    of_expr : {ps : List ProcedureTree} {s : State} {e : ExprTree} {v : Word}
+    of_expr : {ps s e v : _}
         → Evaluates s e (gives v)
         → Rights ps s (computed e) (gives (record { word = Some v; state = s }))
-    expr_faults : {ps : List ProcedureTree} {s : State} {e : ExprTree} {place : Place}
+    expr_faults : {ps s e place : _}
         → Evaluates s e (faults place)
         → Rights ps s (computed e) (faults place)
 
   -- a statement
   pub data Runs : List ProcedureTree → State → StatementTree → Ending State → Type 0 where
-    declares : {ps : List ProcedureTree} {s : State} {place : Place} {label : Label} {mutable : Bool} {kind : Kind} {text : List ℕ} {right : RightTree} {r : Returned}
+    declares : {ps s place label mutable kind text right : _} {r : Returned}
         → Rights ps s right (gives r)
         → Runs ps s (declaration place label mutable kind text right) (gives (with_value r.state text (single (word_given r.word))))
-    declaration_faults : {ps : List ProcedureTree} {s : State} {place at : Place} {label : Label} {mutable : Bool} {kind : Kind} {text : List ℕ} {right : RightTree}
+    declaration_faults : {ps s place at label mutable kind text right : _}
         → Rights ps s right (faults at)
         → Runs ps s (declaration place label mutable kind text right) (faults at)
-    declares_array : {ps : List ProcedureTree} {s : State} {place : Place} {label : Label} {mutable : Bool} {kind : Kind} {size : ℕ} {text : List ℕ} {values : Option (List ExprTree)} {vs : List Word}
+    declares_array : {ps s place label mutable kind size text values vs : _}
         → EvaluatesAll s (written values) (gives vs)
         → Runs ps s (array_declaration place label mutable kind size text values) (gives (with_value s text (made_array kind size vs)))
-    first_value_faults : {ps : List ProcedureTree} {s : State} {place at : Place} {label : Label} {mutable : Bool} {kind : Kind} {size : ℕ} {text : List ℕ} {values : Option (List ExprTree)}
+    first_value_faults : {ps s place at label mutable kind size text values : _}
         → EvaluatesAll s (written values) (faults at)
         → Runs ps s (array_declaration place label mutable kind size text values) (faults at)
-    assigns : {ps : List ProcedureTree} {s : State} {place target : Place} {text : List ℕ} {right : RightTree} {r : Returned}
+    assigns : {ps s place target text right : _} {r : Returned}
         → Rights ps s right (gives r)
         → Runs ps s (assignment place target text right) (gives (with_value r.state text (single (word_given r.word))))
-    assignment_faults : {ps : List ProcedureTree} {s : State} {place target at : Place} {text : List ℕ} {right : RightTree}
+    assignment_faults : {ps s place target at text right : _}
         → Rights ps s right (faults at)
         → Runs ps s (assignment place target text right) (faults at)
     -- the element is evaluated first, as a part of an expression would be: its index is tested before the right side
-    target_faults : {ps : List ProcedureTree} {s : State} {place bracket target at : Place} {text : List ℕ} {index : ExprTree} {right : RightTree}
+    target_faults : {ps s place bracket target at text index right : _}
         → Evaluates s (element bracket target text index) (faults at)
         → Runs ps s (element_assignment place bracket target text index right) (faults at)
-    right_faults : {ps : List ProcedureTree} {s : State} {place bracket target at : Place} {text : List ℕ} {index : ExprTree} {right : RightTree} {old : Word}
+    right_faults : {ps s place bracket target at text index right old : _}
         → Evaluates s (element bracket target text index) (gives old)
         → Rights ps s right (faults at)
         → Runs ps s (element_assignment place bracket target text index right) (faults at)
-    assigns_element : {ps : List ProcedureTree} {s : State} {place bracket target : Place} {text : List ℕ} {index : ExprTree} {right : RightTree} {old i : Word} {r : Returned}
+    assigns_element : {ps s place bracket target text index right old : _} {i : Word} {r : Returned}
         → Evaluates s (element bracket target text index) (gives old)
         → Evaluates s index (gives i)
         → Rights ps s right (gives r)
         → Runs ps s (element_assignment place bracket target text index right) (gives (with_some r.state text (with_element (r.state text) i.value (word_given r.word))))
-    calls : {ps : List ProcedureTree} {s : State} {c : CallTree} {r : Returned}
+    calls : {ps s c : _} {r : Returned}
         → Calls ps s c (gives r)
         → Runs ps s (call c) (gives r.state)
-    call_faults : {ps : List ProcedureTree} {s : State} {c : CallTree} {at : Place}
+    call_faults : {ps s c at : _}
         → Calls ps s c (faults at)
         → Runs ps s (call c) (faults at)
-    condition_faults : {ps : List ProcedureTree} {s : State} {place at : Place} {condition : ExprTree} {accepted otherwise : BlockTree}
+    condition_faults : {ps s place at condition accepted otherwise : _}
         → Evaluates s condition (faults at)
         → Runs ps s (conditional place condition accepted otherwise) (faults at)
-    accepts : {ps : List ProcedureTree} {s : State} {place : Place} {condition : ExprTree} {accepted otherwise : BlockTree} {c : Word} {ending : Ending State}
+    accepts : {ps s place condition accepted otherwise ending : _} {c : Word}
         → Evaluates s condition (gives c)
         → truth_of c.value ≡ true
         → RunsAll ps s accepted ending
         → Runs ps s (conditional place condition accepted otherwise) ending
-    declines : {ps : List ProcedureTree} {s : State} {place : Place} {condition : ExprTree} {accepted otherwise : BlockTree} {c : Word} {ending : Ending State}
+    declines : {ps s place condition accepted otherwise ending : _} {c : Word}
         → Evaluates s condition (gives c)
         → truth_of c.value ≡ false
         → RunsAll ps s otherwise ending
         → Runs ps s (conditional place condition accepted otherwise) ending
-    bounds_fault : {ps : List ProcedureTree} {s : State} {place counter at : Place} {text : List ℕ} {low high : ExprTree} {body : BlockTree}
+    bounds_fault : {ps s place counter at text low high body : _}
         → EvaluatesAll s (low ∷ high ∷ []) (faults at)
         → Runs ps s (loop place counter text low high body) (faults at)
-    loops : {ps : List ProcedureTree} {s : State} {place counter : Place} {text : List ℕ} {low high : ExprTree} {body : BlockTree} {a b : Word} {ending : Ending State}
+    loops : {ps s place counter text low high body ending : _} {a b : Word}
         → EvaluatesAll s (low ∷ high ∷ []) (gives (a ∷ b ∷ []))
         → Turns ps s text body a.value b.value ending
         → Runs ps s (loop place counter text low high body) ending
 
   -- the turns of a loop from one number to another
   pub data Turns : List ProcedureTree → State → List ℕ → BlockTree → ℕ → ℕ → Ending State → Type 0 where
-    no_turn : {ps : List ProcedureTree} {s : State} {text : List ℕ} {body : BlockTree} {i n : ℕ}
+    no_turn : {ps s text body i n : _}
         → n ≤ i
         → Turns ps s text body i n (gives s)
-    turn_faults : {ps : List ProcedureTree} {s : State} {text : List ℕ} {body : BlockTree} {i n : ℕ} {at : Place}
+    turn_faults : {ps s text body i n at : _}
         → i < n
         → RunsAll ps (counting s text i) body (faults at)
         → Turns ps s text body i n (faults at)
-    a_turn : {ps : List ProcedureTree} {s t : State} {text : List ℕ} {body : BlockTree} {i n : ℕ} {ending : Ending State}
+    a_turn : {ps s t text body i n ending : _}
         → i < n
         → RunsAll ps (counting s text i) body (gives t)
         → Turns ps t text body (i + 1) n ending
@@ -299,12 +298,12 @@ mutual
 
   -- statements in their order
   pub data RunsAll : List ProcedureTree → State → BlockTree → Ending State → Type 0 where
-    ends : {ps : List ProcedureTree} {s : State}
+    ends : {ps s : _}
         → RunsAll ps s nothing (gives s)
-    stops : {ps : List ProcedureTree} {s : State} {statement : StatementTree} {rest : BlockTree} {at : Place}
+    stops : {ps s statement rest at : _}
         → Runs ps s statement (faults at)
         → RunsAll ps s (first statement rest) (faults at)
-    goes_on : {ps : List ProcedureTree} {s t : State} {statement : StatementTree} {rest : BlockTree} {ending : Ending State}
+    goes_on : {ps s t statement rest ending : _}
         → Runs ps s statement (gives t)
         → RunsAll ps t rest ending
         → RunsAll ps s (first statement rest) ending
@@ -339,11 +338,11 @@ final_arrays t (p ∷ ps) = final_array p.form (t p.name) ++ final_arrays t ps
 
 -- what a program comes to on arguments: its return word and its `mut` arrays, in parameter order, or a fault
 pub data Gives (program : ProgramTree) (args : List Arg) : Ending Results → Type 0 where
-  ends_well : {before : List ProcedureTree} {p : ProcedureTree} {w : Option Word} {t : State}
+  ends_well : {before w t : _} {p : ProcedureTree}
       → exported [] program.procedures ≡ Some (before, p)
       → Bodies before p (holding p.parameters args) (gives (record { word = w; state = t }))
       → Gives program args (gives (record { returned = option_map (λ (v : Word). v.value) w; arrays = final_arrays t p.parameters }))
-  meets_fault : {before : List ProcedureTree} {p : ProcedureTree} {at : Place}
+  meets_fault : {before at : _} {p : ProcedureTree}
       → exported [] program.procedures ≡ Some (before, p)
       → Bodies before p (holding p.parameters args) (faults at)
       → Gives program args (faults at)

@@ -1,5 +1,5 @@
 -- What all passes accept is answered by its outcome, with a budget that the most work fits.
-use Rattle.std.proofs.Common.{◌≡◌, ◌||◌, ℕ, ◌≤◌, nat_lt, Bool, false, List, [], length, map, Some, Ok, Err, if◌then◌else◌, refl, sym, ap, ap₂, ◌∙◌, subst, arith}
+use Rattle.std.proofs.Common.{◌≡◌, ◌||◌, ℕ, ◌≤◌, nat_lt, Bool, false, List, [], length, map, Some, Ok, Err, if◌then◌else◌, ap, ap₂, ◌∙◌, subst, arith}
 use Rattle.std.proofs.lemmas.Bool.Decides.{nat_tests}
 use Rattle.std.specs.List.{AllByRecursion}
 use Rattle.arguments.specs.Within.{AreWithin}

@@ -1,18 +1,20 @@
 -- How many nodes the run of an expression evaluates, and how many are counted for what it becomes.
-use Rattle.std.proofs.Common.{◌≡◌, ◌≢◌, ℕ, ◌+◌, ◌≤◌, Bool, true, false, if◌then◌else◌, List, [], ◌∷◌, map, Option, Some, None, refl, sym, ◌∙◌, subst, arith}
+use Rattle.std.proofs.Common.{◌≡◌, ℕ, ◌+◌, ◌≤◌, Bool, true, false, if◌then◌else◌, List, [], ◌∷◌, Option, Some, None, refl, sym, ◌∙◌, subst, arith}
 use Rattle.word.specs.declared.place.Place.{Place}
 use Rattle.inline.specs.Flat.{FlatBlock, nothing, first, chain}
 use Rattle.inline.specs.Flat as flat
 use Rattle.inline.specs.FlatMeaning.{Values, after, after_all}
-use Rattle.inline.specs.FlatSize.{term_nodes, terms_nodes, value_nodes}
+use Rattle.inline.specs.FlatSize.{term_nodes, value_nodes}
 use Rattle.inline.specs.Numbering.{Numbers, term, passed as passed_block, value_given, value_of}
+use Rattle.inline.proofs.CallSizes.{same_nodes}
 use Rattle.inline.proofs.Comes.{Comes, well, fails}
-use Rattle.intervals.specs.Evaluated.{evaluated, evaluated_all}
-use Rattle.language.specs.Evaluation.{Run, ended, given, tick, inside, andthen, continued, value, values, passed, return_run}
+use Rattle.intervals.specs.Evaluated.{evaluated_all}
+use Rattle.language.specs.Evaluation.{Run, tick, inside, andthen, continued, value, values, passed, return_run}
 use Rattle.language.specs.Meaning.{Ending, gives, faults, is_word, word_arguments}
 use Rattle.language.specs.Size.{nodes_in, nodes_in_all, nodes_passed}
 use Rattle.language.specs.State.{State}
 use Rattle.language.specs.Tree.{ExprTree, number, truth, name, prefix, binary, rotate, convert, select, element, ParameterTree, ReturnTree}
+use Rattle.source_eval.proofs.RunEnds.{mismatch}
 
 -- Parts.
 
@@ -36,9 +38,6 @@ inside_within r most h = h
 
 same_result : {A : Type 0} (a b : A) → gives a ≡ gives b → a ≡ b
 same_result a b h = cc
-
-mismatch : {A : Type 0} (a : A) (place : Place) → gives a ≢ faults place
-mismatch a place h = cc
 
 -- what a part gives is as it should be
 pub reached : {A : Type 0} {Is : Ending A → Type 0} {Good : A → Type 0} {fault : Option Place} → Comes Is Good fault → (ending : Ending A) → ((other : Ending A) → Is other → ending ≡ other) → (a : A) → ending ≡ gives a → Good a
@@ -75,22 +74,6 @@ passed_spends s [] = omega arith
 passed_spends s (e ∷ es) =
     tick_within _ (nodes_in e + nodes_passed es) _
     (then_within (value s e) _ (nodes_in e) (nodes_passed es) _ (value_spends s e) (λ v is. then_within (passed s es) _ (nodes_passed es) 0 _ (passed_spends s es) (λ vs is'. omega arith) (omega arith)) (omega arith)) (omega arith)
-
--- an expression has as many nodes once its names are numbers
-pub same_nodes : (names : Numbers) (e : ExprTree) → term_nodes (term names e) ≡ nodes_in e
-same_nodes names (number place v kind) = refl
-same_nodes names (truth place v) = refl
-same_nodes names (name place text) = refl
-same_nodes names (prefix place operator a) = omega (arith, same_nodes names a)
-same_nodes names (binary place operator a b) = omega (arith, same_nodes names a, same_nodes names b)
-same_nodes names (rotate place a amount) = omega (arith, same_nodes names a)
-same_nodes names (convert place kind a) = omega (arith, same_nodes names a)
-same_nodes names (select place a b c) = omega (arith, same_nodes names a, same_nodes names b, same_nodes names c)
-same_nodes names (element place target text a) = omega (arith, same_nodes names a)
-
-pub all_same_nodes : (names : Numbers) (es : List ExprTree) → terms_nodes (map (term names) es) ≡ nodes_in_all es
-all_same_nodes names [] = refl
-all_same_nodes names (e ∷ es) = omega (arith, same_nodes names e, all_same_nodes names es)
 
 -- the end of a body
 pub return_spends : (t : State) (o : Option ReturnTree) (names : Numbers) → (return_run t o).nodes ≤ value_nodes (value_of names o)

@@ -1,30 +1,26 @@
 -- A program that violates no rule evaluates no more nodes than are counted for the one body that it becomes.
-use Rattle.std.proofs.Common.{◌≡◌, ℕ, ◌+◌, ◌≤◌, List, [], ◌∷◌, ◌++◌, length, map, Option, Some, slice_get, sym, subst, arith}
+use Rattle.std.proofs.Common.{◌≡◌, ◌+◌, ◌≤◌, List, [], ◌++◌, length, map, Option, Some, sym, subst, arith}
 use Rattle.std.specs.List.{AllByRecursion}
 use Rattle.arguments.specs.Within.{AreWithin}
-use Rattle.inline.specs.FlatMeaning.{Values, given}
+use Rattle.inline.specs.FlatMeaning.{given}
 use Rattle.inline.specs.FlatSize.{value_nodes}
 use Rattle.inline.specs.FlatTyping.{parameter_types}
-use Rattle.inline.specs.Numbering.{Numbers, param_of, callables, parameter_names, names_after_all, value_of, flattened, block, declared_in_all}
-use Rattle.inline.proofs.FlatMeanings.{IsKept, begins, behaves}
+use Rattle.inline.specs.Numbering.{param_of, callables, parameter_names, names_after_all, value_of, flattened, block, declared_in_all}
+use Rattle.inline.proofs.Called.{IsKept}
+use Rattle.inline.proofs.FlatMeanings.{begins, behaves}
 use Rattle.inline.proofs.Parameters.{shows_arguments, all_own, linked_parameters}
-use Rattle.inline.proofs.Procedures.{Stand, own_typing, variables_within, earlier_within}
-use Rattle.inline.proofs.Terms.{Shows}
+use Rattle.inline.proofs.Procedures.{Stand, IsCallable, callable_parameters, callable_within, own_typing, variables_within}
 use Rattle.intervals.specs.Evaluated.{evaluated_all, evaluated_by}
 use Rattle.language.specs.declared.values.Arg.{Arg}
-use Rattle.language.specs.Evaluation.{Run, inside, run_all, return_run, body_run, export_run, found_run, program_run}
+use Rattle.language.specs.Evaluation.{inside, run_all, body_run, runnables, export_run, found_run, program_run}
 use Rattle.language.specs.Grammatical.{IsGrammatical}
 use Rattle.language.specs.Meaning.{exported, holding}
 use Rattle.language.specs.Tree.{ProcedureTree, ProgramTree}
 use Rattle.language.specs.Types.{Scope}
 use Rattle.language.specs.Typing.{violations, with_procedure}
 use Rattle.language.specs.WellTyped as rules
-use Rattle.source_eval.proofs.KnownProcedures.{known_of}
 use Rattle.run_bounds.proofs.Counts.{then_within, inside_within, return_spends}
-use Rattle.run_bounds.proofs.Spending.{BodySpends, Spends, CallsSpend, spend_within, block_spends}
-
-abbrev HasBound : List ProcedureTree → Scope → ProcedureTree → Type 0
-HasBound before scope p = Spends before p
+use Rattle.run_bounds.proofs.Spending.{Spends, HasBound, block_spends}
 
 module _ (before : List ProcedureTree) (scope : Scope) (p : ProcedureTree) (stand : Stand HasBound before scope) (typed : rules.IsProcedure before scope p) (plain : IsGrammatical p) where
   -- what stands for the meaning alone
@@ -38,11 +34,6 @@ module _ (before : List ProcedureTree) (scope : Scope) (p : ProcedureTree) (stan
         record { before = known.before; at = known.at; is = known.is; quiet = known.quiet; good = known.good.behaves };
   }
 
-  calls_within : CallsSpend before (with_procedure scope (length before) p)
-  calls_within text c q is there =
-      let known = stand.callable text c q (earlier_within HasBound before scope stand p typed.is_new text c q is there) there in
-      record { before = known.before; named = known.is; good = known.good }
-
   abbrev body_spends : Spends before p
   body_spends = record {
     behaves = behaves before scope p meant typed plain;
@@ -50,8 +41,8 @@ module _ (before : List ProcedureTree) (scope : Scope) (p : ProcedureTree) (stan
         let known = callables before in
         let tree = block known names n p.body in
         let value = value_of (names_after_all known names n p.body) p.returned in
-        then_within (run_all (known_of before) s p.body) _ (evaluated_all m tree) (value_nodes value) _
-        (block_spends before typed.body names n (begins before scope p meant typed plain names types n linked) (spend_within before p.parameters (with_procedure scope (length before) p) calls_within) plain.body s m shows)
+        then_within (run_all (runnables before) s p.body) _ (evaluated_all m tree) (value_nodes value) _
+        (block_spends before typed.body names n (begins before scope p meant typed plain names types n linked) (callable_parameters before (IsCallable HasBound before) p.parameters (with_procedure scope (length before) p) (callable_within HasBound before scope stand p typed.is_new)) plain.body s m shows)
         (λ t is. return_spends t p.returned (names_after_all known names n p.body)) (omega arith);
   }
 
@@ -69,8 +60,8 @@ export_spends program before p args h is grammatical plain within =
     let from = given (all_own p.parameters ++ declared_in_all known p.body) args in
     let linked = linked_parameters scope variables p.parameters e.typed.parameters in
     let spent = (body_spends before e.scope p e.stand e.typed plain).spends names (parameter_types (map param_of p.parameters)) n start from linked (shows_arguments p.parameters (declared_in_all known p.body) args within) in
-    then_within (inside (body_run (known_of before) p start)) _ (evaluated_by (flattened before p) args) 0 _
-    (inside_within (body_run (known_of before) p start) (evaluated_by (flattened before p) args) spent) (λ r is'. omega arith) (omega arith)
+    then_within (inside (body_run (runnables before) p start)) _ (evaluated_by (flattened before p) args) 0 _
+    (inside_within (body_run (runnables before) p start) (evaluated_by (flattened before p) args) spent) (λ r is'. omega arith) (omega arith)
 
 pub program_spends : (program : ProgramTree) (before : List ProcedureTree) (p : ProcedureTree) (args : List Arg) → length (violations program) ≡ 0 → exported [] program.procedures ≡ Some (before, p)
     → AllByRecursion IsGrammatical before → IsGrammatical p → AreWithin (map param_of p.parameters) args → (program_run program args).nodes ≤ evaluated_by (flattened before p) args

@@ -1,59 +1,53 @@
 -- A well-typed statement evaluates no more nodes than are counted for what it becomes.
-use Rattle.std.proofs.Common.{◌≡◌, ℕ, zero, suc, ◌+◌, ◌-◌, ◌<◌, ◌≤◌, ◌==◌, ◌⊎◌, inl, inr, Bool, true, false, not, if◌then◌else◌, List, [], ◌∷◌, length, map, Option, Some, None, slice_get, refl, sym, ap, ◌∙◌, subst, arith}
-use Rattle.std.specs.Str.{bytes_eq}
+use Rattle.std.proofs.Common.{◌≡◌, ℕ, zero, suc, ◌+◌, ◌-◌, ◌≤◌, ◌==◌, Bool, true, false, not, if◌then◌else◌, List, [], ◌∷◌, length, Option, Some, None, refl, sym, ap, subst, arith}
 use Rattle.inline.specs.declared.numbering.Numbered.{Numbered}
-use Rattle.inline.specs.Flat.{FlatBlock, chain, word_as}
+use Rattle.inline.specs.Flat.{chain, word_as}
 use Rattle.inline.specs.Flat as flat_tree
 use Rattle.inline.specs.FlatMeaning.{Values, value_in, after_all}
 use Rattle.inline.specs.FlatMeaning as flat
-use Rattle.inline.specs.FlatSize.{term_nodes, terms_nodes, value_nodes}
+use Rattle.inline.specs.FlatSize.{term_nodes, value_nodes}
 use Rattle.inline.specs.FlatTyping.{Types, counter_type}
 use Rattle.inline.specs.Numbering as numbering
 use Rattle.inline.specs.Numbering.{Numbers, Callable, callable, callables, single as single_block, begun as begun_names, passed as passed_block, passed_variables, number_of, size_of, term, block, naming, names_after, names_after_all, numbers_taken, numbers_taken_all, right, right_block, right_end, call_block, call_value, call_result, call_variables, value_given, value_of, dropped_block}
 use Rattle.inline.proofs.Begun.{Enters, enters, distinct_none}
 use Rattle.inline.proofs.Called.{Ready, ready_later, ready_declared, ready_after, Behaves}
-use Rattle.inline.proofs.CallEnds.{call_means}
-use Rattle.inline.proofs.Comes.{Comes}
+use Rattle.inline.proofs.CallEnds.{call_means, no_names}
+use Rattle.inline.proofs.CallSizes.{same_nodes, same_all}
 use Rattle.inline.proofs.FlatEnds.{same_end, same_ends}
-use Rattle.inline.proofs.FlatTypes.{small_values}
-use Rattle.inline.proofs.KnownLemmas as known_lemmas
 use Rattle.inline.proofs.Linked.{Linked, entry}
-use Rattle.inline.proofs.Lookup.{found-kept, found-split}
-use Rattle.inline.proofs.Parameters.{NoVariables, typed_with}
+use Rattle.inline.proofs.Lookup.{found-kept}
+use Rattle.inline.proofs.Parameters.{typed_with}
 use Rattle.inline.proofs.Passing.{passed_comes}
+use Rattle.inline.proofs.Procedures.{EachCallable, IsCallable, callable_after, callable_declared}
 use Rattle.inline.proofs.States.{shows_declared, shows_before, shows_kept, with_value-other}
-use Rattle.inline.proofs.Terms.{Holds, Shows, word_at, means}
-use Rattle.std.proofs.lemmas.Option.{none-some}
-use Rattle.intervals.specs.Evaluated.{evaluated, evaluated_all, evaluated_in_turns}
-use Rattle.language.specs.declared.signature.Kind.TheVariants.{Boolean, Uint32}
+use Rattle.inline.proofs.Terms.{Shows, word_at, means}
+use Rattle.intervals.specs.Evaluated.{evaluated_all, evaluated_in_turns}
+use Rattle.language.specs.declared.signature.Kind.TheVariants.{Uint32}
 use Rattle.language.specs.declared.signature.Label.{Label}
 use Rattle.language.specs.declared.typing.Callee.{Callee}
-use Rattle.language.specs.declared.typing.Declared.TheVariants.{Procedure, Variable}
 use Rattle.language.specs.declared.typing.ValueType.{ValueType}
 use Rattle.language.specs.declared.typing.ValueType.TheVariants.{Word as a_word}
-use Rattle.language.specs.declared.typing.VariableType.{VariableType}
 use Rattle.language.specs.declared.typing.WordType.{WordType}
-use Rattle.language.specs.Evaluation.{Run, Known, ended, given, tick, inside, andthen, value, values, passed, call_run, right_run, turns, set_run, element_run, array_run, branch_run, loop_run, run, run_all, body_run}
+use Rattle.language.specs.Evaluation.{Run, Runnable, runnable, runnables, given, inside, value, values, passed, call_run, right_run, turns, run, run_all, body_run}
 use Rattle.language.specs.Grammatical.{AreAllSmall, IsSmallRight, IsPlain, ArePlain}
-use Rattle.language.specs.Meaning.{Ending, gives, faults, named, begun, counting, element_held, word_arguments, written}
-use Rattle.language.specs.Operators.{truth_of}
+use Rattle.language.specs.Meaning.{gives, begun, counting, word_arguments, written}
 use Rattle.language.specs.Size.{nodes_in, nodes_in_all, nodes_passed}
 use Rattle.language.specs.State.{State, Word, single}
-use Rattle.language.specs.Tree.{ExprTree, CallTree, RightTree, called, computed, StatementTree, BlockTree, ProcedureTree, ParameterTree}
+use Rattle.language.specs.Tree.{ExprTree, CallTree, RightTree, called, computed, StatementTree, BlockTree, ProcedureTree}
 use Rattle.language.specs.Types.{Scope}
-use Rattle.language.specs.Typing.{with_parameters, scope_after, parameter_as}
+use Rattle.language.specs.Typing.{with_parameters}
 use Rattle.language.specs.WellTyped as rules
-use Rattle.names.specs.Scope.{found, declared}
-use Rattle.source_eval.proofs.KnownProcedures.{known_of, known_after, known-named}
+use Rattle.names.specs.Scope.{found}
+use Rattle.language.proofs.KnownLemmas.{known-named}
 use Rattle.source_eval.proofs.WorkedOut.{value-worked, passed-worked, statement-worked, block-worked}
-use Rattle.run_bounds.proofs.Counts.{then_within, tick_within, inside_within, reached, value_spends, values_spend, passed_spends, same_nodes, all_same_nodes, given_nodes, evaluated_chain, passed_evaluated}
+use Rattle.run_bounds.proofs.Counts.{then_within, tick_within, inside_within, reached, value_spends, values_spend, passed_spends, given_nodes, evaluated_chain, passed_evaluated}
 
 -- Procedures that may be called.
 
 -- a body evaluates no more nodes than are counted for what it becomes
 abbrev pub BodySpends : List ProcedureTree → ProcedureTree → Numbers → ℕ → State → Values → Type 0
 BodySpends before p names n s m =
-    (body_run (known_of before) p s).nodes
+    (body_run (runnables before) p s).nodes
     ≤ evaluated_all m (block (callables before) names n p.body) + value_nodes (value_of (names_after_all (callables before) names n p.body) p.returned)
 
 -- wherever its names go together with numbers
@@ -61,48 +55,12 @@ pub record Spends (before : List ProcedureTree) (p : ProcedureTree) : Type 0 whe
   pub behaves : Behaves before p
   pub spends : (names : Numbers) (types : Types) (n : ℕ) (s : State) (m : Values) → Linked (with_parameters behaves.scope p.parameters) names types n → Shows names s m → BodySpends before p names n s m
 
--- a name stands for a procedure that does so
-pub record Counted (earlier : List ProcedureTree) (text : List ℕ) (p : ProcedureTree) : Type 0 where
-  pub before : List ProcedureTree
-  pub named : named [] earlier text ≡ Some (before, p)
-  pub good : Spends before p
+-- the statement that each procedure meets, in the scope of those before it
+abbrev pub HasBound : List ProcedureTree → Scope → ProcedureTree → Type 0
+HasBound before scope p = Spends before p
 
 abbrev pub CallsSpend : List ProcedureTree → Scope → Type 0
-CallsSpend earlier scope = (text : List ℕ) (c : Callee) (p : ProcedureTree) → found scope text ≡ Some (Procedure c) → slice_get earlier c.number ≡ Some p → Counted earlier text p
-
--- after a declaration
-pub still_spend : (earlier : List ProcedureTree) (scope : Scope) (text : List ℕ) (v : VariableType) → CallsSpend earlier scope → CallsSpend earlier (declared scope text (Variable v))
-still_spend earlier scope text v calls other c p is there = by_name (found-split scope text (Variable v) other (Procedure c) is)
-  where
-    no_procedure : (v : VariableType) (c : Callee) → Variable v ≡ Procedure c → ⊥
-    no_procedure v c h = cc
-
-    by_name : (found scope other ≡ Some (Procedure c)) ⊎ ((bytes_eq other text ≡ true) × (Variable v ≡ Procedure c)) → Counted earlier other p
-    by_name (inl old) = calls other c p old there
-    by_name (inr new) = absurd (no_procedure v c new.1)
-
-pub spend_within : (earlier : List ProcedureTree) (ps : List ParameterTree) (scope : Scope) → CallsSpend earlier scope → CallsSpend earlier (with_parameters scope ps)
-spend_within earlier [] scope calls = calls
-spend_within earlier (p ∷ ps) scope calls = spend_within earlier ps (declared scope p.name (parameter_as p)) (still_spend earlier scope p.name _ calls)
-
-spend_after : (earlier : List ProcedureTree) {scope : Scope} {control : Label} {s : StatementTree} → rules.IsWellTyped earlier scope control s → CallsSpend earlier scope → CallsSpend earlier (scope_after scope s)
-spend_after earlier (rules.declares {scope = scope} {text = text} new has suit flow) calls = still_spend earlier scope text _ calls
-spend_after earlier (rules.declares_array {scope = scope} {text = text} new all count flow) calls = still_spend earlier scope text _ calls
-spend_after earlier (rules.assigns is has suit flow) calls = calls
-spend_after earlier (rules.assigns_element is has value suit flow) calls = calls
-spend_after earlier (rules.calls is) calls = calls
-spend_after earlier (rules.chooses has one other) calls = calls
-spend_after earlier (rules.repeats low high new inner) calls = calls
-
--- before the first parameter
-no_names : (scope : Scope) → NoVariables scope → (types : Types) (n : ℕ) → ((x : ℕ) → n ≤ x → types x ≡ None) → Linked scope [] types n
-no_names scope none types n fresh = record {
-  known = λ text v is. absurd (none text v is);
-  none = λ text is. refl;
-  below = λ text x is. absurd (none-some x is);
-  apart = λ a b x y is is' equal free. absurd (none-some x is);
-  fresh = fresh;
-}
+CallsSpend earlier scope = EachCallable earlier (IsCallable HasBound earlier) scope
 
 -- Turns, where each evaluates no more nodes than are counted for it.
 turns_spend : (turn : ℕ → State → Run State) (step : ℕ → Values → Values) (count : ℕ → Values → ℕ) (names : Numbers)
@@ -129,7 +87,7 @@ dropped_evaluated k (Some word) value m none = omega (arith, given_nodes value)
 module _ (ps : List ProcedureTree) where
   module _ (scope : Scope) (names : Numbers) (n : ℕ) (ready : Ready ps scope names n) where
     -- a call
-    module _ (c : CallTree) (p : ProcedureTree) (counted : Counted ps c.name p) (passed_are : rules.ArePassed scope p.parameters c.arguments) where
+    module _ (c : CallTree) (callee : Callee) (p : ProcedureTree) (counted : IsCallable HasBound ps c.name callee p) (passed_are : rules.ArePassed scope p.parameters c.arguments) where
       abbrev own : Numbers
       own = begun_names names [] n p.parameters c.arguments
 
@@ -144,10 +102,10 @@ module _ (ps : List ProcedureTree) where
           enters scope names passed_are counted.good.behaves.scope [] ready.types n counted.good.behaves.parameters ready.linked
           (no_names counted.good.behaves.scope counted.good.behaves.procedures ready.types n ready.linked.fresh) (distinct_none names p.parameters c.arguments)
 
-      abbrev CallSpends : Option Known → Option Callable → State → Values → Type 0
+      abbrev CallSpends : Option Runnable → Option Callable → State → Values → Type 0
       CallSpends known there s m = (call_run known s c).nodes ≤ 1 + evaluated_all m (call_block there names n c.arguments) + value_nodes (call_value there names n c.arguments)
 
-      own_spends : (s : State) (m : Values) → Shows names s m → AreAllSmall c.arguments → CallSpends (Some (known_after counted.before p)) (Some (callable (callables counted.before) p)) s m
+      own_spends : (s : State) (m : Values) → Shows names s m → AreAllSmall c.arguments → CallSpends (Some (runnable (runnables counted.before) p)) (Some (callable (callables counted.before) p)) s m
       own_spends s m shows small =
           let words = word_arguments p.parameters c.arguments in
           let tree = passed_block names n p.parameters c.arguments in
@@ -161,28 +119,28 @@ module _ (ps : List ProcedureTree) where
           (λ vs is.
           let held = reached (passed_comes scope names ready.types s passed_are small n ready.linked m shows) (passed s words).ends (λ e d. passed-worked s words e d) vs is in
           let began = begun s p.parameters c.arguments vs in
-          then_within (inside (body_run (known_of counted.before) p began)) _ inner 0 _
-          (inside_within (body_run (known_of counted.before) p began) inner (counted.good.spends own own_types start began middle entered.linked (λ text x there. held [] text x refl there)))
+          then_within (inside (body_run (runnables counted.before) p began)) _ inner 0 _
+          (inside_within (body_run (runnables counted.before) p began) inner (counted.good.spends own own_types start began middle entered.linked (λ text x there. held [] text x refl there)))
           (λ r is'. omega arith) (omega arith))
           (omega arith))
           (omega (arith, whole, first))
 
-      call_spends_here : (s : State) (m : Values) → Shows names s m → AreAllSmall c.arguments → CallSpends (known_of ps c.name) (callables ps c.name) s m
+      call_spends_here : (s : State) (m : Values) → Shows names s m → AreAllSmall c.arguments → CallSpends (runnables ps c.name) (callables ps c.name) s m
       call_spends_here s m shows small =
-          subst (λ known. CallSpends known (callables ps c.name) s m) (sym (known-named ps counted.before p c.name counted.named))
-          (subst (λ there. CallSpends (Some (known_after counted.before p)) there s m) (sym (known_lemmas.known-named callable ps counted.before p c.name counted.named))
+          subst (λ known. CallSpends known (callables ps c.name) s m) (sym (known-named runnable ps counted.before p c.name counted.is))
+          (subst (λ there. CallSpends (Some (runnable (runnables counted.before) p)) there s m) (sym (known-named callable ps counted.before p c.name counted.is))
           (own_spends s m shows small))
 
     module _ (calls : CallsSpend ps scope) where
       call_spends : {control : Label} {c : CallTree} {type : ValueType} → rules.IsCall ps scope control c type → (s : State) (m : Values) → Shows names s m → AreAllSmall c.arguments
-          → (call_run (known_of ps c.name) s c).nodes ≤ 1 + evaluated_all m (call_block (callables ps c.name) names n c.arguments) + value_nodes (call_value (callables ps c.name) names n c.arguments)
-      call_spends (rules.of_procedure {c = c} {callee = callee} {p = p} is there are may) s m shows small = call_spends_here c p (calls c.name callee p is there) are s m shows small
+          → (call_run (runnables ps c.name) s c).nodes ≤ 1 + evaluated_all m (call_block (callables ps c.name) names n c.arguments) + value_nodes (call_value (callables ps c.name) names n c.arguments)
+      call_spends (rules.of_procedure {c = c} {callee = callee} {p = p} is there are may) s m shows small = call_spends_here c callee p (calls c.name callee p is there) are s m shows small
 
-      expression_spends : (s : State) (m : Values) (e : ExprTree) → (right_run (known_of ps) s (computed e)).nodes ≤ term_nodes (term names e)
+      expression_spends : (s : State) (m : Values) (e : ExprTree) → (right_run (runnables ps) s (computed e)).nodes ≤ term_nodes (term names e)
       expression_spends s m e = then_within (value s e) _ (nodes_in e) 0 _ (value_spends s e) (λ v is. omega arith) (omega (arith, same_nodes names e))
 
       right_spends : {control : Label} {from : RightTree} {word : WordType} → rules.Gives ps scope control from (a_word word) → (s : State) (m : Values) → Shows names s m → IsSmallRight from
-          → (right_run (known_of ps) s from).nodes ≤ evaluated_all m (right_block (callables ps) names n from) + term_nodes (right (callables ps) names n from)
+          → (right_run (runnables ps) s from).nodes ≤ evaluated_all m (right_block (callables ps) names n from) + term_nodes (right (callables ps) names n from)
       right_spends (rules.of_value {e = e} has) s m shows small = let one = expression_spends s m e in omega (arith, one)
       right_spends (rules.of_call {c = c} is) s m shows small =
           let tree = call_block (callables ps c.name) names n c.arguments in
@@ -193,25 +151,25 @@ module _ (ps : List ProcedureTree) where
 
   mutual
     pub statement_spends : {scope : Scope} {control : Label} {statement : StatementTree} → rules.IsWellTyped ps scope control statement → (names : Numbers) (n : ℕ) → Ready ps scope names n → CallsSpend ps scope
-        → IsPlain statement → (s : State) (m : Values) → Shows names s m → (run (known_of ps) s statement).nodes ≤ evaluated_all m (numbering.statement (callables ps) names n statement)
+        → IsPlain statement → (s : State) (m : Values) → Shows names s m → (run (runnables ps) s statement).nodes ≤ evaluated_all m (numbering.statement (callables ps) names n statement)
     statement_spends (rules.declares {scope = scope} {label = label} {mutable = mutable} {kind = kind} {right = from} new has suit flow) names n ready calls plain s m shows =
         let tree = right_block (callables ps) names n from in
         let taken = right (callables ps) names n from in
         let last = flat_tree.declare (right_end (callables ps) n from) (rules.labelled kind label) mutable taken in
         let whole : evaluated_all m (chain tree (single_block last)) ≡ evaluated_all m tree + (1 + term_nodes taken + 0) = evaluated_chain tree (single_block last) m in
         tick_within _ (evaluated_all m tree + term_nodes taken) _
-        (then_within (right_run (known_of ps) s from) _ (evaluated_all m tree + term_nodes taken) 0 _ (right_spends scope names n ready calls has s m shows plain) (λ r is. omega arith) (omega arith))
+        (then_within (right_run (runnables ps) s from) _ (evaluated_all m tree + term_nodes taken) 0 _ (right_spends scope names n ready calls has s m shows plain) (λ r is. omega arith) (omega arith))
         (omega (arith, whole))
     statement_spends (rules.declares_array {scope = scope} {values = initial} new all count flow) names n ready calls plain s m shows =
         let es = written initial in
-        tick_within _ (nodes_in_all es) _ (then_within (values s es) _ (nodes_in_all es) 0 _ (values_spend s es) (λ vs is. omega arith) (omega arith)) (omega (arith, all_same_nodes names es))
+        tick_within _ (nodes_in_all es) _ (then_within (values s es) _ (nodes_in_all es) 0 _ (values_spend s es) (λ vs is. omega arith) (omega arith)) (omega (arith, same_all names es))
     statement_spends (rules.assigns {scope = scope} {text = text} {right = from} is has suit flow) names n ready calls plain s m shows =
         let tree = right_block (callables ps) names n from in
         let taken = right (callables ps) names n from in
         let last = flat_tree.assign (number_of names text) taken in
         let whole : evaluated_all m (chain tree (single_block last)) ≡ evaluated_all m tree + (1 + term_nodes taken + 0) = evaluated_chain tree (single_block last) m in
         tick_within _ (evaluated_all m tree + term_nodes taken) _
-        (then_within (right_run (known_of ps) s from) _ (evaluated_all m tree + term_nodes taken) 0 _ (right_spends scope names n ready calls has s m shows plain) (λ r is'. omega arith) (omega arith))
+        (then_within (right_run (runnables ps) s from) _ (evaluated_all m tree + term_nodes taken) 0 _ (right_spends scope names n ready calls has s m shows plain) (λ r is'. omega arith) (omega arith))
         (omega (arith, whole))
     statement_spends (rules.assigns_element {scope = scope} {index = index} is has (rules.of_value {e = e} given) suit flow) names n ready calls plain s m shows =
         let i = nodes_in index in
@@ -220,7 +178,7 @@ module _ (ps : List ProcedureTree) where
         (tick_within _ (i + v) _
         (then_within (value s index) _ i v _ (value_spends s index)
         (λ u is'. then_within _ _ 0 v _ (omega arith)
-        (λ old there. then_within (right_run (known_of ps) s (computed e)) _ v 0 _ (expression_spends scope names n ready calls s m e) (λ r are. omega arith) (omega arith)) (omega arith)) (omega arith))
+        (λ old there. then_within (right_run (runnables ps) s (computed e)) _ v 0 _ (expression_spends scope names n ready calls s m e) (λ r are. omega arith) (omega arith)) (omega arith)) (omega arith))
         (omega arith))
         (omega (arith, same_nodes names index))
     statement_spends (rules.assigns_element {scope = scope} {bracket = bracket} {text = text} {index = index} is has (rules.of_call {c = c} given) suit flow) names n ready calls plain s m shows =
@@ -238,7 +196,7 @@ module _ (ps : List ProcedureTree) where
         (tick_within _ (i + v) _
         (then_within (value s index) _ i v _ (value_spends s index)
         (λ u is'. then_within _ _ 0 v _ (omega arith)
-        (λ old there. then_within (right_run (known_of ps) s (called c)) _ v 0 _ (call_spends scope names (n + 1) next calls given s began shown plain.1) (λ r are. omega arith) (omega arith)) (omega arith)) (omega arith))
+        (λ old there. then_within (right_run (runnables ps) s (called c)) _ v 0 _ (call_spends scope names (n + 1) next calls given s began shown plain.1) (λ r are. omega arith) (omega arith)) (omega arith)) (omega arith))
         (omega arith))
         (omega (arith, same_nodes names index, whole, given_nodes taken))
     statement_spends (rules.calls {scope = scope} {c = c} is) names n ready calls plain s m shows =
@@ -250,20 +208,20 @@ module _ (ps : List ProcedureTree) where
         let most = 1 + evaluated_all m tree + value_nodes taken in
         let whole = evaluated_chain tree (dropped_block k result taken) m in
         let dropped = dropped_evaluated k result taken (after_all m tree) known.nothing in
-        then_within (call_run (known_of ps c.name) s c) _ most 0 _ (call_spends scope names n ready calls is s m shows plain) (λ r are. omega arith) (omega (arith, whole, dropped))
+        then_within (call_run (runnables ps c.name) s c) _ most 0 _ (call_spends scope names n ready calls is s m shows plain) (λ r are. omega arith) (omega (arith, whole, dropped))
     statement_spends (rules.chooses {scope = scope} {condition = condition} {accepted = accepted} {otherwise = otherwise} has one other) names n ready calls plain s m shows =
         let k = n + numbers_taken_all (callables ps) accepted in
         let next = ready_later n k (omega arith) ready in
         let v = value_in m (term names condition) in
         let a = evaluated_all m (block (callables ps) names n accepted) in
         let o = evaluated_all m (block (callables ps) names k otherwise) in
-        let arms = arm_within (run_all (known_of ps) s accepted) (run_all (known_of ps) s otherwise) a o (block_spends one names n ready calls plain.1 s m shows) (block_spends other names k next calls plain.2 s m shows) (v == 0) in
+        let arms = arm_within (run_all (runnables ps) s accepted) (run_all (runnables ps) s otherwise) a o (block_spends one names n ready calls plain.1 s m shows) (block_spends other names k next calls plain.2 s m shows) (v == 0) in
         let most : ℕ = if v == 0 then o else a in
         tick_within _ (nodes_in condition + most) _
         (then_within (value s condition) _ (nodes_in condition) most _ (value_spends s condition)
         (λ c is.
         let same = reached ((means scope names ready.types n ready.linked has plain.0).value s m shows) (value s condition).ends (λ e d. value-worked s condition e d) c is in
-        subst (λ (w : Word). (if not (w.value == 0) then run_all (known_of ps) s accepted else run_all (known_of ps) s otherwise).nodes ≤ most) (sym same) arms)
+        subst (λ (w : Word). (if not (w.value == 0) then run_all (runnables ps) s accepted else run_all (runnables ps) s otherwise).nodes ≤ most) (sym same) arms)
         (omega arith))
         (omega (arith, same_nodes names condition))
     statement_spends (rules.repeats {scope = scope} {text = text} {low = low} {high = high} {body = body} one other new inner) names n ready calls plain s m shows =
@@ -274,11 +232,11 @@ module _ (ps : List ProcedureTree) where
         let flat_body = block (callables ps) inside_names (n + 1) body in
         let step = λ (i : ℕ) (t : Values). after_all (flat.with_value t n (i ∷ [])) flat_body in
         let count = λ (i : ℕ) (t : Values). evaluated_all (flat.with_value t n (i ∷ [])) flat_body in
-        let turn = λ (i : ℕ) (t : State). run_all (known_of ps) (counting t text i) body in
+        let turn = λ (i : ℕ) (t : State). run_all (runnables ps) (counting t text i) body in
         let began = λ (i : ℕ) (s : State) (m : Values) (shows : Shows names s m).
         shows_declared scope names ready.types n ready.linked s m shows text own (single (word_at Uint32 i)) (i ∷ []) (record { is = refl; count = refl }) new in
         let within = ready_declared n ready text own new in
-        let calls_within = still_spend ps scope text _ calls in
+        let calls_within = callable_declared ps (IsCallable HasBound ps) scope text _ calls in
         let each = λ (i : ℕ) (s : State) (m : Values) (shows : Shows names s m).
         block_spends inner inside_names (n + 1) within calls_within plain.2 (counting s text i) (flat.with_value m n (i ∷ [])) (began i s m shows) in
         let keeps = λ (i : ℕ) (s : State) (m : Values) (t : State) (shows : Shows names s m) (is : (turn i s).ends ≡ gives t).
@@ -300,7 +258,7 @@ module _ (ps : List ProcedureTree) where
         (omega (arith, same_nodes names low, same_nodes names high))
 
     pub block_spends : {scope : Scope} {control : Label} {b : BlockTree} → rules.AreWellTyped ps scope control b → (names : Numbers) (n : ℕ) → Ready ps scope names n → CallsSpend ps scope
-        → ArePlain b → (s : State) (m : Values) → Shows names s m → (run_all (known_of ps) s b).nodes ≤ evaluated_all m (block (callables ps) names n b)
+        → ArePlain b → (s : State) (m : Values) → Shows names s m → (run_all (runnables ps) s b).nodes ≤ evaluated_all m (block (callables ps) names n b)
     block_spends rules.no_statement names n ready calls plain s m shows = omega arith
     block_spends (rules.one_more {statement = statement} {rest = rest} here there) names n ready calls plain s m shows =
         let tree = numbering.statement (callables ps) names n statement in
@@ -308,9 +266,9 @@ module _ (ps : List ProcedureTree) where
         let later_names = names_after (callables ps) names n statement in
         let more = block (callables ps) later_names k rest in
         let whole = evaluated_chain tree more m in
-        then_within (run (known_of ps) s statement) _ (evaluated_all m tree) (evaluated_all (after_all m tree) more) _
+        then_within (run (runnables ps) s statement) _ (evaluated_all m tree) (evaluated_all (after_all m tree) more) _
         (statement_spends here names n ready calls plain.0 s m shows)
         (λ t is.
-        let good = reached (same_end ps here names n ready plain.0 s m shows) (run (known_of ps) s statement).ends (λ e d. statement-worked ps s statement e d) t is in
-        block_spends there later_names k (ready_after ps here names n ready) (spend_after ps here calls) plain.1 t (after_all m tree) good)
+        let good = reached (same_end ps here names n ready plain.0 s m shows) (run (runnables ps) s statement).ends (λ e d. statement-worked ps s statement e d) t is in
+        block_spends there later_names k (ready_after ps here names n ready) (callable_after ps (IsCallable HasBound ps) here calls) plain.1 t (after_all m tree) good)
         (omega (arith, whole))

@@ -1,6 +1,6 @@
 -- The turns of the loops of this crate, over the lists that they go through.
-use Rattle.std.proofs.Common.{◌≡◌, ℕ, ◌+◌, ◌<◌, ◌≤◌, true, false, List, [], ◌∷◌, ◌++◌, Some, None, Result, drop, take, length, get_or, map, cond, ◌==◌, ◌⊎◌, inl, inr, nat_lt, replicate, refl, sym, ap, ap₂, subst, ◌∙◌, arith}
-use Rattle.std.proofs.lemmas.List.{drop_more, drop_all, take_more, take-append-drop, map-append}
+use Rattle.std.proofs.Common.{◌≡◌, ℕ, ◌+◌, ◌<◌, ◌≤◌, true, false, List, [], ◌∷◌, ◌++◌, Result, drop, length, get_or, map, cond, ◌==◌, ◌⊎◌, inl, inr, nat_lt, replicate, refl, sym, ap, ap₂, subst, ◌∙◌, arith}
+use Rattle.std.proofs.lemmas.List.{drop_more, drop_all, map-append}
 use Rattle.std.proofs.lemmas.Bool.Decides.{nat_tests}
 use Rattle.std.proofs.lemmas.Result.{err_from_is_err_and}
 use Rattle.std.specs.Result.{IfErr, IsErrAnd}
@@ -9,13 +9,13 @@ use Rattle.language.specs.declared.signature.Form.TheVariants.{SingleWord, Fixed
 use Rattle.language.specs.declared.tree.Expr.{Expr}
 use Rattle.language.specs.declared.tree.Parameter.{Parameter}
 use Rattle.language.specs.declared.tree.Statement.{Statement}
-use Rattle.language.specs.Evaluation.{Run, Runnables, body_run, values, value, passed, run, run_all}
+use Rattle.language.specs.Evaluation.{Run, Runnables, values, value, passed, run, run_all}
 use Rattle.language.specs.Meaning.{word_arguments, is_word, copied_out, made_array}
 use Rattle.language.specs.declared.signature.Kind.{Kind}
 use Rattle.language.specs.State.{State, array}
 use Rattle.language.specs.State as state
-use Rattle.language.specs.Tree.{ExprTree, ParameterTree, expr_tree, parameter_tree, procedure_tree, statement_tree, block_tree, nothing}
-use Rattle.source_eval.specs.Metering.{Ended, Stopped, known_of}
+use Rattle.language.specs.Tree.{ExprTree, ParameterTree, expr_tree, parameter_tree, statement_tree, block_tree, nothing}
+use Rattle.source_eval.specs.Metering.{Ended, Stopped}
 use Rattle.source_eval.specs.Views.{word_of}
 use Rattle.source_eval.specs.declared.fault.EvalFault.{EvalFault}
 use Rattle.source_eval.specs.declared.fault.EvalFault.TheVariants.{Budget}

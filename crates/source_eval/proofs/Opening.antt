@@ -1,9 +1,9 @@
 -- How many bodies are open at once in a run: no more than in the text.
-use Rattle.std.proofs.Common.{◌≡◌, ℕ, zero, suc, ◌+◌, ◌-◌, ◌≤◌, Bool, true, false, if◌then◌else◌, List, [], ◌∷◌, Option, Some, None, max, refl, sym, subst, arith}
+use Rattle.std.proofs.Common.{◌≡◌, ℕ, zero, suc, ◌+◌, ◌-◌, ◌≤◌, Bool, true, false, if◌then◌else◌, List, [], ◌∷◌, Option, Some, None, max, sym, subst, arith}
 use Rattle.std.proofs.Math.Nat.{max-le, le-max_left, le-max_right}
 use Rattle.std.specs.Str.{bytes_eq}
 use Rattle.language.specs.declared.values.Arg.{Arg}
-use Rattle.language.specs.Evaluation.{Run, Runnable, Runnables, runnable, runnables, given, tick, inside, andthen, continued, value, passed, call_run, right_run, turns, set_run, element_run, branch_run, loop_run, run, run_all, body_run, found_run, export_run, program_run}
+use Rattle.language.specs.Evaluation.{Run, Runnable, Runnables, runnable, runnables, tick, inside, andthen, continued, value, passed, call_run, right_run, turns, run, run_all, body_run, found_run, export_run, program_run}
 use Rattle.language.specs.Known.{first_known, known_from, nothing_known, with_known}
 use Rattle.language.specs.Meaning.{Ending, gives, faults, begun, counting, exported, holding, word_arguments}
 use Rattle.language.specs.Operators.{truth_of}

@@ -60,13 +60,13 @@ mutual
   unfolding tick inside
 
   call-worked : (ps : List ProcedureTree) (s : State) (c : CallTree) (ending : Ending Returned) → Calls ps s c ending → (call_run (runnables ps c.name) s c).ends ≡ ending
-  call-worked ps s c ending (argument_faults {before = before} {p = p} {place = place} is d) =
+  call-worked ps s c ending (argument_faults {before = before} {place = place} {p = p} is d) =
       call-known ps before p s c is ∙ then-faults (passed s (word_arguments p.parameters c.arguments)) _ place (passed-worked s (word_arguments p.parameters c.arguments) (faults place) d)
-  call-worked ps s c ending (body_faults {before = before} {p = p} {vs = vs} {place = place} is d body) =
+  call-worked ps s c ending (body_faults {before = before} {vs = vs} {place = place} {p = p} is d body) =
       call-known ps before p s c is
       ∙ (then-gives (passed s (word_arguments p.parameters c.arguments)) _ vs (passed-worked s (word_arguments p.parameters c.arguments) (gives vs) d)
       ∙ then-faults (inside (body_run (runnables before) p (begun s p.parameters c.arguments vs))) _ place (body-worked before p (begun s p.parameters c.arguments vs) (faults place) body))
-  call-worked ps s c ending (body_ends {before = before} {p = p} {t = t} {vs = vs} {w = w} is d body) =
+  call-worked ps s c ending (body_ends {before = before} {t = t} {vs = vs} {w = w} {p = p} is d body) =
       let r : Returned = record { word = w; state = t } in
       call-known ps before p s c is
       ∙ (then-gives (passed s (word_arguments p.parameters c.arguments)) _ vs (passed-worked s (word_arguments p.parameters c.arguments) (gives vs) d)
@@ -76,10 +76,10 @@ mutual
   body-worked ps p s ending (statements_fault {place = place} d) = then-faults (run_all (runnables ps) s p.body) _ place (block-worked ps s p.body (faults place) d)
   body-worked ps p s ending (returns_nothing {t = t} d is) =
       then-gives (run_all (runnables ps) s p.body) _ t (block-worked ps s p.body (gives t) d) ∙ ap (λ o. (return_run t o).ends) is
-  body-worked ps p s ending (returns {t = t} {r = r} {w = w} d is v) =
+  body-worked ps p s ending (returns {t = t} {w = w} {r = r} d is v) =
       then-gives (run_all (runnables ps) s p.body) _ t (block-worked ps s p.body (gives t) d)
       ∙ (ap (λ o. (return_run t o).ends) is ∙ then-gives (value t r.value) _ w (value-worked t r.value (gives w) v))
-  body-worked ps p s ending (return_faults {t = t} {r = r} {place = place} d is v) =
+  body-worked ps p s ending (return_faults {t = t} {place = place} {r = r} d is v) =
       then-gives (run_all (runnables ps) s p.body) _ t (block-worked ps s p.body (gives t) d)
       ∙ (ap (λ o. (return_run t o).ends) is ∙ then-faults (value t r.value) _ place (value-worked t r.value (faults place) v))
 
@@ -137,10 +137,10 @@ mutual
 
 pub worked-out : (program : ProgramTree) (args : List Arg) (ending : Ending Results) → Gives program args ending → (program_run program args).ends ≡ ending
 unfolding inside
-worked-out program args ending (ends_well {before = before} {p = p} {w = w} {t = t} is d) =
+worked-out program args ending (ends_well {before = before} {w = w} {t = t} {p = p} is d) =
     let r : Returned = record { word = w; state = t } in
     ap (λ o. (found_run o args).ends) is
     ∙ then-gives (inside (body_run (runnables before) p (holding p.parameters args))) _ r (body-worked before p (holding p.parameters args) (gives r) d)
-worked-out program args ending (meets_fault {before = before} {p = p} {at = at} is d) =
+worked-out program args ending (meets_fault {before = before} {at = at} {p = p} is d) =
     ap (λ o. (found_run o args).ends) is
     ∙ then-faults (inside (body_run (runnables before) p (holding p.parameters args))) _ at (body-worked before p (holding p.parameters args) (faults at) d)
