@@ -1,4 +1,4 @@
-use Rattle.std.proofs.Common.{◌≡◌, ℕ, None, ap, ap₂, sym, subst, ◌∙◌, arith}
+use Rattle.std.proofs.Common.{◌≡◌, None, ap, ap₂, sym, subst, ◌∙◌, arith}
 use Rattle.inline.specs.Flat.{FlatBlock, FlatProgram}
 use Rattle.branch_removal.specs.private.Removal.{controls_in_all, removed_all, straightened}
 use Rattle.branch_removal.specs.Removed.{IsRemoved}
