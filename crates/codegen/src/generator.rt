@@ -11,7 +11,9 @@ ghost use Rattle.rv_code.specs.Words.{word_of};
 use crate::heights::{greatest_depth, greatest_height};
 use crate::statements::statements;
 use branch_removal::Straight;
-use expression_code::{Layout, REGISTER_COUNT, WORD_BYTES, emit, expression, height, offsets, slots};
+use expression_code::{
+    Layout, REGISTER_COUNT, WORD_BYTES, emit, expression, height, offsets, slots,
+};
 use image::{Image, ResultSlot};
 use rv_code::{Instr, Reg, encode};
 use std::alloc::{AllocError, Global};
