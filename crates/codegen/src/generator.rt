@@ -12,7 +12,9 @@ use crate::Code;
 use crate::heights::{greatest_depth, greatest_height};
 use crate::statements::statements;
 use branch_removal::Straight;
-use expression_code::{Layout, REGISTER_COUNT, WORD_BYTES, emit, expression, height, offsets, slots};
+use expression_code::{
+    Layout, REGISTER_COUNT, WORD_BYTES, emit, expression, height, offsets, slots,
+};
 use image_fields::{ImageFields, ResultSlot};
 use language::Refusal;
 use rv_code::{Instr, Reg, encode};

@@ -12,20 +12,20 @@ use crate::temporaries::SECOND_SPARE;
 use language::{BinaryOperator, Kind, PrefixOperator};
 use rv_code::{
     DivideOperation, Immediate12, ImmediateOperation, Instr, MultiplyOperation, Reg,
-    RegisterOperation, ShiftAmount, ShiftOperation,
+    RegisterOperation as Operation, ShiftAmount, ShiftOperation,
 };
 use std::alloc::AllocError;
 use word::Width;
 
 /// Two operands into the first.
-fn between(operation: RegisterOperation, l: Reg, r: Reg) -> Instr
+fn between(operation: Operation, l: Reg, r: Reg) -> Instr
     ensures { result ≡ Register operation l l r }
 {
     Instr::Register(operation, l, l, r)
 }
 
 /// Two operands, turned round, into the first.
-fn turned(operation: RegisterOperation, l: Reg, r: Reg) -> Instr
+fn turned(operation: Operation, l: Reg, r: Reg) -> Instr
     ensures { result ≡ Register operation l r l }
 {
     Instr::Register(operation, l, r, l)
@@ -84,14 +84,14 @@ fn is_zero(code: &mut Vec<Instr>, r: Reg) -> Result<(), AllocError>
 fn is_not_zero(code: &mut Vec<Instr>, r: Reg) -> Result<(), AllocError>
     ensures { OnOk result (code.new.items ≡ code.old.items ++ is_not_zero_code r) }
 {
-    alone(code, Instr::Register(RegisterOperation::Sltu, r, Reg::X0, r))
+    alone(code, Instr::Register(Operation::Sltu, r, Reg::X0, r))
 }
 
 /// 0 less a register.
 fn negate(code: &mut Vec<Instr>, r: Reg) -> Result<(), AllocError>
     ensures { OnOk result (code.new.items ≡ code.old.items ++ negation_code r) }
 {
-    alone(code, Instr::Register(RegisterOperation::Sub, r, Reg::X0, r))
+    alone(code, Instr::Register(Operation::Sub, r, Reg::X0, r))
 }
 
 /// An instruction, whose outcome in a register is cut where it is narrow.
@@ -127,7 +127,7 @@ fn gives_more(code: &mut Vec<Instr>, r: Reg, instruction: Instr) -> Result<(), A
 fn of_truths(code: &mut Vec<Instr>, l: Reg, r: Reg, instruction: Instr) -> Result<(), AllocError>
     ensures { OnOk result (code.new.items ≡ code.old.items ++ both_truths_code l r ++ instruction ∷ []) }
 {
-    code.push(Instr::Register(RegisterOperation::Sltu, r, Reg::X0, r))?;
+    code.push(Instr::Register(Operation::Sltu, r, Reg::X0, r))?;
     is_not_zero(code, l)?;
     alone(code, instruction)
 }
@@ -143,21 +143,21 @@ pub fn operator(
     ensures { OnOk result (code.new.items ≡ code.old.items ++ operator_code l r operator width) }
 {
     match operator {
-        BinaryOperator::Either => of_truths(code, l, r, between(RegisterOperation::Or, l, r)),
-        BinaryOperator::Both => of_truths(code, l, r, between(RegisterOperation::And, l, r)),
-        BinaryOperator::Equal => gives_zero(code, l, between(RegisterOperation::Sub, l, r)),
-        BinaryOperator::Unequal => gives_more(code, l, between(RegisterOperation::Sub, l, r)),
-        BinaryOperator::Less => alone(code, between(RegisterOperation::Sltu, l, r)),
-        BinaryOperator::LessOrEqual => gives_zero(code, l, turned(RegisterOperation::Sltu, l, r)),
-        BinaryOperator::Greater => alone(code, turned(RegisterOperation::Sltu, l, r)),
-        BinaryOperator::GreaterOrEqual => gives_zero(code, l, between(RegisterOperation::Sltu, l, r)),
-        BinaryOperator::BitOr => alone(code, between(RegisterOperation::Or, l, r)),
-        BinaryOperator::BitXor => alone(code, between(RegisterOperation::Xor, l, r)),
-        BinaryOperator::BitAnd => alone(code, between(RegisterOperation::And, l, r)),
-        BinaryOperator::ShiftLeft => narrowed(code, l, width, between(RegisterOperation::Sll, l, r)),
-        BinaryOperator::ShiftRight => narrowed(code, l, width, between(RegisterOperation::Srl, l, r)),
-        BinaryOperator::Add => narrowed(code, l, width, between(RegisterOperation::Add, l, r)),
-        BinaryOperator::Subtract => narrowed(code, l, width, between(RegisterOperation::Sub, l, r)),
+        BinaryOperator::Either => of_truths(code, l, r, between(Operation::Or, l, r)),
+        BinaryOperator::Both => of_truths(code, l, r, between(Operation::And, l, r)),
+        BinaryOperator::Equal => gives_zero(code, l, between(Operation::Sub, l, r)),
+        BinaryOperator::Unequal => gives_more(code, l, between(Operation::Sub, l, r)),
+        BinaryOperator::Less => alone(code, between(Operation::Sltu, l, r)),
+        BinaryOperator::LessOrEqual => gives_zero(code, l, turned(Operation::Sltu, l, r)),
+        BinaryOperator::Greater => alone(code, turned(Operation::Sltu, l, r)),
+        BinaryOperator::GreaterOrEqual => gives_zero(code, l, between(Operation::Sltu, l, r)),
+        BinaryOperator::BitOr => alone(code, between(Operation::Or, l, r)),
+        BinaryOperator::BitXor => alone(code, between(Operation::Xor, l, r)),
+        BinaryOperator::BitAnd => alone(code, between(Operation::And, l, r)),
+        BinaryOperator::ShiftLeft => narrowed(code, l, width, between(Operation::Sll, l, r)),
+        BinaryOperator::ShiftRight => narrowed(code, l, width, between(Operation::Srl, l, r)),
+        BinaryOperator::Add => narrowed(code, l, width, between(Operation::Add, l, r)),
+        BinaryOperator::Subtract => narrowed(code, l, width, between(Operation::Sub, l, r)),
         BinaryOperator::Multiply => narrowed(code, l, width, product(l, r)),
         BinaryOperator::Divide => alone(code, division(DivideOperation::Divu, l, r)),
         BinaryOperator::Remainder => alone(code, division(DivideOperation::Remu, l, r)),
@@ -201,7 +201,7 @@ fn around(code: &mut Vec<Instr>, r: Reg, width: Width, amount: u32) -> Result<()
     let down = ShiftAmount::from_bits(width.bits() - amount);
     code.push(Instr::Shift(ShiftOperation::Slli, moved, r, up))?;
     code.push(Instr::Shift(ShiftOperation::Srli, r, r, down))?;
-    let sum = Instr::Register(RegisterOperation::Add, r, moved, r);
+    let sum = Instr::Register(Operation::Add, r, moved, r);
     narrowed(code, r, width, sum)
 }
 
@@ -224,9 +224,9 @@ pub fn convert(code: &mut Vec<Instr>, r: Reg, kind: Kind) -> Result<(), AllocErr
 pub fn choice(code: &mut Vec<Instr>, c: Reg, l: Reg, r: Reg) -> Result<(), AllocError>
     ensures { OnOk result (code.new.items ≡ code.old.items ++ choice_code c l r) }
 {
-    code.push(Instr::Register(RegisterOperation::Sub, c, Reg::X0, c))?;
-    code.push(Instr::Register(RegisterOperation::Xor, l, l, r))?;
-    code.push(Instr::Register(RegisterOperation::And, l, l, c))?;
-    code.push(Instr::Register(RegisterOperation::Xor, c, r, l))?;
+    code.push(Instr::Register(Operation::Sub, c, Reg::X0, c))?;
+    code.push(Instr::Register(Operation::Xor, l, l, r))?;
+    code.push(Instr::Register(Operation::And, l, l, c))?;
+    code.push(Instr::Register(Operation::Xor, c, r, l))?;
     Ok(())
 }
