@@ -1,9 +1,9 @@
 // Two runs in step, and the first place at which what they show differs.
 
-ghost use Rattle.std.specs.Prelude.{◌≡◌, ◌↔◌, ℕ, ◌<◌, ◌^◌, List, ◌∷◌, [], None, length, IsTrue, IfSome};
+ghost use Rattle.std.specs.Prelude.{◌≡◌, ◌↔◌, ℕ, ◌<◌, ◌^◌, List, ◌∷◌, [], None, length, IsTrue, IfSome, IsSome};
 ghost use Rattle.rv_machine.specs.Entries.{entries_of, IsFirstDifference, Compares};
 ghost use Rattle.rv_machine.specs.Harts.{state_of};
-ghost use Rattle.rv_machine.specs.Leakage.{IsShown};
+ghost use Rattle.rv_machine.specs.Leakage.{IsShown, followed_by};
 ghost use Rattle.rv_machine.specs.PairingText.{pairing_text};
 ghost use Rattle.rv_machine.specs.Regions.{code_of};
 ghost use Rattle.rv_machine.specs.declared.observation.Observation.{Observation};
@@ -69,6 +69,29 @@ pub fn first_difference(one: &Observation, other: &Observation) -> Option<u64>
     }
 }
 
+// Makes the next turn of each of two runs, and answers what they show. It stands apart from the loop
+// over it so that both turns are compiled in line there.
+fn both_turns<M: Memory>(
+    alloc: Global,
+    code: &CodeRegion,
+    one: &mut Running<M>,
+    other: &mut Running<M>,
+) -> (Option<Observation>, Option<Observation>)
+    ensures shown { (rest : List Observation)
+        → IsShown (code_of code.now) one.new.turns_left (state_of one.new.hart (M.bytes one.new.memory)) rest
+        → IsShown (code_of code.now) one.old.turns_left (state_of one.old.hart (M.bytes one.old.memory)) (followed_by result.0 rest) }
+    ensures ended { result.0 ≡ None → one.new.turns_left ≡ 0 }
+    ensures fewer { IsSome result.0 → one.new.turns_left < one.old.turns_left }
+    ensures other_shown { (rest : List Observation)
+        → IsShown (code_of code.now) other.new.turns_left (state_of other.new.hart (M.bytes other.new.memory)) rest
+        → IsShown (code_of code.now) other.old.turns_left (state_of other.old.hart (M.bytes other.old.memory)) (followed_by result.1 rest) }
+    ensures other_ended { result.1 ≡ None → other.new.turns_left ≡ 0 }
+{
+    let seen = one.turn(alloc, code);
+    let seen_other = other.turn(alloc, code);
+    (seen, seen_other)
+}
+
 /// Makes turns of two runs of the same code, one of each after the other, and compares what they show.
 /// It answers at the first difference, or where both have ended. No list is kept.
 pub fn compare<M: Memory>(
@@ -84,17 +107,20 @@ pub fn compare<M: Memory>(
         × Compares (entries_of seen) (entries_of seen') result }
 {
     let mut place = 0;
-    'turns: while let Some(seen) = one.turn(alloc, code) {
-        let Some(seen_other) = other.turn(alloc, code) else {
+    'turns: loop {
+        let (seen, seen_other) = both_turns(alloc, code, one, other);
+        let Some(seen) = seen else {
+            return match seen_other {
+                Some(_) => Pairing::Differ(place),
+                None => Pairing::Same,
+            };
+        };
+        let Some(seen_other) = seen_other else {
             return Pairing::Differ(place);
         };
         if let Some(entry) = first_difference(&seen, &seen_other) {
             return Pairing::Differ(place + entry);
         }
         place += entry_count(&seen);
-    }
-    match other.turn(alloc, code) {
-        Some(_) => Pairing::Differ(place),
-        None => Pairing::Same,
     }
 }
