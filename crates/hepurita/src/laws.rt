@@ -1,6 +1,6 @@
 // What the answers of the calls are to each other.
 
-ghost use Rattle.std.specs.Prelude.{ℕ, ◌+◌, ◌*◌, ◌<◌, ◌≤◌, ◌≡◌, ◌≢◌, ⊥, Bool, List, ◌++◌, Result, Ok, Err, Some, map};
+ghost use Rattle.std.specs.Prelude.{ℕ, ◌+◌, ◌*◌, ◌<◌, ◌≤◌, ◌≡◌, ◌≢◌, Bool, List, ◌++◌, Result, Ok, Err, Some, map};
 ghost use Rattle.arguments.specs.Within.{AreWithin, words_of};
 ghost use Rattle.branch_removal.specs.Removed.{IsRemoved};
 ghost use Rattle.branch_removal.specs.Straight.{StraightProgram};

@@ -47,7 +47,8 @@ pub one_beginning : (image : Fields) (args : List Arg) (stop : Stop) (before who
 one_beginning image args stop before whole part all some =
     let count = some.part.count in
     let same : all.bytes ≡ some.bytes = (one_listing image args stop some.such.0 all.bytes some.bytes all.such some.such.1).1 in
-    let split : some.bytes ≡ take count some.bytes ++ drop count some.bytes = sym (take-append-drop count some.bytes) in
-    (drop count some.bytes,
-     all.added ∙ ap (λ (l : List ℕ). before ++ l) (same ∙ split) ∙ sym (append_assoc before (take count some.bytes) (drop count some.bytes))
-     ∙ ap (λ (l : List ℕ). l ++ drop count some.bytes) (sym some.part.added))
+    let split : some.bytes ≡ take count some.bytes ++ drop count some.bytes = sym (take-append-drop count some.bytes) in (
+      drop count some.bytes,
+      all.added ∙ ap (λ (l : List ℕ). before ++ l) (same ∙ split) ∙ sym (append_assoc before (take count some.bytes) (drop count some.bytes))
+          ∙ ap (λ (l : List ℕ). l ++ drop count some.bytes) (sym some.part.added),
+    )
