@@ -1,10 +1,10 @@
 -- Two calls on the same values agree.
-use Rattle.std.proofs.Common.{◌≡◌, ◌≢◌, inl, inr, ℕ, Bool, true, false, List, [], ◌∷◌, ◌++◌, Option, Some, None, Result, Ok, Err, map, length, refl, sym, ap, subst, ◌∙◌, append-nil}
+use Rattle.std.proofs.Common.{◌≡◌, ◌≢◌, inl, inr, ℕ, Bool, true, false, List, [], ◌∷◌, ◌++◌, Option, Some, Result, Ok, Err, map, refl, sym, ap, subst, ◌∙◌, append-nil}
 use Rattle.std.proofs.lemmas.Option.{none-some, same_Some}
 use Rattle.arguments.specs.Faults.{fault_of}
 use Rattle.arguments.specs.Within.{AreWithin, HasShape, words_of}
 use Rattle.arguments.specs.declared.fault.ArgumentFault.{ArgumentFault}
-use Rattle.codegen.specs.Loaded.{params_of, code_at, loaded_at}
+use Rattle.codegen.specs.Loaded.{params_of}
 use Rattle.image_fields.specs.Fields.{Fields}
 use Rattle.language.specs.Results.{Results}
 use Rattle.language.specs.declared.signature.Form.{Form}
@@ -13,7 +13,6 @@ use Rattle.language.specs.declared.signature.Param.{Param}
 use Rattle.language.specs.declared.values.Arg.{Arg}
 use Rattle.language.specs.declared.values.Arg.TheVariants.{Word, Array}
 use Rattle.rv_machine.specs.Entries.{Entry, entries_of, Compares}
-use Rattle.rv_machine.specs.Leakage.{Ran}
 use Rattle.rv_machine.specs.Machine.{State}
 use Rattle.rv_machine.specs.Recording.{kept}
 use Rattle.rv_machine.specs.declared.observation.Observation.{Observation}
@@ -23,12 +22,12 @@ use Rattle.rv_machine.specs.declared.stops.Stop.{Stop}
 use Rattle.rv_machine.specs.declared.stops.Stop.TheVariants.{Ecall, Break, Illegal, AccessFault, Misaligned, Budget, RecorderRefused}
 use Rattle.rv_machine.proofs.EntryLaws.{differ-apart, first-unique}
 use Rattle.rv_machine.proofs.RunLaws.{Ran-determined, Ran-beginning}
-use Rattle.hepurita.specs.Bases.{code_base, frame_base}
+use Rattle.hepurita.specs.Bases.{frame_base}
 use Rattle.hepurita.specs.Executed.{Executed, refused, out_of_memory, ran, answer_at, WantsMemory}
 use Rattle.hepurita.specs.Paired.{Paired, Observed, pair_fault}
 use Rattle.hepurita.specs.Paired as pairs
 use Rattle.hepurita.specs.declared.fault.RunFault.{RunFault}
-use Rattle.hepurita.specs.declared.fault.RunFault.TheVariants.{Argument, Memory, Stopped}
+use Rattle.hepurita.specs.declared.fault.RunFault.TheVariants.{Argument, Memory}
 
 -- ---- execute
 

@@ -1,10 +1,8 @@
 -- Two calls of `leak` on the same values agree.
-use Rattle.std.proofs.Common.{◌≡◌, ◌≢◌, ℕ, List, ◌++◌, take, drop, Option, Some, None, Result, Ok, Err, refl, sym, ap, ap₂, ◌∙◌, append_assoc}
+use Rattle.std.proofs.Common.{◌≡◌, ◌≢◌, ℕ, List, ◌++◌, take, drop, Result, Ok, Err, refl, sym, ap, ap₂, ◌∙◌, append_assoc}
 use Rattle.std.proofs.lemmas.List.{take-append-drop}
 use Rattle.std.proofs.lemmas.Option.{none-some, same_Some}
-use Rattle.arguments.specs.Faults.{fault_of}
 use Rattle.arguments.specs.declared.fault.ArgumentFault.{ArgumentFault}
-use Rattle.codegen.specs.Loaded.{params_of}
 use Rattle.image_fields.specs.Fields.{Fields}
 use Rattle.language.specs.declared.values.Arg.{Arg}
 use Rattle.rv_machine.specs.declared.observation.Observation.{Observation}
