@@ -66,7 +66,7 @@ fn stop_of(alloc: Global, image: &Image) -> Result<Stop, Fault> {
 }
 
 /// What comes of bytes.
-fn answer(alloc: Global, bytes: &[u8]) -> Result<Answer, Fault> {
+fn answer_to(alloc: Global, bytes: &[u8]) -> Result<Answer, Fault> {
     match read(alloc, bytes) {
         Ok(image) => Ok(Answer::Stop(stop_of(alloc, &image)?)),
         Err(ImageFault::Memory) => Err(Fault::Read(ImageFault::Memory)),
@@ -87,7 +87,7 @@ fn print_changes_at(
     let kept = bytes[place];
     for value in 0..=u8::MAX {
         bytes[place] = value;
-        let answer = answer(alloc, bytes.as_slice())?;
+        let answer = answer_to(alloc, bytes.as_slice())?;
         println!(rt; "{place} {value} {answer}")?;
     }
     bytes[place] = kept;
