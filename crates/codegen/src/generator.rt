@@ -103,13 +103,7 @@ fn listed(
     let words = words(alloc, code.as_slice())?;
     let frame_bytes = layout.temporaries() + WORD_BYTES * temporaries(straight);
     let max_steps = step_limit(straight.work());
-    Ok(ImageFields::new(
-        slots,
-        returned,
-        frame_bytes,
-        max_steps,
-        words,
-    ))
+    Ok(ImageFields::new(slots, returned, frame_bytes, max_steps, words))
 }
 
 /// The code of a straight program. The machine, running it, follows the program: the outcome is that of the program, and
