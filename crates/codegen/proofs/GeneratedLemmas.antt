@@ -6,7 +6,7 @@ use Rattle.branch_removal.specs.Bounds.{IsBounded}
 use Rattle.branch_removal.specs.Straight.{StraightProgram}
 use Rattle.branch_removal.specs.StraightTyping.{IsTypedStraight}
 use Rattle.codegen.specs.Followed.{IsGenerated, type_in}
-use Rattle.codegen.specs.Generated.{program_code, result_slot, image_of}
+use Rattle.codegen.specs.private.Generated.{program_code, result_slot, image_of}
 use Rattle.expression_code.specs.Layout.{slots_from}
 use Rattle.codegen.proofs.ImageLemmas.{room_frame}
 use Rattle.codegen.proofs.RoomLemmas.{has_room}

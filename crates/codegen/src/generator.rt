@@ -3,8 +3,8 @@ ghost use Rattle.std.specs.Option.{option_map};
 ghost use Rattle.branch_removal.specs.Bounds.{IsBounded};
 ghost use Rattle.branch_removal.specs.StraightTyping.{IsTypedStraight};
 ghost use Rattle.codegen.specs.Followed.{IsGenerated};
-ghost use Rattle.codegen.specs.Generated.{program_code, program_slots, result_slot, step_limit, image_of};
-ghost use Rattle.codegen.specs.Room.{HasRoom, frame_of};
+ghost use Rattle.codegen.specs.private.Generated.{program_code, program_slots, result_slot, step_limit, image_of};
+ghost use Rattle.codegen.specs.private.Room.{HasRoom, frame_of};
 ghost use Rattle.intervals.specs.declared.limits.TheConstants.{MOST_WORK};
 ghost use Rattle.rv_code.specs.Words.{word_of};
 

@@ -1,8 +1,8 @@
 use Rattle.std.proofs.Common.{◌≡◌, ℕ, ◌+◌, ◌*◌, List, map, ap, ap₂, ◌∙◌}
-use Rattle.codegen.specs.Emitted.{depth_in_all}
-use Rattle.codegen.specs.Generated.{program_base, program_slots, step_limit}
+use Rattle.codegen.specs.private.Emitted.{depth_in_all}
+use Rattle.codegen.specs.private.Generated.{program_base, program_slots, step_limit}
 use Rattle.expression_code.specs.Layout.{Frame, slots_from, temporaries_offset}
-use Rattle.codegen.specs.Room.{frame_of}
+use Rattle.codegen.specs.private.Room.{frame_of}
 use Rattle.codegen.proofs.ImageLemmas.{fields_allowed}
 use Rattle.inline.specs.declared.flat.FlatVariable.{FlatVariable}
 use Rattle.rv_code.specs.Words.{word_of}
