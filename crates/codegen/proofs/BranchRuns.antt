@@ -6,7 +6,7 @@ use Rattle.inline.specs.FlatSize.{term_nodes}
 use Rattle.inline.specs.FlatTyping.{types_of, HasType}
 use Rattle.branch_removal.specs.Straight.{StraightBlock, branch}
 use Rattle.branch_removal.specs.StraightMeaning.{StraightState, after, after_all, path_at, path_along}
-use Rattle.codegen.specs.Jumps.{branch_code}
+use Rattle.codegen.specs.private.Jumps.{branch_code}
 use Rattle.expression_code.specs.Registers.{slots_to}
 use Rattle.expression_code.specs.TermCode.{expr_code, height_of}
 use Rattle.language.specs.declared.typing.WordType.{WordType}

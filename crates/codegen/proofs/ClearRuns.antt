@@ -10,8 +10,8 @@ use Rattle.inline.specs.Path.{Path}
 use Rattle.branch_removal.specs.Straight.{clear}
 use Rattle.branch_removal.specs.StraightMeaning.{StraightState, with_variable, after}
 use Rattle.branch_removal.specs.StraightTyping.{IsFilled}
-use Rattle.codegen.specs.Emitted.{clear_code, statement_code}
-use Rattle.codegen.specs.Jumps.{loop_code}
+use Rattle.codegen.specs.private.Emitted.{clear_code, statement_code}
+use Rattle.codegen.specs.private.Jumps.{loop_code}
 use Rattle.expression_code.specs.Layout.{variable_offset, result_offset, control_offset}
 use Rattle.expression_code.specs.TermCode.{upper_part, lower_part, constant_code}
 use Rattle.language.specs.declared.signature.Kind.{Kind}

@@ -3,8 +3,8 @@ use Rattle.std.proofs.Common.{ℕ, ◌+◌, ◌*◌, ◌≤◌, nat_lt, List, []
 use Rattle.std.proofs.Math.Nat.{max-le}
 use Rattle.branch_removal.specs.Bounds.{statement_nodes, block_nodes, taken_in, taken_in_all}
 use Rattle.branch_removal.specs.Straight.{StraightTree, set, clear, fill, put, take, set_under, put_under, branch, repeats, StraightBlock, nothing, first}
-use Rattle.codegen.specs.Emitted.{within_code, merge_code, element_store_code, clear_code, fill_code, index_code, put_code, put_under_code, store_by, bounds_code, test_code, count_code, statement_code, block_code, height_of_all, height_of_put, height_in, height_in_all, depth_in, depth_in_all}
-use Rattle.codegen.specs.Jumps.{branch_code, loop_code}
+use Rattle.codegen.specs.private.Emitted.{within_code, merge_code, element_store_code, clear_code, fill_code, index_code, put_code, put_under_code, store_by, bounds_code, test_code, count_code, statement_code, block_code, height_of_all, height_of_put, height_in, height_in_all, depth_in, depth_in_all}
+use Rattle.codegen.specs.private.Jumps.{branch_code, loop_code}
 use Rattle.expression_code.specs.Layout.{variable_offset, control_offset, next_offset, temporaries_offset}
 use Rattle.expression_code.specs.TermCode.{load_code, address_code, load_by, lower_part, kind_at, expr_code, height_of}
 use Rattle.inline.specs.declared.flat.FlatVariable.{FlatVariable}

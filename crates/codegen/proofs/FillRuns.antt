@@ -15,7 +15,7 @@ use Rattle.branch_removal.proofs.Values.{one_path_all, all_values}
 use Rattle.branch_removal.specs.Straight.{fill}
 use Rattle.branch_removal.specs.StraightMeaning.{StraightState, with_variable, with_element, value_at, after, path_at}
 use Rattle.branch_removal.specs.StraightTyping.{IsFilled, types_but}
-use Rattle.codegen.specs.Emitted.{store_by, element_store_code, fill_code, statement_code, height_of_all}
+use Rattle.codegen.specs.private.Emitted.{store_by, element_store_code, fill_code, statement_code, height_of_all}
 use Rattle.expression_code.specs.Layout.{variable_offset}
 use Rattle.expression_code.specs.Registers.{slots_to}
 use Rattle.expression_code.specs.TermCode.{upper_part, lower_part, expr_code, height_of}

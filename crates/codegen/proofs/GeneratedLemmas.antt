@@ -4,8 +4,8 @@ use Rattle.std.proofs.lemmas.List.{length-map}
 use Rattle.std.specs.Option.{option_map}
 use Rattle.branch_removal.specs.Straight.{StraightProgram}
 use Rattle.codegen.specs.Followed.{IsGenerated, type_in}
-use Rattle.codegen.specs.Generated.{program_code, result_slot, image_of}
-use Rattle.codegen.specs.Room.{HasRoom}
+use Rattle.codegen.specs.private.Generated.{program_code, result_slot, image_of}
+use Rattle.codegen.specs.private.Room.{HasRoom}
 use Rattle.expression_code.specs.Layout.{slots_from}
 use Rattle.codegen.proofs.ImageLemmas.{room_frame}
 use Rattle.codegen.proofs.WholeRuns.{followed}

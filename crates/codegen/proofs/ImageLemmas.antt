@@ -19,9 +19,9 @@ use Rattle.language.specs.declared.signature.Param.{Param}
 use Rattle.language.specs.declared.typing.WordType.{WordType}
 use Rattle.language.specs.Size.{held_words, array_words}
 use Rattle.expression_code.proofs.OffsetLemmas.{parameter_words}
-use Rattle.codegen.specs.Generated.{program_base, program_code, program_slots, result_slot, step_limit, image_of}
+use Rattle.codegen.specs.private.Generated.{program_base, program_code, program_slots, result_slot, step_limit, image_of}
 use Rattle.expression_code.specs.Layout.{slots_from, result_offset}
-use Rattle.codegen.specs.Room.{HasRoom}
+use Rattle.codegen.specs.private.Room.{HasRoom}
 use Rattle.inline.specs.declared.flat.FlatVariable.{FlatVariable}
 use Rattle.inline.specs.Flat.{declaration_of}
 use Rattle.inline.specs.FlatSize.{HasLength, words_of, declared_words}

@@ -5,7 +5,7 @@ use Rattle.std.proofs.lemmas.Bool.{true≢false}
 use Rattle.std.proofs.lemmas.Bool.Decides.{nat_tests}
 use Rattle.branch_removal.specs.StraightMeaning.{StraightState}
 use Rattle.expression_code.specs.Inside.{IsInside}
-use Rattle.codegen.specs.Jumps.{skip, over, back, branch_code, loop_code}
+use Rattle.codegen.specs.private.Jumps.{skip, over, back, branch_code, loop_code}
 use Rattle.std.specs.Prelude.{slice_index}
 use Rattle.std.proofs.lemmas.Nat.{mul-le}
 use Rattle.inline.specs.FlatMeaning.{turns, path_of_turns}

@@ -9,8 +9,8 @@ use Rattle.inline.specs.FlatSize.{term_nodes}
 use Rattle.inline.specs.FlatTyping.{types_of, HasType, counter_type}
 use Rattle.branch_removal.specs.Straight.{StraightBlock, repeats}
 use Rattle.branch_removal.specs.StraightMeaning.{StraightState, counted, after, after_all, path_at, path_along}
-use Rattle.codegen.specs.Emitted.{bounds_code, test_code, count_code}
-use Rattle.codegen.specs.Jumps.{loop_code}
+use Rattle.codegen.specs.private.Emitted.{bounds_code, test_code, count_code}
+use Rattle.codegen.specs.private.Jumps.{loop_code}
 use Rattle.expression_code.specs.Layout.{variable_offset, next_offset}
 use Rattle.expression_code.specs.Registers.{slots_to}
 use Rattle.expression_code.specs.TermCode.{store_code, expr_code, height_of}

@@ -4,9 +4,9 @@ use Rattle.std.proofs.Math.Nat.{le-max_left, le-max_right}
 use Rattle.branch_removal.specs.Bounds.{statement_nodes, block_nodes}
 use Rattle.branch_removal.specs.Straight.{StraightTree, set, clear, fill, put, take, set_under, put_under, branch, repeats, StraightBlock, nothing, first}
 use Rattle.branch_removal.specs.StraightTyping.{IsTyped, AreTyped, types_but}
-use Rattle.codegen.specs.Emitted.{count_code, block_code, height_of_all, height_in, height_in_all, depth_in, depth_in_all}
+use Rattle.codegen.specs.private.Emitted.{count_code, block_code, height_of_all, height_in, height_in_all, depth_in, depth_in_all}
 use Rattle.expression_code.specs.Layout.{variable_offset, next_offset, temporaries_offset}
-use Rattle.codegen.specs.Placed.{IsPlaced, ArePlacedTerms, HasPlace, HavePlaces}
+use Rattle.codegen.specs.private.Placed.{IsPlaced, ArePlacedTerms, HasPlace, HavePlaces}
 use Rattle.expression_code.specs.Registers.{slots_to}
 use Rattle.expression_code.specs.TermCode.{height_of}
 use Rattle.inline.specs.declared.flat.FlatVariable.{FlatVariable}

@@ -13,7 +13,7 @@ use Rattle.inline.specs.Path.{indexed}
 use Rattle.branch_removal.specs.Straight.{put, put_under}
 use Rattle.branch_removal.specs.StraightMeaning.{StraightState, with_variable, with_element, after, path_at}
 use Rattle.branch_removal.specs.StraightTyping.{IsPut}
-use Rattle.codegen.specs.Emitted.{store_by, index_code, put_code, put_under_code, merge_code, statement_code, height_of_put}
+use Rattle.codegen.specs.private.Emitted.{store_by, index_code, put_code, put_under_code, merge_code, statement_code, height_of_put}
 use Rattle.expression_code.specs.Layout.{variable_offset, result_offset, control_offset}
 use Rattle.expression_code.specs.Registers.{slots_to}
 use Rattle.expression_code.specs.TermCode.{lower_part, load_by, address_code, kind_at, expr_code, height_of}

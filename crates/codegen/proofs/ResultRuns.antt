@@ -6,7 +6,7 @@ use Rattle.inline.specs.FlatSize.{value_nodes}
 use Rattle.inline.specs.FlatTyping.{types_of, IsResult}
 use Rattle.language.specs.declared.typing.WordType.{WordType}
 use Rattle.branch_removal.specs.StraightMeaning.{StraightState}
-use Rattle.codegen.specs.Generated.{result_code, result_height}
+use Rattle.codegen.specs.private.Generated.{result_code, result_height}
 use Rattle.expression_code.specs.Layout.{result_offset}
 use Rattle.expression_code.specs.Registers.{slots_to}
 use Rattle.rv_machine.specs.Machine as machine

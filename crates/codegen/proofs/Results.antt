@@ -1,7 +1,7 @@
 -- What the slots hold in the end: the result, and the arrays that may be changed.
 use Rattle.std.proofs.Common.{◌≡◌, ℕ, suc, ◌+◌, ◌*◌, ◌<◌, List, [], ◌∷◌, ◌++◌, length, map, take, Option, Some, None, unwrap_or, slice_get, slice_index, refl, sym, ap, ap₂, ◌∙◌, arith}
 use Rattle.std.specs.Option.{option_map}
-use Rattle.codegen.specs.Generated.{result_slot}
+use Rattle.codegen.specs.private.Generated.{result_slot}
 use Rattle.expression_code.specs.Layout.{result_offset, slots_from}
 use Rattle.codegen.specs.Loaded.{word_in, numbers_at, array_in, arrays_in}
 use Rattle.inline.specs.declared.flat.FlatVariable.{FlatVariable}

@@ -5,11 +5,11 @@ use Rattle.std.proofs.lemmas.Option.{same_Some}
 use Rattle.branch_removal.specs.Bounds.{IsBounded}
 use Rattle.branch_removal.specs.Straight.{StraightProgram}
 use Rattle.branch_removal.specs.StraightTyping.{IsTypedStraight}
-use Rattle.codegen.specs.Emitted.{block_code, height_in_all, depth_in_all}
-use Rattle.codegen.specs.Generated.{result_code, program_base, program_code, result_height, program_height}
+use Rattle.codegen.specs.private.Emitted.{block_code, height_in_all, depth_in_all}
+use Rattle.codegen.specs.private.Generated.{result_code, program_base, program_code, result_height, program_height}
 use Rattle.expression_code.specs.Layout.{result_offset}
-use Rattle.codegen.specs.Placed.{HavePlaces}
-use Rattle.codegen.specs.Room.{HasRoom}
+use Rattle.codegen.specs.private.Placed.{HavePlaces}
+use Rattle.codegen.specs.private.Room.{HasRoom}
 use Rattle.codegen.proofs.CodeLengths.{block_length, block_room}
 use Rattle.expression_code.specs.TermCode.{IsAmong}
 use Rattle.codegen.proofs.PlacedLemmas.{blocks_placed}

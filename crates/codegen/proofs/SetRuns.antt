@@ -9,7 +9,7 @@ use Rattle.inline.specs.FlatTyping.{types_of, HasType}
 use Rattle.branch_removal.specs.Straight.{take, set_under}
 use Rattle.branch_removal.specs.StraightMeaning.{StraightState, with_variable, holds, after}
 use Rattle.branch_removal.specs.StraightTyping.{IsSet, IsAmong}
-use Rattle.codegen.specs.Emitted.{masks_code, within_code, merge_code, statement_code}
+use Rattle.codegen.specs.private.Emitted.{masks_code, within_code, merge_code, statement_code}
 use Rattle.expression_code.specs.Layout.{variable_offset, control_offset}
 use Rattle.expression_code.specs.Registers.{slots_to}
 use Rattle.expression_code.specs.TermCode.{store_code, expr_code, height_of}

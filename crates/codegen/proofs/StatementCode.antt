@@ -6,10 +6,10 @@ use Rattle.branch_removal.specs.Bounds.{statement_nodes, block_nodes}
 use Rattle.branch_removal.specs.declared.straight.StraightStatement.{StraightStatement}
 use Rattle.branch_removal.specs.declared.straight.StraightStatement as code
 use Rattle.branch_removal.specs.Straight.{StraightTree, StraightBlock, first, branch, repeats, straight_tree, straight_row, straight_block}
-use Rattle.codegen.specs.Emitted.{bounds_code, test_code, count_code, statement_code, block_code}
-use Rattle.codegen.specs.Jumps.{branch_code, loop_code}
+use Rattle.codegen.specs.private.Emitted.{bounds_code, test_code, count_code, statement_code, block_code}
+use Rattle.codegen.specs.private.Jumps.{branch_code, loop_code}
 use Rattle.expression_code.specs.Layout.{variable_offset, next_offset, temporaries_offset}
-use Rattle.codegen.specs.Placed.{HasPlace, HavePlaces}
+use Rattle.codegen.specs.private.Placed.{HasPlace, HavePlaces}
 use Rattle.expression_code.specs.TermCode.{expr_code}
 use Rattle.inline.specs.declared.flat.FlatVariable.{FlatVariable}
 use Rattle.inline.specs.declared.flat.Term.{Term}

@@ -5,7 +5,7 @@ use Rattle.branch_removal.specs.Bounds.{statement_nodes, block_nodes, statement_
 use Rattle.branch_removal.specs.Straight.{StraightTree, set, clear, fill, put, take, set_under, put_under, branch, repeats, StraightBlock, nothing, first}
 use Rattle.branch_removal.specs.StraightMeaning.{after, after_all, path_at, path_along}
 use Rattle.branch_removal.specs.StraightTyping.{IsTyped, AreTyped}
-use Rattle.codegen.specs.Emitted.{count_code, statement_code, block_code, height_in, height_in_all, depth_in, depth_in_all}
+use Rattle.codegen.specs.private.Emitted.{count_code, statement_code, block_code, height_in, height_in_all, depth_in, depth_in_all}
 use Rattle.expression_code.specs.Layout.{variable_offset, next_offset}
 use Rattle.expression_code.specs.Registers.{slots_to}
 use Rattle.expression_code.specs.TermCode.{height_of}

@@ -6,11 +6,11 @@ use Rattle.arguments.specs.Within.{AreWithin}
 use Rattle.branch_removal.specs.Straight.{StraightProgram}
 use Rattle.branch_removal.specs.StraightMeaning.{StraightState, start, after_all, path_along, outcome_of, path_of}
 use Rattle.codegen.specs.Bases.{IsInside, AreBases}
-use Rattle.codegen.specs.Emitted.{block_code, height_in_all, depth_in_all}
+use Rattle.codegen.specs.private.Emitted.{block_code, height_in_all, depth_in_all}
 use Rattle.codegen.specs.Followed.{RunsAs, IsFollowed}
-use Rattle.codegen.specs.Generated.{program_base, program_code, result_code, result_height, image_of}
+use Rattle.codegen.specs.private.Generated.{program_base, program_code, result_code, result_height, image_of}
 use Rattle.codegen.specs.Loaded.{code_at, loaded_at, results_in}
-use Rattle.codegen.specs.Room.{HasRoom}
+use Rattle.codegen.specs.private.Room.{HasRoom}
 use Rattle.inline.specs.FlatTyping.{types_of}
 use Rattle.inline.specs.Path.{Path, AreFine}
 use Rattle.language.specs.declared.values.Arg.{Arg}

@@ -1,15 +1,15 @@
 // Instructions for arrays and their elements.
 
 ghost use Rattle.std.specs.Prelude.{◌≡◌, ◌≤◌, ◌+◌, ◌*◌, ◌++◌, ◌∷◌, [], map, length, OnOk};
-ghost use Rattle.codegen.specs.Emitted.{store_by, element_store_code, clear_code, fill_code, index_code, put_code, put_under_code};
-ghost use Rattle.codegen.specs.Jumps.{loop_code};
+ghost use Rattle.codegen.specs.private.Emitted.{store_by, element_store_code, clear_code, fill_code, index_code, put_code, put_under_code};
+ghost use Rattle.codegen.specs.private.Jumps.{loop_code};
 ghost use Rattle.expression_code.specs.Layout.{temporaries_offset};
 ghost use Rattle.expression_code.specs.Registers.{zero_register, value_register, second_register, third_register};
 ghost use Rattle.rv_code.specs.declared.instructions.Instr.TheVariants.{Immediate, Register, Store};
 ghost use Rattle.rv_code.specs.declared.operations.ImmediateOperation.TheVariants.{Addi};
 ghost use Rattle.rv_code.specs.declared.operations.RegisterOperation.TheVariants.{Sub};
 ghost use Rattle.rv_code.specs.declared.operations.StoreOperation.TheVariants.{Sw};
-ghost use Rattle.codegen.specs.Placed.{IsPlaced, ArePlacedTerms};
+ghost use Rattle.codegen.specs.private.Placed.{IsPlaced, ArePlacedTerms};
 ghost use Rattle.inline.specs.Flat.{term_tree};
 
 use crate::jumping::repeat;

@@ -1,8 +1,8 @@
 ghost use Rattle.std.specs.Prelude.{◌≡◌, ◌+◌, ◌*◌, ◌<◌, ◌≤◌, ◌^◌, map, All, IfOk, IfErr};
 ghost use Rattle.std.specs.Option.{option_map};
 ghost use Rattle.codegen.specs.Followed.{IsGenerated};
-ghost use Rattle.codegen.specs.Generated.{program_code, program_slots, result_slot, step_limit, image_of};
-ghost use Rattle.codegen.specs.Room.{HasRoom, frame_of};
+ghost use Rattle.codegen.specs.private.Generated.{program_code, program_slots, result_slot, step_limit, image_of};
+ghost use Rattle.codegen.specs.private.Room.{HasRoom, frame_of};
 ghost use Rattle.image_fields.specs.Fields.{IsImage};
 ghost use Rattle.intervals.specs.declared.limits.TheConstants.{MOST_WORK};
 ghost use Rattle.language.specs.WantOfMemory.{IsWantOfMemory};

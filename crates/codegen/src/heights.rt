@@ -2,7 +2,7 @@
 
 ghost use Rattle.std.specs.Prelude.{◌≡◌, ◌≤◌, map};
 ghost use Rattle.branch_removal.specs.Straight.{straight_tree, straight_block};
-ghost use Rattle.codegen.specs.Emitted.{height_of_all, height_in, height_in_all, depth_in, depth_in_all};
+ghost use Rattle.codegen.specs.private.Emitted.{height_of_all, height_in, height_in_all, depth_in, depth_in_all};
 ghost use Rattle.inline.specs.Flat.{term_tree};
 
 use branch_removal::StraightStatement;

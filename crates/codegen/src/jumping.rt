@@ -1,7 +1,7 @@
 // Instructions that are run by turns or not at all: what stands between jumps.
 
 ghost use Rattle.std.specs.Prelude.{◌≡◌, ◌++◌, ◌+◌, ◌*◌, ◌^◌, ◌<◌, length, OnOk};
-ghost use Rattle.codegen.specs.Jumps.{skip, over, back, branch_code, loop_code};
+ghost use Rattle.codegen.specs.private.Jumps.{skip, over, back, branch_code, loop_code};
 
 use rv_code::{BranchOffset, BranchTest, Instr, JumpOffset, Reg};
 use std::alloc::AllocError;

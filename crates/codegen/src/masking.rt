@@ -1,7 +1,7 @@
 // Instructions for control values, which are masks, each appended to the code so far.
 
 ghost use Rattle.std.specs.Prelude.{◌≡◌, ◌++◌, OnOk};
-ghost use Rattle.codegen.specs.Emitted.{masks_code, join_code, merge_code};
+ghost use Rattle.codegen.specs.private.Emitted.{masks_code, join_code, merge_code};
 
 use expression_code::emit::{MINUS_ONE, load};
 use rv_code::{Immediate12, ImmediateOperation, Instr, Reg, RegisterOperation};

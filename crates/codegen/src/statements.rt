@@ -3,9 +3,9 @@
 ghost use Rattle.std.specs.Prelude.{◌≡◌, ◌++◌, ◌+◌, ◌*◌, ◌<◌, ◌≤◌, map, length, OnOk};
 ghost use Rattle.branch_removal.specs.Straight.{straight_tree, straight_block};
 ghost use Rattle.branch_removal.specs.Straight as straight;
-ghost use Rattle.codegen.specs.Emitted.{bounds_code, test_code, count_code, statement_code, block_code, height_of_all, height_in, height_in_all, depth_in, depth_in_all};
+ghost use Rattle.codegen.specs.private.Emitted.{bounds_code, test_code, count_code, statement_code, block_code, height_of_all, height_in, height_in_all, depth_in, depth_in_all};
 ghost use Rattle.expression_code.specs.Layout.{temporaries_offset};
-ghost use Rattle.codegen.specs.Placed.{IsPlaced, HasPlace, HavePlaces};
+ghost use Rattle.codegen.specs.private.Placed.{IsPlaced, HasPlace, HavePlaces};
 ghost use Rattle.expression_code.specs.TermCode.{height_of};
 ghost use Rattle.inline.specs.Flat.{term_tree};
 ghost use Rattle.language.specs.Size.{array_words};

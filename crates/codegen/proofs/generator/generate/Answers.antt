@@ -1,7 +1,7 @@
 use Rattle.std.proofs.Common.{◌≡◌, ℕ, List, ap, ap₂, sym, subst, ◌∙◌, arith}
-use Rattle.codegen.specs.Emitted.{depth_in_all}
+use Rattle.codegen.specs.private.Emitted.{depth_in_all}
 use Rattle.codegen.specs.Followed.{IsGenerated}
-use Rattle.codegen.specs.Room.{frame_of}
+use Rattle.codegen.specs.private.Room.{frame_of}
 use Rattle.codegen.proofs.GeneratedLemmas.{is_generated}
 use Rattle.codegen.proofs.ImageLemmas.{room_frame}
 use Rattle.codegen.proofs.RoomLemmas.{has_room}

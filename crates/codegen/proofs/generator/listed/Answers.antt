@@ -1,5 +1,5 @@
 use Rattle.std.proofs.Common.{◌≡◌, ◌+◌, ◌*◌, map, ap, ap₂, ◌∙◌}
-use Rattle.codegen.specs.Generated.{program_base, program_slots, step_limit}
+use Rattle.codegen.specs.private.Generated.{program_base, program_slots, step_limit}
 use Rattle.expression_code.specs.Layout.{Frame, slots_from, temporaries_offset}
 use Rattle.codegen.proofs.ImageLemmas.{fields_allowed}
 use Rattle.rv_code.specs.Words.{word_of}

@@ -2,7 +2,7 @@ use Rattle.std.proofs.Common.{rules, ◌≡◌, ◌+◌, ◌∷◌, [], max, dro
 use Rattle.std.proofs.Math.Nat.{le-max_left, le-max_right}
 use Rattle.std.proofs.lemmas.List.{drop_more}
 use Rattle.branch_removal.specs.Straight.{straight_block}
-use Rattle.codegen.specs.Emitted.{depth_in, depth_in_all}
+use Rattle.codegen.specs.private.Emitted.{depth_in, depth_in_all}
 use Rattle.codegen.proofs.StatementCode.{tree_of_branch, tree_of_loop, accepted_smaller, otherwise_smaller, body_smaller, smaller_here, greatest_here}
 use Rattle.codegen.proofs.heights.+depths.Goals as goal
 

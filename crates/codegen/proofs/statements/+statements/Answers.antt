@@ -2,7 +2,7 @@ use Rattle.std.proofs.Common.{rules, ◌≡◌, ◌++◌, ◌+◌, ◌∷◌, Li
 use Rattle.std.proofs.lemmas.List.{drop_more}
 use Rattle.rv_code.specs.declared.instructions.Instr.{Instr}
 use Rattle.branch_removal.specs.Straight.{straight_block}
-use Rattle.codegen.specs.Emitted.{block_code}
+use Rattle.codegen.specs.private.Emitted.{block_code}
 use Rattle.codegen.proofs.StatementCode.{accepted_smaller, otherwise_smaller, branch_placed, branch_near, branch_made, body_smaller, loop_placed, loop_near, loop_made, smaller_here, placed_here}
 use Rattle.codegen.proofs.statements.+statements.Goals as goal
 

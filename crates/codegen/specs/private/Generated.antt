@@ -10,7 +10,7 @@ use Rattle.image_fields.specs.declared.slot.ResultSlot.{ResultSlot}
 use Rattle.inline.specs.declared.flat.FlatVariable.{FlatVariable}
 use Rattle.inline.specs.Flat.{TermTree}
 use Rattle.language.specs.declared.typing.WordType.{WordType}
-use Rattle.codegen.specs.Emitted.{block_code, height_in_all, depth_in_all}
+use Rattle.codegen.specs.private.Emitted.{block_code, height_in_all, depth_in_all}
 use Rattle.expression_code.specs.Layout.{slots_from, result_offset, temporaries_offset}
 use Rattle.expression_code.specs.Registers.{value_register, slots_to}
 use Rattle.expression_code.specs.TermCode.{expr_code, store_code, height_of}

@@ -2,7 +2,7 @@
 use Rattle.std.specs.Prelude.{ℕ, ◌+◌, ◌*◌, ◌^◌, ◌<◌, ◌≤◌, List, [], ◌∷◌, ◌++◌, length}
 use Rattle.branch_removal.specs.Straight.{StraightTree, set, clear, fill, put, take, set_under, put_under, branch, repeats, StraightBlock, nothing, first}
 use Rattle.branch_removal.specs.StraightTyping.{IsAmong as IsControl}
-use Rattle.codegen.specs.Emitted.{test_code, count_code, block_code}
+use Rattle.codegen.specs.private.Emitted.{test_code, count_code, block_code}
 use Rattle.expression_code.specs.Layout.{variable_offset, next_offset, temporaries_offset}
 use Rattle.expression_code.specs.Registers.{slots_to}
 use Rattle.expression_code.specs.TermCode.{IsAmong, height_of}

@@ -1,7 +1,7 @@
 -- The instructions that are emitted for statements.
 use Rattle.std.specs.Prelude.{ℕ, ◌+◌, ◌*◌, List, [], ◌∷◌, ◌++◌, Option, None, Some, max, if◌then◌else◌}
 use Rattle.branch_removal.specs.Straight.{StraightTree, set, clear, fill, put, take, set_under, put_under, branch, repeats, StraightBlock, nothing, first}
-use Rattle.codegen.specs.Jumps.{branch_code, loop_code}
+use Rattle.codegen.specs.private.Jumps.{branch_code, loop_code}
 use Rattle.expression_code.specs.Layout.{variable_offset, control_offset, next_offset, temporaries_offset}
 use Rattle.expression_code.specs.Registers.{zero_register, frame_register, value_register, second_register, third_register, address_register, first_spare}
 use Rattle.expression_code.specs.TermCode.{is_near, upper_part, lower_part, load_code, store_code, constant_code, address_code, load_by, kind_at, expr_code, height_of}

@@ -4,8 +4,8 @@ use Rattle.std.specs.List.{AllByRecursion}
 use Rattle.branch_removal.specs.Bounds.{block_nodes, block_work}
 use Rattle.branch_removal.specs.Straight.{StraightProgram}
 use Rattle.branch_removal.specs.StraightTyping.{IsTypedStraight}
-use Rattle.codegen.specs.Emitted.{depth_in_all}
-use Rattle.codegen.specs.Generated.{program_code, program_height}
+use Rattle.codegen.specs.private.Emitted.{depth_in_all}
+use Rattle.codegen.specs.private.Generated.{program_code, program_height}
 use Rattle.expression_code.specs.Layout.{Frame}
 use Rattle.inline.specs.Flat.{declaration_of}
 use Rattle.inline.specs.declared.limits.TheConstants.{MOST_VARIABLE_BYTES}

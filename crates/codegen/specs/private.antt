@@ -1,0 +1,7 @@
+-- Words that the contracts of private functions cite, and no public one: the instructions that are emitted, one list for each
+-- statement, and where they have room.
+pub mod Jumps
+pub mod Emitted
+pub mod Placed
+pub mod Generated
+pub mod Room
