@@ -21,7 +21,7 @@ use Rattle.codegen.proofs.Jumps.{Still}
 use Rattle.expression_code.proofs.Places.{bytes_of, place_of, place_within, ends_before_result}
 use Rattle.codegen.proofs.Slots.{Wrote, Hidden, other_number}
 use Rattle.expression_code.proofs.Straight.{Setting, base_of, Runs, weaken}
-use Rattle.expression_code.proofs.Values.{Kept, Ready, Valued, kept_number, kept_less, kept_by, ready_after}
+use Rattle.expression_code.proofs.Values.{Kept, Ready, kept_number, kept_less, kept_by, ready_after}
 
 -- the state that is made of the one before is shown, and the words of the loops around are as they were
 pub record Shown (z : Setting) (depth : ℕ) (change : StraightState → StraightState) (env : StraightState) (s t : machine.State) : Type 0 where

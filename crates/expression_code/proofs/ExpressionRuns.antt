@@ -47,7 +47,7 @@ use Rattle.expression_code.proofs.Places.{place_of, place_aligned}
 use Rattle.expression_code.proofs.Steps.{Inside, Moves, dividing, loading_at}
 use Rattle.expression_code.proofs.Straight.{Setting, base_of, fine_right, none, Steps, Runs, seq, quiet, quietly, weaken, cheaper, as_code}
 use Rattle.expression_code.proofs.TermLengths.{constant_length, cut_length, operator_length, prefix_length, rotate_length}
-use Rattle.expression_code.proofs.Fetching.{Made, lower_spare, fetch_runs, keeps}
+use Rattle.expression_code.proofs.Fetching.{lower_spare, fetch_runs, keeps}
 use Rattle.expression_code.proofs.Values.{Ready, Valued, Kept, Lower, kept_less, kept_by, kept_then, lower_then, lower_less, holds_lower, holds_still, place_below, ready_after}
 
 -- what an expression puts on the path
