@@ -4,7 +4,7 @@ use Rattle.std.proofs.lemmas.Option.{same_Some}
 use Rattle.std.proofs.Math.Nat.{le-max_left, le-max_right}
 use Rattle.branch_removal.specs.StraightMeaning.{StraightState}
 use Rattle.expression_code.specs.Layout.{variable_offset}
-use Rattle.expression_code.specs.Registers.{home, slot_of, slots_to}
+use Rattle.expression_code.specs.Registers.{register_count, home, slot_of, slots_to}
 use Rattle.expression_code.specs.TermCode.{lower_part, load_code, constant_code, fetch_code, keep_code, prefix_code, operator_code, rotate_code, cut_code, choice_code, load_by, element_code, kind_at, expr_code, height_of}
 use Rattle.inline.specs.declared.flat.FlatVariable.{FlatVariable}
 use Rattle.inline.specs.Fitting.{IsWithinKind, Fits}
@@ -104,7 +104,7 @@ module _ (z : Setting) where
   neither q l r rd a b e (inl is) = a (e ∙ is)
   neither q l r rd a b e (inr is) = b (e ∙ is)
 
-  works : (place l r : ℕ) (one : IsFree l) (other : IsFree r) (apart : l ≢ r) → ((q : ℕ) → q < place → q < 16 → (5 + q ≢ l) × (5 + q ≢ r))
+  works : (place l r : ℕ) (one : IsFree l) (other : IsFree r) (apart : l ≢ r) → ((q : ℕ) → q < place → q < register_count → (5 + q ≢ l) × (5 + q ≢ r))
       → (is : List Instr) → only_computes (either_of l r) is ≡ true → Runs z (length is) none is (Held z) (λ env s t. Worked place is s t)
   works place l r one other apart beside is plain =
       let fine' = allowed l r one other apart in
