@@ -12,7 +12,7 @@ use Rattle.rv_machine.specs.Leakage.{Leads}
 use Rattle.rv_machine.specs.Machine.{State}
 use Rattle.rv_machine.specs.declared.observation.Observation.{Observation}
 use Rattle.expression_code.specs.Inside.{IsInside}
-use Rattle.expression_code.specs.Registers.{slot_of}
+use Rattle.expression_code.specs.Registers.{register_count, slot_of}
 use Rattle.expression_code.specs.Computed.{Site, IsSiteOf, IsComputed}
 use Rattle.expression_code.proofs.ExpressionRuns.{expr_runs}
 use Rattle.expression_code.proofs.Straight.{Setting, append-none, ends_on}
@@ -47,13 +47,13 @@ module _ (e : TermTree) (site : Site) (fit : IsSiteOf e site) where
   found place v t false there = there
 
   -- and that it is the same where lower places are kept
-  stays : (place top : ℕ) (s t : State) → place < top → Kept (setting_of e site fit) (slot_of site.free top) s t → Lower top s t → (b : Bool) → nat_lt place 16 ≡ b
+  stays : (place top : ℕ) (s t : State) → place < top → Kept (setting_of e site fit) (slot_of site.free top) s t → Lower top s t → (b : Bool) → nat_lt place register_count ≡ b
       → cond b (Some (t.regs (5 + place))) (number_at t.bytes 4 (site.frame + slot_of site.free place)) ≡ cond b (Some (s.regs (5 + place))) (number_at s.bytes 4 (site.frame + slot_of site.free place))
   stays place top s t less kept lower true h =
-      let small : place < 16 = grind (arith, nat_tests) in
+      let small : place < register_count = grind (arith, nat_tests) in
       ap Some (lower place less small)
   stays place top s t less kept lower false h =
-      let large : 16 ≤ place = grind (arith, nat_tests) in
+      let large : register_count ≤ place = grind (arith, nat_tests) in
       kept_number (setting_of e site fit) (slot_of site.free top) s t kept 4 (slot_of site.free place) (omega (arith, less, large))
 
 pub expressions_are_computed : (e : TermTree) (word : WordType) (site : Site) → HasType (types_of site.declared) e word → IsSiteOf e site → IsComputed e site
@@ -80,8 +80,8 @@ expressions_are_computed e word site has fit =
             few = run.within;
             inside = subst (λ (seen : List Observation). All (λ (o : Observation). IsInside site.frame site.size o.event) seen) same run.inside;
             behind = run.at;
-            value = found e site fit site.place (value_in m e) run.end (nat_lt site.place 16) run.done.there;
-            lower = λ place less. stays e site fit place site.place s run.end less run.done.kept run.done.lower (nat_lt place 16) refl;
+            value = found e site fit site.place (value_in m e) run.end (nat_lt site.place register_count) run.done.there;
+            lower = λ place less. stays e site fit place site.place s run.end less run.done.kept run.done.lower (nat_lt place register_count) refl;
             base = run.done.held.base;
             kept = λ o below. run.done.kept o (omega (arith, below));
           };

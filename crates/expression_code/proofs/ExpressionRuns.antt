@@ -1,5 +1,5 @@
 -- The code of an expression puts the expression's value into its place.
-use Rattle.std.proofs.Common.{◌≡◌, ◌≢◌, ◌⊎◌, inl, inr, ℕ, zero, suc, ◌+◌, ◌-◌, ◌*◌, ◌/◌, ◌%◌, ◌^◌, ◌<◌, ◌≤◌, ◌==◌, Bool, true, false, cond, List, [], ◌∷◌, ◌++◌, length, max, Some, None, is_some, slice_get, slice_index, refl, sym, ap, ap₂, ◌∙◌, subst, arith, ne_eqb}
+use Rattle.std.proofs.Common.{◌≡◌, ℕ, zero, suc, ◌+◌, ◌*◌, ◌%◌, ◌^◌, ◌<◌, ◌≤◌, Bool, true, List, [], ◌∷◌, ◌++◌, length, max, Some, None, is_some, slice_get, slice_index, refl, sym, ap, ◌∙◌, subst, arith}
 use Rattle.std.proofs.lemmas.Option.{same_Some}
 use Rattle.std.proofs.Math.Nat.{le-max_left, le-max_right}
 use Rattle.branch_removal.specs.StraightMeaning.{StraightState}
@@ -9,17 +9,14 @@ use Rattle.expression_code.specs.TermCode.{lower_part, load_code, constant_code,
 use Rattle.inline.specs.declared.flat.FlatVariable.{FlatVariable}
 use Rattle.inline.specs.Fitting.{IsWithinKind, Fits}
 use Rattle.inline.specs.Flat.{TermTree, number, truth, variable, prefix, binary, rotate, convert, select, element, word_as, array_as}
-use Rattle.inline.specs.FlatMeaning.{Values, value_in, path_in, division}
+use Rattle.inline.specs.FlatMeaning.{Values, value_in, path_in}
 use Rattle.inline.specs.FlatSize.{term_nodes}
 use Rattle.inline.specs.FlatTyping.{types_of, HasType, of_number, of_truth, of_variable, of_prefix, of_binary, of_rotation, of_conversion, of_selection, of_element}
-use Rattle.inline.specs.Path.{indexed, divided}
+use Rattle.inline.specs.Path.{indexed}
 use Rattle.inline.proofs.Fitting.{value_fits}
 use Rattle.rv_code.specs.declared.instructions.Instr.{Instr}
-use Rattle.rv_code.specs.declared.instructions.Instr.TheVariants as instr
-use Rattle.rv_code.specs.declared.operations.DivideOperation.{DivideOperation}
-use Rattle.rv_code.specs.declared.operations.DivideOperation.TheVariants.{Divu, Remu}
 use Rattle.rv_machine.specs.Bytes.{ByteMap, number_at}
-use Rattle.rv_machine.specs.Effects.{load_size, loaded_value, divide_value}
+use Rattle.rv_machine.specs.Effects.{load_size, loaded_value}
 use Rattle.rv_machine.specs.Machine as machine
 use Rattle.rv_machine.specs.Sizes.{byte_count}
 use Rattle.language.specs.declared.signature.Label.{Label}
@@ -27,28 +24,28 @@ use Rattle.language.specs.WellTyped.{labelled}
 use Rattle.language.specs.declared.signature.Kind.{Kind}
 use Rattle.language.specs.declared.signature.Kind.TheVariants.{Boolean, Uint8, Uint16, Uint32}
 use Rattle.language.specs.declared.tree.BinaryOperator.{BinaryOperator}
-use Rattle.language.specs.declared.tree.BinaryOperator.TheVariants.{Either, Both, Equal, Unequal, Less, LessOrEqual, Greater, GreaterOrEqual, BitOr, BitXor, BitAnd, ShiftLeft, ShiftRight, Add, Subtract, Multiply, Divide, Remainder}
 use Rattle.language.specs.declared.typing.WordType.{WordType}
-use Rattle.language.specs.Operators.{divides, operated, prefix_value, width_of}
+use Rattle.language.specs.Operators.{prefix_value, width_of}
 use Rattle.language.specs.Size.{element_bytes}
 use Rattle.word.specs.declared.place.Place.{Place}
 use Rattle.word.specs.declared.width.Width.{Width}
 use Rattle.word.specs.Operators.{converted, rotated_left, word_of}
 use Rattle.expression_code.proofs.Arithmetic.{lower_fits}
-use Rattle.expression_code.proofs.Computing.{registers_after, only_computes, register_kept, computing_within}
+use Rattle.expression_code.proofs.Computing.{registers_after, only_computes}
 use Rattle.expression_code.proofs.Elements.{address_runs}
-use Rattle.expression_code.proofs.Held.{HeldAt, Held, held_regs, frame_there}
-use Rattle.expression_code.proofs.Homes.{IsFree, spare_free, home_free, homes_apart, home_apart, lower_apart}
+use Rattle.expression_code.proofs.Held.{HeldAt, held_regs, frame_there}
+use Rattle.expression_code.proofs.Homes.{home_free, homes_apart, home_apart, lower_apart}
 use Rattle.expression_code.proofs.Masks.{chosen, choice}
-use Rattle.expression_code.proofs.Operations.{either_of, written_either, allowed, constant_plain, constant_value, cut_plain, cut_made, operator_plain, operator_made, prefix_plain, prefix_made, rotate_plain, rotate_made, choice_plain, choice_made}
+use Rattle.expression_code.proofs.Operations.{either_of, constant_plain, constant_value, cut_plain, cut_made, prefix_plain, prefix_made, rotate_plain, rotate_made, choice_plain, choice_made}
 use Rattle.expression_code.proofs.OperatorRuns.{truth_fits}
-use Rattle.expression_code.proofs.Pieces.{register-at, load_runs}
+use Rattle.expression_code.proofs.Pieces.{load_runs}
 use Rattle.expression_code.proofs.Places.{place_of, place_aligned}
-use Rattle.expression_code.proofs.Steps.{Inside, Moves, dividing, loading_at}
+use Rattle.expression_code.proofs.Steps.{Inside, loading_at}
 use Rattle.expression_code.proofs.Straight.{Setting, base_of, fine_right, none, Steps, Runs, seq, quiet, quietly, weaken, cheaper, as_code}
-use Rattle.expression_code.proofs.TermLengths.{constant_length, cut_length, operator_length, prefix_length, rotate_length}
+use Rattle.expression_code.proofs.TermLengths.{constant_length, cut_length, prefix_length, rotate_length}
 use Rattle.expression_code.proofs.Fetching.{lower_spare, fetch_runs, keeps}
-use Rattle.expression_code.proofs.Values.{Ready, Valued, Kept, Lower, kept_less, kept_by, kept_then, lower_then, lower_less, holds_lower, holds_still, place_below, ready_after}
+use Rattle.expression_code.proofs.Working.{word_there, home_one, beside_free, beside_apart, works, works_home, operator_runs}
+use Rattle.expression_code.proofs.Values.{Ready, Valued, Kept, kept_less, kept_by, kept_then, lower_then, lower_less, holds_lower, holds_still, place_below, ready_after}
 
 -- what an expression puts on the path
 abbrev pub steps_of : TermTree → Steps
@@ -64,10 +61,6 @@ kind_fits Uint32 v h = h
 -- a well-typed expression's value is a word
 pub value_word : (declared : List FlatVariable) (e : TermTree) (word : WordType) (m : Values) → Fits (types_of declared) m → HasType (types_of declared) e word → value_in m e < 2 ^ 32
 value_word declared e word m fits has = kind_fits word.kind (value_in m e) (value_fits (types_of declared) m fits has)
-
--- a register that has a word's value has a word
-word_there : (v w : ℕ) → v ≡ w → w < 2 ^ 32 → v < 2 ^ 32
-word_there v w is fits = subst (λ x. x < 2 ^ 32) (sym is) fits
 
 -- the kind of a variable that is declared
 pub kind_known : (declared : List FlatVariable) (x : ℕ) (d : FlatVariable) → slice_get declared x ≡ Some d → kind_at declared x ≡ d.word.kind
@@ -90,141 +83,6 @@ load_plain Boolean v = refl
 load_plain Uint8 v = refl
 load_plain Uint16 v = refl
 load_plain Uint32 v = refl
-
-module _ (z : Setting) where
-  -- code that only computes, into registers that are none of a lower place's
-
-  record Worked (place : ℕ) (is : List Instr) (s t : machine.State) : Type 0 where
-    held : HeldAt z t
-    registers : t.regs ≡ registers_after is s.regs
-    same : t.bytes ≡ s.bytes
-    lower : Lower place s t
-
-  neither : (q l r rd : ℕ) → q ≢ l → q ≢ r → q ≡ rd → (rd ≡ l) ⊎ (rd ≡ r) → ⊥
-  neither q l r rd a b e (inl is) = a (e ∙ is)
-  neither q l r rd a b e (inr is) = b (e ∙ is)
-
-  works : (place l r : ℕ) (one : IsFree l) (other : IsFree r) (apart : l ≢ r) → ((q : ℕ) → q < place → q < 16 → (5 + q ≢ l) × (5 + q ≢ r))
-      → (is : List Instr) → only_computes (either_of l r) is ≡ true → Runs z (length is) none is (Held z) (λ env s t. Worked place is s t)
-  works place l r one other apart beside is plain =
-      let fine' = allowed l r one other apart in
-      weaken z
-      (λ env s fine held. held)
-      (λ env s t fine held done. record {
-        held = done.held;
-        registers = done.registers;
-        same = done.same;
-        lower = λ q less small.
-            let b = beside q less small in
-            ap (λ (regs : ℕ → ℕ). regs (5 + q)) done.registers
-            ∙ register_kept (either_of l r) fine' is plain s.regs (5 + q) (λ rd w e. neither (5 + q) l r rd b.0 b.1 e (written_either l r one other apart rd w));
-      })
-      (computing_within z (either_of l r) fine' is plain)
-
-  -- in the home of a place, with a spare register beside
-  abbrev first_home : ℕ → ℕ
-  first_home place = home place 29
-
-  home_one : (place : ℕ) → IsFree (first_home place)
-  home_one place = home_free place 29 (omega arith) (omega arith)
-
-  beside_free : IsFree 30
-  beside_free = spare_free 30 (omega arith) (omega arith)
-
-  beside_apart : (place : ℕ) → first_home place ≢ 30
-  beside_apart place = home_apart place 29 30 (omega arith) (λ e. omega arith)
-
-  works_home : (place : ℕ) (is : List Instr) → only_computes (either_of (first_home place) 30) is ≡ true → Runs z (length is) none is (Held z) (λ env s t. Worked place is s t)
-  works_home place is plain =
-      works place (first_home place) 30 (home_one place) beside_free (beside_apart place)
-      (λ q less small. (lower_apart q place 29 less small (omega arith), λ e. omega (arith, small, e)))
-      is plain
-
-  -- An operator between two operands, in the registers l and r.
-
-  record Operands (l r : ℕ) (a b : StraightState → ℕ) (env : StraightState) (s : machine.State) : Type 0 where
-    held : HeldAt z s
-    left : s.regs l ≡ a env
-    right : s.regs r ≡ b env
-    left_fits : a env < 2 ^ 32
-    right_fits : b env < 2 ^ 32
-
-  record Operated (l r : ℕ) (operator : BinaryOperator) (width : Width) (a b : StraightState → ℕ) (env : StraightState) (s t : machine.State) : Type 0 where
-    held : HeldAt z t
-    there : t.regs l ≡ operated operator width (a env) (b env)
-    others : (q : ℕ) → q ≢ l → q ≢ r → t.regs q ≡ s.regs q
-    same : t.bytes ≡ s.bytes
-
-  module _ (source : Place) (width : Width) (a b : StraightState → ℕ) (l r : ℕ) (one : IsFree l) (other : IsFree r) (apart : l ≢ r) where
-    plainly : (operator : BinaryOperator) → divides operator ≡ false → Runs z 3 none (operator_code l r operator width) (Operands l r a b) (Operated l r operator width a b)
-    plainly operator whole =
-        let fine' = allowed l r one other apart in
-        let plain = operator_plain l r one other apart operator width whole in
-        cheaper z (operator_length l r operator width)
-        (weaken z
-        (λ env s fine given. given.held)
-        (λ env s t fine given done. record {
-          held = done.held;
-          there =
-              ap (λ (regs : ℕ → ℕ). regs l) done.registers
-              ∙ (operator_made l r one other apart operator width whole s.regs (word_there (s.regs l) (a env) given.left given.left_fits) (word_there (s.regs r) (b env) given.right given.right_fits)
-              ∙ ap₂ (operated operator width) given.left given.right);
-          others = λ q m n.
-              ap (λ (regs : ℕ → ℕ). regs q) done.registers
-              ∙ register_kept (either_of l r) fine' (operator_code l r operator width) plain s.regs q (λ rd w e. neither q l r rd m n e (written_either l r one other apart rd w));
-          same = done.same;
-        })
-        (computing_within z (either_of l r) fine' (operator_code l r operator width) plain))
-
-    divided_by : (n : ℕ) (some : 0 < n) (x y : ℕ) → cond (n == 0) x y ≡ y
-    divided_by n some x y = rw (ne_eqb n 0 (λ e. omega (arith, some, e)))
-
-    divides_runs : (operation : DivideOperation) → Runs z 1 (λ env. divided source (a env) (b env) ∷ []) (instr.Divide operation l l r ∷ []) (Operands l r a b) (λ env s t. Moves l (divide_value operation (a env) (b env)) s t)
-    divides_runs operation =
-        weaken z
-        (λ env s fine given. (register-at s.regs l one.nonzero ∙ given.left, register-at s.regs r other.nonzero ∙ given.right))
-        (λ env s t fine given moves. moves)
-        (dividing z source a b operation l l r (one.small, one.small, other.small) one.nonzero)
-
-    operator_runs : (operator : BinaryOperator) → Runs z 3 (λ env. division source operator (a env) (b env)) (operator_code l r operator width) (Operands l r a b) (Operated l r operator width a b)
-    operator_runs Divide =
-        cheaper z (omega arith)
-        (weaken z
-        (λ env s fine given. given)
-        (λ env s t fine given moves. record {
-          held = held_regs z s t (moves.others 2 (λ e. one.not_base (sym e))) moves.same given.held;
-          there = moves.there ∙ divided_by (b env) fine.0 (2 ^ 32 - 1) (a env / b env);
-          others = λ q m n. moves.others q m;
-          same = moves.same;
-        })
-        (divides_runs Divu))
-    operator_runs Remainder =
-        cheaper z (omega arith)
-        (weaken z
-        (λ env s fine given. given)
-        (λ env s t fine given moves. record {
-          held = held_regs z s t (moves.others 2 (λ e. one.not_base (sym e))) moves.same given.held;
-          there = moves.there ∙ divided_by (b env) fine.0 (a env) (a env % b env);
-          others = λ q m n. moves.others q m;
-          same = moves.same;
-        })
-        (divides_runs Remu))
-    operator_runs Either = plainly Either refl
-    operator_runs Both = plainly Both refl
-    operator_runs Equal = plainly Equal refl
-    operator_runs Unequal = plainly Unequal refl
-    operator_runs Less = plainly Less refl
-    operator_runs LessOrEqual = plainly LessOrEqual refl
-    operator_runs Greater = plainly Greater refl
-    operator_runs GreaterOrEqual = plainly GreaterOrEqual refl
-    operator_runs BitOr = plainly BitOr refl
-    operator_runs BitXor = plainly BitXor refl
-    operator_runs BitAnd = plainly BitAnd refl
-    operator_runs ShiftLeft = plainly ShiftLeft refl
-    operator_runs ShiftRight = plainly ShiftRight refl
-    operator_runs Add = plainly Add refl
-    operator_runs Subtract = plainly Subtract refl
-    operator_runs Multiply = plainly Multiply refl
 
 -- Slots of temporaries lie from this offset on.
 module _ (z : Setting) (free : ℕ) (aligned : free % 4 ≡ 0) (above : base_of z ≤ free) where

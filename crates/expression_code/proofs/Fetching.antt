@@ -3,7 +3,7 @@ use Rattle.std.proofs.Common.{◌≡◌, ◌≢◌, ℕ, ◌+◌, ◌*◌, ◌%�
 use Rattle.std.proofs.lemmas.Bool.Decides.{nat_tests}
 use Rattle.std.proofs.lemmas.Option.{same_Some}
 use Rattle.branch_removal.specs.StraightMeaning.{StraightState}
-use Rattle.expression_code.specs.Registers.{home, slot_of, slots_to}
+use Rattle.expression_code.specs.Registers.{register_count, home, slot_of, slots_to}
 use Rattle.expression_code.specs.TermCode.{load_code, store_code, fetch_code, keep_code}
 use Rattle.inline.specs.Flat.{TermTree}
 use Rattle.inline.specs.FlatMeaning.{value_in}
@@ -43,7 +43,7 @@ lower_spare place spare s t low others q less small = others (5 + q) (λ e. omeg
 -- A temporary in a place, where its slot lies in the frame.
 module _ (z : Setting) (free : ℕ) (aligned : free % 4 ≡ 0) (place : ℕ) (room : free + 4 * slots_to place ≤ z.size) where
   module _ (spare : ℕ) (low : 28 < spare) (high : spare < 32) (v : StraightState → ℕ) where
-    fetch_by : (b : Bool) → nat_lt place 16 ≡ b
+    fetch_by : (b : Bool) → nat_lt place register_count ≡ b
         → Runs z 3 none (cond b [] (load_code spare (slot_of free place))) (λ env s. HeldAt z s × HoldsBy b z free place s (v env)) (λ env s t. Fetched z (cond b (5 + place) spare) spare (v env) s t)
     fetch_by true h =
         cheaper z (omega arith)
@@ -57,7 +57,7 @@ module _ (z : Setting) (free : ℕ) (aligned : free % 4 ≡ 0) (place : ℕ) (ro
         })
         (idle z))
     fetch_by false h =
-        let large : 16 ≤ place = grind (arith, nat_tests) in
+        let large : register_count ≤ place = grind (arith, nat_tests) in
         weaken z
         (λ env s fine given. given.0)
         (λ env s t fine given took. record {
@@ -69,10 +69,10 @@ module _ (z : Setting) (free : ℕ) (aligned : free % 4 ≡ 0) (place : ℕ) (ro
         (load_runs z spare (slot_of free place) (omega (arith, aligned)) (omega (arith, room, large)) high (λ e. omega (arith, low, e)) (λ e. omega (arith, low, e)))
 
     pub fetch_runs : Runs z 3 none (fetch_code free place spare) (λ env s. HeldAt z s × Holds z free place s (v env)) (λ env s t. Fetched z (home place spare) spare (v env) s t)
-    fetch_runs = fetch_by (nat_lt place 16) refl
+    fetch_runs = fetch_by (nat_lt place register_count) refl
 
   module _ (v : StraightState → ℕ) where
-    keep_by : (b : Bool) → nat_lt place 16 ≡ b
+    keep_by : (b : Bool) → nat_lt place register_count ≡ b
         → Runs z 3 none (cond b [] (store_code 29 (slot_of free place))) (λ env s. HeldAt z s × (s.regs (cond b (5 + place) 29) ≡ v env) × (v env < 2 ^ 32))
         (λ env s t. HeldAt z t × HoldsBy b z free place t (v env) × Kept z (slot_of free place) s t × ((q : ℕ) → q ≢ 28 → t.regs q ≡ s.regs q))
     keep_by true h =
@@ -87,7 +87,7 @@ module _ (z : Setting) (free : ℕ) (aligned : free % 4 ≡ 0) (place : ℕ) (ro
         ))
         (idle z))
     keep_by false h =
-        let large : 16 ≤ place = grind (arith, nat_tests) in
+        let large : register_count ≤ place = grind (arith, nat_tests) in
         weaken z
         (λ env s fine given. given.0)
         (λ env s t fine given put. (put.held, put_there z 29 (slot_of free place) (v env) env s t put given.1 given.2, put_kept z 4 29 (slot_of free place) env s t put, put.others))
@@ -98,7 +98,7 @@ module _ (z : Setting) (free : ℕ) (aligned : free % 4 ≡ 0) (place : ℕ) (ro
         weaken z
         (λ env s fine given. given)
         (λ env s t fine given done. record { held = done.0; there = done.1; kept = done.2; others = done.3 })
-        (keep_by (nat_lt place 16) refl)
+        (keep_by (nat_lt place register_count) refl)
 
   -- what code makes in the home of a place is kept there
   pub keeps : (e : TermTree) {n : ℕ} {steps : Steps} {is : List Instr} {P : Before} → ((env : StraightState) (s : machine.State) → P env s → value_in env.variables e < 2 ^ 32)

@@ -1,7 +1,7 @@
 -- The registers that operators work on: those of temporaries, and the spare ones.
 use Rattle.std.proofs.Common.{◌≡◌, ◌≢◌, ℕ, ◌+◌, ◌<◌, ◌≤◌, ◌⊎◌, inl, inr, Bool, true, false, cond, nat_lt, refl, sym, ◌∙◌, arith}
 use Rattle.std.proofs.lemmas.Bool.Decides.{nat_tests}
-use Rattle.expression_code.specs.Registers.{home}
+use Rattle.expression_code.specs.Registers.{register_count, home}
 
 -- a register that an operator may work on
 pub record IsFree (r : ℕ) : Type 0 where
@@ -23,18 +23,18 @@ spare_free spare low high = free_as spare spare refl (omega (arith, low)) high (
 
 -- a temporary's register, or the spare one
 abbrev pub Homed : ℕ → ℕ → Type 0
-Homed place spare = ((place < 16) × (home place spare ≡ 5 + place)) ⊎ ((16 ≤ place) × (home place spare ≡ spare))
+Homed place spare = ((place < register_count) × (home place spare ≡ 5 + place)) ⊎ ((register_count ≤ place) × (home place spare ≡ spare))
 
-home_by : (place spare : ℕ) (b : Bool) → nat_lt place 16 ≡ b → ((place < 16) × (cond b (5 + place) spare ≡ 5 + place)) ⊎ ((16 ≤ place) × (cond b (5 + place) spare ≡ spare))
+home_by : (place spare : ℕ) (b : Bool) → nat_lt place register_count ≡ b → ((place < register_count) × (cond b (5 + place) spare ≡ 5 + place)) ⊎ ((register_count ≤ place) × (cond b (5 + place) spare ≡ spare))
 home_by place spare true h =
-    let less : place < 16 = grind (arith, nat_tests) in
+    let less : place < register_count = grind (arith, nat_tests) in
     inl (less, refl)
 home_by place spare false h =
-    let more : 16 ≤ place = grind (arith, nat_tests) in
+    let more : register_count ≤ place = grind (arith, nat_tests) in
     inr (more, refl)
 
 pub home_is : (place spare : ℕ) → Homed place spare
-home_is place spare = home_by place spare (nat_lt place 16) refl
+home_is place spare = home_by place spare (nat_lt place register_count) refl
 
 pub home_free : (place spare : ℕ) → 28 < spare → spare < 32 → IsFree (home place spare)
 home_free place spare low high = by_home (home_is place spare)
@@ -64,7 +64,7 @@ home_apart place spare other low apart e = by_home (home_is place spare)
     by_home (inr h) = apart (sym h.1 ∙ e)
 
 -- or in the register of a lower place
-pub lower_apart : (q place spare : ℕ) → q < place → q < 16 → 28 < spare → 5 + q ≢ home place spare
+pub lower_apart : (q place spare : ℕ) → q < place → q < register_count → 28 < spare → 5 + q ≢ home place spare
 lower_apart q place spare less small low e = by_home (home_is place spare)
   where
     by_home : Homed place spare → ⊥

@@ -14,6 +14,7 @@ pub mod Values
 pub mod Fetching
 pub mod TermLengths
 pub mod TermTypes
+pub mod Working
 pub mod Elements
 pub mod ExpressionRuns
 pub mod OffsetLemmas

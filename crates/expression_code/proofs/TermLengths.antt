@@ -2,7 +2,7 @@
 use Rattle.std.proofs.Common.{ℕ, ◌+◌, ◌*◌, ◌%◌, ◌≤◌, ◌==◌, Bool, true, false, cond, nat_lt, List, ◌++◌, length, max, arith, length-append}
 use Rattle.std.proofs.Math.Nat.{max-le}
 use Rattle.expression_code.specs.Layout.{variable_offset}
-use Rattle.expression_code.specs.Registers.{home, slot_of}
+use Rattle.expression_code.specs.Registers.{register_count, home, slot_of}
 use Rattle.expression_code.specs.TermCode.{load_code, store_code, constant_code, fetch_code, keep_code, expr_code, height_of, cut_code, operator_code, prefix_code, around_code, rotate_code, scale_code, raise_code, address_code, element_code, kind_at}
 use Rattle.inline.specs.declared.flat.FlatVariable.{FlatVariable}
 use Rattle.inline.specs.Flat.{TermTree, number, truth, variable, prefix, binary, rotate, convert, select, element}
@@ -59,10 +59,10 @@ pub constant_length : (r n : ℕ) → length (constant_code r n) ≤ 2
 constant_length r n = one_of (nat_lt n 2048) _ _ 2 (omega arith) (omega arith)
 
 fetch_length : (free place spare : ℕ) → length (fetch_code free place spare) ≤ 3
-fetch_length free place spare = one_of (nat_lt place 16) _ _ 3 (omega arith) (load_length spare (slot_of free place))
+fetch_length free place spare = one_of (nat_lt place register_count) _ _ 3 (omega arith) (load_length spare (slot_of free place))
 
 keep_length : (free place : ℕ) → length (keep_code free place) ≤ 3
-keep_length free place = one_of (nat_lt place 16) _ _ 3 (omega arith) (store_length 29 (slot_of free place))
+keep_length free place = one_of (nat_lt place register_count) _ _ 3 (omega arith) (store_length 29 (slot_of free place))
 
 pub cut_length : (r : ℕ) (w : Width) → length (cut_code r w) ≤ 2
 cut_length r W8 = omega arith

@@ -3,7 +3,7 @@ use Rattle.std.proofs.Common.{◌≡◌, ◌≢◌, ℕ, ◌+◌, ◌-◌, ◌%�
 use Rattle.std.proofs.lemmas.Bool.Decides.{nat_tests}
 use Rattle.branch_removal.specs.StraightMeaning.{StraightState}
 use Rattle.expression_code.specs.Layout.{control_offset}
-use Rattle.expression_code.specs.Registers.{slot_of}
+use Rattle.expression_code.specs.Registers.{register_count, slot_of}
 use Rattle.inline.specs.declared.flat.FlatVariable.{FlatVariable}
 use Rattle.inline.specs.Fitting.{Fits}
 use Rattle.inline.specs.Flat.{TermTree, numbers_in}
@@ -33,7 +33,7 @@ pub record Ready (z : Setting) (env : StraightState) (s : machine.State) : Type 
 
 -- so are the registers of lower places
 abbrev pub Lower : ℕ → machine.State → machine.State → Type 0
-Lower place s t = (q : ℕ) → q < place → q < 16 → t.regs (5 + q) ≡ s.regs (5 + q)
+Lower place s t = (q : ℕ) → q < place → q < register_count → t.regs (5 + q) ≡ s.regs (5 + q)
 
 -- the temporary of a place, with a register or without one, has this value
 abbrev pub HoldsBy : Bool → Setting → ℕ → ℕ → machine.State → ℕ → Type 0
@@ -41,7 +41,7 @@ HoldsBy true z free place t v = t.regs (5 + place) ≡ v
 HoldsBy false z free place t v = number_at t.bytes 4 (z.frame + slot_of free place) ≡ Some v
 
 abbrev pub Holds : Setting → ℕ → ℕ → machine.State → ℕ → Type 0
-Holds z free place t v = HoldsBy (nat_lt place 16) z free place t v
+Holds z free place t v = HoldsBy (nat_lt place register_count) z free place t v
 
 -- a place has what the expression means
 pub record Valued (z : Setting) (e : TermTree) (free place : ℕ) (env : StraightState) (s t : machine.State) : Type 0 where
@@ -102,24 +102,24 @@ lower_less less place s t few lower q below small = lower q (omega (arith, below
 
 -- where the code of a temporary of a higher place has run
 holds_beside : (z : Setting) (free less place v : ℕ) (s t : machine.State) → less < place → Kept z (slot_of free place) s t → Lower place s t
-    → (b : Bool) → nat_lt less 16 ≡ b → HoldsBy b z free less s v → HoldsBy b z free less t v
+    → (b : Bool) → nat_lt less register_count ≡ b → HoldsBy b z free less s v → HoldsBy b z free less t v
 holds_beside z free less place v s t below kept lower true h there =
-    let small : less < 16 = grind (arith, nat_tests) in
+    let small : less < register_count = grind (arith, nat_tests) in
     lower less below small ∙ there
 holds_beside z free less place v s t below kept lower false h there =
-    let large : 16 ≤ less = grind (arith, nat_tests) in
+    let large : register_count ≤ less = grind (arith, nat_tests) in
     kept_number z (slot_of free place) s t kept 4 (slot_of free less) (omega (arith, below, large)) ∙ there
 
 pub holds_lower : (z : Setting) (free less place v : ℕ) (s t : machine.State) → less < place → Kept z (slot_of free place) s t → Lower place s t → Holds z free less s v → Holds z free less t v
-holds_lower z free less place v s t below kept lower there = holds_beside z free less place v s t below kept lower (nat_lt less 16) refl there
+holds_lower z free less place v s t below kept lower there = holds_beside z free less place v s t below kept lower (nat_lt less register_count) refl there
 
 -- where only a spare register has changed
 holds_alike : (z : Setting) (free place v spare : ℕ) (s t : machine.State) → 28 < spare → ((q : ℕ) → q ≢ spare → t.regs q ≡ s.regs q) → t.bytes ≡ s.bytes
-    → (b : Bool) → nat_lt place 16 ≡ b → HoldsBy b z free place s v → HoldsBy b z free place t v
+    → (b : Bool) → nat_lt place register_count ≡ b → HoldsBy b z free place s v → HoldsBy b z free place t v
 holds_alike z free place v spare s t low others same true h there =
-    let small : place < 16 = grind (arith, nat_tests) in
+    let small : place < register_count = grind (arith, nat_tests) in
     others (5 + place) (λ e. omega (arith, small, low, e)) ∙ there
 holds_alike z free place v spare s t low others same false h there = ap (λ (b : ByteMap). number_at b 4 (z.frame + slot_of free place)) same ∙ there
 
 pub holds_still : (z : Setting) (free place v spare : ℕ) (s t : machine.State) → 28 < spare → ((q : ℕ) → q ≢ spare → t.regs q ≡ s.regs q) → t.bytes ≡ s.bytes → Holds z free place s v → Holds z free place t v
-holds_still z free place v spare s t low others same there = holds_alike z free place v spare s t low others same (nat_lt place 16) refl there
+holds_still z free place v spare s t low others same there = holds_alike z free place v spare s t low others same (nat_lt place register_count) refl there
