@@ -1,4 +1,3 @@
-pub mod Steps
 pub mod Jumps
 pub mod Slots
 pub mod Showing

@@ -2,7 +2,6 @@
 use Rattle.std.proofs.Common.{◌≡◌, ◌≢◌, ℕ, zero, suc, ◌+◌, ◌*◌, ◌<◌, ◌≤◌, List, [], ◌∷◌, ◌++◌, All, length, map, drop, slice_index_or, refl, sym, ap, ap₂, subst, ◌∙◌, arith, drop-cons, add-one, append_assoc}
 use Rattle.std.proofs.lemmas.List.{map-append}
 use Rattle.std.proofs.lemmas.List.Elements.{All-append}
-use Rattle.codegen.proofs.Steps.{All-one}
 use Rattle.codegen.specs.Loaded.{array_in, arrays_in}
 use Rattle.image_fields.specs.Fields.{slot_bytes, slot_end}
 use Rattle.image_fields.specs.declared.slot.Slot.{Slot}
@@ -25,6 +24,10 @@ no_array : (frame : ℕ) (bytes : ByteMap) (slot : Slot) (form : Form) → form 
 no_array frame bytes slot SingleWord other = refl
 no_array frame bytes slot FixedArray other = refl
 no_array frame bytes slot MutableArray other = absurd (other refl)
+
+All-one : {A : Type 0} (P : A → Type 0) (x : A) → P x → All P (x ∷ [])
+All-one P x h zero d below = h
+All-one P x h (suc k) d below = absurd (omega arith)
 
 pub space_more : (bound : ℕ) (each : List ArraySpace) (one : ArraySpace) → All (HasSpace bound) each → HasSpace bound one → All (HasSpace bound) (each ++ one ∷ [])
 space_more bound each one all it = All-append (HasSpace bound) each (one ∷ []) all (All-one (HasSpace bound) one it)
