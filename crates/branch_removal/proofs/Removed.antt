@@ -6,8 +6,10 @@ use Rattle.inline.specs.Flat.{FlatProgram, declaration_of}
 use Rattle.inline.specs.FlatMeaning.{given, value_in, path_of_result}
 use Rattle.inline.specs.FlatMeaning as flat
 use Rattle.inline.specs.FlatSize.{IsSized}
-use Rattle.inline.specs.FlatTyping.{Types, types_of, end_types, parameter_types, IsTypedProgram}
+use Rattle.inline.specs.FlatTyping.{types_of, end_types, parameter_types, IsTypedProgram}
+use Rattle.inline.specs.Kept.{IsFlat}
 use Rattle.inline.specs.Path.{Path, AreFine}
+use Rattle.intervals.specs.Kept.{IsRanged}
 use Rattle.intervals.specs.Loose.{IsSafe}
 use Rattle.intervals.specs.Ranged.{RangedProgram}
 use Rattle.intervals.specs.declared.limits.TheConstants.{MOST_WORK}
@@ -32,9 +34,6 @@ use Rattle.branch_removal.proofs.Typed.{AreHidden, hidden_all, typed_all}
 use Rattle.branch_removal.proofs.Values.{one_result, one_path_of_result}
 
 module _ (p : FlatProgram) (typed : IsTypedProgram p) where
-  first_types : Types
-  first_types = parameter_types p.parameters
-
   first_among : AreAmong (parameter_types p.parameters) (types_of p.declared)
   first_among = parameters_among p.parameters p.declared typed.parameters
 
@@ -128,7 +127,7 @@ pub straight_of : (r : RangedProgram) (controls : ℕ) (body : StraightBlock) �
 straight_of r controls body counted same = rw (counted, same) refl
 
 -- so of a body with what is counted for it
-pub removed_as_promised : (r : RangedProgram) → IsTypedProgram r.flat → IsSized r.flat → r ≡ ranged r.flat → IsSafe r.flat r.turns → r.work ≤ MOST_WORK → IsRemoved r (straightened r)
-removed_as_promised r typed sized counted safe fits =
-    subst (λ (q : RangedProgram). IsRemoved q (straightened q)) (sym counted)
-    (is_removed r.flat typed sized (subst (λ (q : RangedProgram). IsSafe r.flat q.turns) counted safe) (subst (λ (q : RangedProgram). q.work ≤ MOST_WORK) counted fits))
+pub removed_as_promised : (r : RangedProgram) → IsFlat r.flat → IsRanged r → IsRemoved r (straightened r)
+removed_as_promised r flat kept =
+    subst (λ (q : RangedProgram). IsRemoved q (straightened q)) (sym kept.counted)
+    (is_removed r.flat flat.typed flat.sized (subst (λ (q : RangedProgram). IsSafe r.flat q.turns) kept.counted kept.safe) (subst (λ (q : RangedProgram). q.work ≤ MOST_WORK) kept.counted kept.worked))

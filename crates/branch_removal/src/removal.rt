@@ -1,10 +1,5 @@
 ghost use Rattle.std.specs.Prelude.{◌≡◌, ◌+◌, ◌^◌, ◌<◌, ◌≤◌, map, IfOk, IfErr, OnOk};
 ghost use Rattle.inline.specs.Flat.{term_tree, flat_tree, flat_block};
-ghost use Rattle.inline.specs.FlatSize.{IsSized};
-ghost use Rattle.inline.specs.FlatTyping.{IsTypedProgram};
-ghost use Rattle.intervals.specs.declared.limits.TheConstants.{MOST_WORK};
-ghost use Rattle.intervals.specs.Loose.{IsSafe};
-ghost use Rattle.intervals.specs.Work.{ranged as counted_for};
 ghost use Rattle.language.specs.WantOfMemory.{IsWantOfMemory};
 ghost use Rattle.branch_removal.specs.private.Removal.{set_within, put_within, made, removed, removed_all, controls_in, controls_in_all};
 ghost use Rattle.branch_removal.specs.Removed.{IsRemoved};
@@ -125,14 +120,9 @@ fn push_removed_all<'f>(
     Ok(())
 }
 
-/// A well-typed body's straight code: its outcome is that of the body, it meets no fault, and what a run of it shows is
+/// A body's straight code: its outcome is that of the body, it meets no fault, and what a run of it shows is
 /// decided by what is public. Want of memory alone refuses it.
 pub fn remove<'r>(alloc: Global, ranged: &'r Ranged<'_>) -> Result<Straight<'r>, Refusal>
-    requires typed { IsTypedProgram ranged.now.flat }
-    requires sized { IsSized ranged.now.flat }
-    requires counted { ranged.now ≡ counted_for ranged.now.flat }
-    requires worked { ranged.now.work ≤ MOST_WORK }
-    requires safe { IsSafe ranged.now.flat ranged.now.turns }
     ensures removed { IfOk result (IsRemoved ranged.now) }
     ensures memory { IfErr result (λ refusal. IsWantOfMemory refusal.rule refusal.place) }
 {

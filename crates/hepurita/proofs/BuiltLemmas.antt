@@ -3,7 +3,6 @@ use Rattle.std.proofs.Common.{◌≡◌, inl, inr, ℕ, List, [], length, Some, 
 use Rattle.inline.specs.Flat.{FlatProgram}
 use Rattle.inline.specs.Numbering.{flattened}
 use Rattle.intervals.specs.Work.{IsRefusedByRanges}
-use Rattle.word.specs.declared.place.Place.{Place}
 use Rattle.language.specs.declared.refusal.Refusal.{Refusal}
 use Rattle.language.specs.declared.rule.Rule.{Rule}
 use Rattle.language.specs.Meaning.{exported}
@@ -12,7 +11,7 @@ use Rattle.syntax.specs.Reading.{Reads, accepted, IsRefusedAs}
 use Rattle.language.specs.Size.{size_violations}
 use Rattle.language.specs.Tree.{ProcedureTree, ProgramTree}
 use Rattle.language.specs.Typing.{violations}
-use Rattle.hepurita.specs.Built.{IsWellFormed, IsSmall, JudgesProgram, Judges, accepts, refuses, ill_typed, too_large, out_of_range, too_much_work, fine, unreadable, readable, IsRefusal}
+use Rattle.hepurita.specs.Built.{IsWellFormed, IsSmall, JudgesProgram, Judges, refuses, ill_typed, too_large, out_of_range, too_much_work, unreadable, readable, IsRefusal}
 
 -- a refusal by the rules on names, types and labels
 pub refusal_of_types : (program : ProgramTree) (r : Refusal) → IsRefusedFor (violations program) r.rule r.place → IsRefusal (JudgesProgram program) r

@@ -1,5 +1,5 @@
 -- Where the data is, before and after stores.
-use Rattle.std.proofs.Common.{◌≡◌, ℕ, zero, suc, ◌+◌, ◌*◌, ◌^◌, ◌<◌, ◌≤◌, Bool, true, ◌&&◌, nat_le, nat_lt, List, length, Some, None, cond, is_some, refl, sym, ap, subst, ◌∙◌, arith}
+use Rattle.std.proofs.Common.{◌≡◌, ℕ, ◌+◌, ◌*◌, ◌<◌, ◌≤◌, Bool, true, ◌&&◌, nat_le, nat_lt, List, length, Some, None, cond, is_some, refl, sym, ap, subst, ◌∙◌, arith}
 use Rattle.std.proofs.lemmas.Bool.Decides.{nat_tests}
 use Rattle.arguments.specs.Within.{HasShape}
 use Rattle.image_fields.specs.Fields.{slot_end, slot_bytes}
@@ -51,11 +51,6 @@ module _ (frame : ℕ) (bytes : ByteMap) (slot : Slot) (holds : HoldsSlot frame 
   word_there w shape =
       let end = end_of_word slot (word_shape slot.param.form slot.param.length w shape) in
       number_there bytes 4 (frame + slot.offset) (λ x low high. holds.data_there x low (omega (arith, end)))
-
-  pub array_below : (words : List ℕ) → HasShape slot.param.form slot.param.length (Array words) → frame + slot.offset + element_bytes slot.param.kind * length words ≤ 2 ^ 32
-  array_below words shape =
-      let fits = elements_within slot.param.form slot.param.kind slot.param.length words shape in
-      omega (arith, fits, holds.below)
 
   pub array_there : (words : List ℕ) → HasShape slot.param.form slot.param.length (Array words) → (x : ℕ) → frame + slot.offset ≤ x → x < frame + slot.offset + element_bytes slot.param.kind * length words → is_some (bytes x) ≡ true
   array_there words shape x low high =

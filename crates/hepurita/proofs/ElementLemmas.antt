@@ -27,12 +27,6 @@ ends_within Byte i n at bound below within = omega (arith, below, within)
 ends_within Half i n at bound below within = omega (arith, below, within)
 ends_within Word i n at bound below within = omega (arith, below, within)
 
--- there are not more numbers than bytes
-pub not_more : (size : Size) (i n at bound : ℕ) → i < n → at + byte_count size * n ≤ bound → i < bound
-not_more Byte i n at bound below within = omega (arith, below, within)
-not_more Half i n at bound below within = omega (arith, below, within)
-not_more Word i n at bound below within = omega (arith, below, within)
-
 -- where the next number is
 pub next_place : (at size i : ℕ) → at + size * i + size ≡ at + size * (i + 1)
 next_place at size i =

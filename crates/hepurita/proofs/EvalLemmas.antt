@@ -1,5 +1,5 @@
 -- What `eval` answers for an accepted text: its one outcome.
-use Rattle.std.proofs.Common.{◌≡◌, ◌↔◌, ◌++◌, ℕ, ◌≤◌, ◌||◌, Bool, true, false, nat_lt, List, [], length, map, Option, Some, None, Result, Ok, refl, sym, ap, subst, ◌∙◌, arith}
+use Rattle.std.proofs.Common.{◌≡◌, ◌++◌, ℕ, ◌≤◌, ◌||◌, Bool, true, false, nat_lt, List, length, map, Option, None, Ok, refl, ap, ◌∙◌, arith}
 use Rattle.std.proofs.lemmas.Bool.Decides.{nat_tests}
 use Rattle.arguments.specs.Faults.{fault_of}
 use Rattle.arguments.specs.Within.{AreWithin}
@@ -7,7 +7,6 @@ use Rattle.arguments.specs.declared.fault.ArgumentFault.{ArgumentFault}
 use Rattle.inline.specs.FlatMeaning.{outcome_of}
 use Rattle.inline.specs.Numbering.{flattened, param_of}
 use Rattle.intervals.proofs.Safe.{accepted_is_safe}
-use Rattle.intervals.specs.Work.{ranged}
 use Rattle.intervals.specs.declared.limits.TheConstants.{MOST_WORK}
 use Rattle.language.specs.Evaluation.{program_run}
 use Rattle.language.specs.Results.{Results}
@@ -20,7 +19,6 @@ use Rattle.language.specs.declared.signature.Param.{Param}
 use Rattle.language.specs.declared.values.Arg.{Arg}
 use Rattle.run_bounds.proofs.Answered.{answered}
 use Rattle.source_eval.specs.Answer.{answer, judged_answer, found_params, params_of}
-use Rattle.source_eval.specs.declared.fault.EvalFault.{EvalFault}
 use Rattle.word.specs.declared.place.Place.{Place}
 use Rattle.hepurita.specs.Built.{Judges, accepts, readable, fine}
 use Rattle.hepurita.specs.Compiled.{Means}
@@ -52,7 +50,7 @@ evaluated faultless text program before export args budget (readable reads (fine
     let flat = flattened before export in
     let typed = flat_typed program before export plain small in
     let safe = accepted_is_safe flat typed in_range in
-    let work = within_work flat (ranged flat) refl in_time in
+    let work = within_work flat in_time in
     let params = map param_of export.parameters in
     let run = answered program before export args budget is.typed is.is_export parts.0 parts.1 typed (bodies_fit before export small.sized) in_range work within enough in
     (outcome_of flat args, safe_means program before export plain small safe args within, judged program args budget params (ap found_params is.is_export) ((faultless params args).1 within) ∙ run)

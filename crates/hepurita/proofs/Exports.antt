@@ -1,6 +1,10 @@
 -- The exported procedure and those before it are the program's.
-use Rattle.std.proofs.Common.{◌≡◌, suc, Bool, true, false, List, [], ◌∷◌, ◌++◌, Option, None, Some, is_some, cond, Contains, refl, ap, subst, arith}
+use Rattle.std.proofs.Common.{◌≡◌, List, [], length, Option, None, Some, ap, sym, subst, ◌∙◌}
+use Rattle.std.proofs.ByRecursion.{All-get_or, All-take}
+use Rattle.std.proofs.lemmas.Option.{get_or_from_slice_get, same_Some, slice_get_within}
 use Rattle.std.specs.List.{AllByRecursion}
+use Rattle.labels.proofs.ExportLemmas.{export_at}
+use Rattle.labels.specs.Exports.{export_index}
 use Rattle.language.specs.Meaning.{exported}
 use Rattle.language.specs.Tree.{ProcedureTree}
 
@@ -18,25 +22,10 @@ abbrev pub front_or : List ProcedureTree → Export → List ProcedureTree
 front_or qs None = qs
 front_or qs (Some both) = both.0
 
--- what holds of each procedure of a program holds of its export, and of each before it
-module _ (P : ProcedureTree → Type 0) where
-  abbrev pub AreAll : List ProcedureTree → Type 0
-  AreAll ps = AllByRecursion P ps
-
-  behind : (before : List ProcedureTree) (q : ProcedureTree) → AreAll before → P q → AreAll (before ++ q ∷ [])
-  behind [] q h k = (k, tt)
-  behind (p ∷ before) q h k = (h.0, behind before q h.1 k)
-
-  both_parts : (before ps front : List ProcedureTree) (p : ProcedureTree) → exported before ps ≡ Some (front, p) → AreAll before → ((q : ProcedureTree) → Contains ps q → P q) → AreAll front × P p
-  both_parts before [] front p is h each = cc
-  both_parts before (q ∷ ps) front p is h each =
-      by (is_some q.export) _ is
-      (λ rest. both_parts (before ++ q ∷ []) ps front p rest (behind before q h (each q (0, omega arith, refl))) (λ r there. each r (suc there.0, omega (arith, there.1), there.2)))
-    where
-      by : (marked : Bool) (rest : Export) → cond {A = Export} marked (Some (before, q)) rest ≡ Some (front, p) → (rest ≡ Some (front, p) → AreAll front × P p) → AreAll front × P p
-      by true rest found after =
-          (subst AreAll (ap (front_or before) found) h, subst P (ap (export_or q) found) (each q (0, omega arith, refl)))
-      by false rest found after = after found
-
-  pub of_export : (ps front : List ProcedureTree) (p : ProcedureTree) → exported [] ps ≡ Some (front, p) → ((q : ProcedureTree) → Contains ps q → P q) → AreAll front × P p
-  of_export ps front p is each = both_parts [] ps front p is tt each
+-- what holds of all procedures of a program holds of its export, and of all before it
+pub of_export : (P : ProcedureTree → Type 0) (ps front : List ProcedureTree) (p : ProcedureTree) → exported [] ps ≡ Some (front, p) → AllByRecursion P ps → AllByRecursion P front × P p
+of_export P ps front p is all =
+    let at = export_at ps (length front) (ap export_index is) in
+    let same = same_Some _ _ (sym at.2 ∙ is) in
+    let there = subst P (get_or_from_slice_get ps (length front) at.0 at.0 at.1) (All-get_or P ps (length front) at.0 (slice_get_within ps (length front) at.0 at.1) all) in
+    (subst (AllByRecursion P) (ap (λ both. both.0) same) (All-take P (length front) ps all), subst P (ap (λ both. both.1) same) there)

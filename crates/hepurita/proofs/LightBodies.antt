@@ -1,9 +1,8 @@
 -- Bodies with numbered variables of which no place has a weight: those of procedures whose heads have none.
 use Rattle.std.proofs.Common.{◌≡◌, ℕ, ◌+◌, Bool, true, false, if◌then◌else◌, List, [], ◌∷◌, map, length, Option, None, Some, arith}
 use Rattle.std.specs.List.{AllByRecursion}
-use Rattle.std.specs.Option.{option_map}
 use Rattle.std.specs.Str.{bytes_eq}
-use Rattle.grammar_laws.specs.Heads.{in_block, in_call, in_expr, in_exprs, in_procedure, in_procedures, in_return, in_right, in_statement, in_values}
+use Rattle.grammar_laws.specs.Heads.{in_block, in_expr, in_exprs, in_procedure, in_procedures, in_return, in_right, in_statement, in_values}
 use Rattle.inline.specs.Flat as flat
 use Rattle.inline.specs.Flat.{TermTree, FlatTree, FlatBlock, chain, word_as}
 use Rattle.inline.specs.FlatTyping.{counter_type}
@@ -12,7 +11,7 @@ use Rattle.inline.specs.Numbering as numbering
 use Rattle.language.specs.declared.typing.WordType.{WordType}
 use Rattle.language.specs.Known.{first_known, with_known, known_from, nothing_known}
 use Rattle.language.specs.Meaning.{is_word}
-use Rattle.language.specs.Tree.{ExprTree, number, truth, name, prefix, binary, rotate, convert, select, element, CallTree, RightTree, called, computed, StatementTree, declaration, array, assignment, element_assignment, call, conditional, loop, BlockTree, nothing, first, ParameterTree, ReturnTree, ProcedureTree, written}
+use Rattle.language.specs.Tree.{ExprTree, number, truth, name, prefix, binary, rotate, convert, select, element, RightTree, called, computed, StatementTree, declaration, array, assignment, element_assignment, call, conditional, loop, BlockTree, nothing, first, ParameterTree, ReturnTree, ProcedureTree, written}
 use Rattle.language.specs.WellTyped.{labelled}
 use Rattle.word.specs.declared.place.Place.{Place}
 

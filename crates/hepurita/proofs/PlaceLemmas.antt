@@ -1,5 +1,5 @@
 -- What a program is refused for stands at a head of its tree, so its offset decides its line and its column.
-use Rattle.std.proofs.Common.{◌≡◌, ℕ, ◌+◌, Bool, true, false, List, [], ◌∷◌, ◌++◌, is_some, cond, Some, refl, ap, subst, sym, ◌∙◌, arith}
+use Rattle.std.proofs.Common.{◌≡◌, ℕ, Bool, true, false, List, [], ◌∷◌, ◌++◌, is_some, cond, Some, refl, ap, subst, arith}
 use Rattle.word.specs.Places.{origin}
 use Rattle.word.specs.declared.place.Place.{Place}
 use Rattle.language.specs.declared.rule.Rule.{Rule}

@@ -1,5 +1,5 @@
 -- What is said of ranges and of work stands at a head of the tree.
-use Rattle.std.proofs.Common.{◌≡◌, ℕ, ◌==◌, ◌&&◌, false, nat_lt, nat_le, List, [], ◌∷◌, length, Option, None, Some, arith}
+use Rattle.std.proofs.Common.{◌≡◌, ℕ, ◌==◌, ◌&&◌, nat_lt, nat_le, List, [], ◌∷◌, length, Option, None, Some, arith}
 use Rattle.std.specs.List.{AllByRecursion}
 use Rattle.grammar_laws.proofs.Light.{none, more, both}
 use Rattle.grammar_laws.proofs.ViolationPlaces.{AreAtLight}

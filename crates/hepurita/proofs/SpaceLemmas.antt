@@ -1,5 +1,5 @@
 -- Space for arrays, made slot by slot, and filled array by array.
-use Rattle.std.proofs.Common.{◌≡◌, ◌≢◌, ℕ, zero, suc, ◌+◌, ◌*◌, ◌<◌, ◌≤◌, List, [], ◌∷◌, ◌++◌, All, length, map, drop, slice_index_or, refl, sym, ap, ap₂, subst, ◌∙◌, arith, drop-cons, add-one, append_assoc}
+use Rattle.std.proofs.Common.{◌≡◌, ◌≢◌, ℕ, zero, suc, ◌+◌, ◌*◌, ◌<◌, ◌≤◌, List, [], ◌∷◌, ◌++◌, All, length, map, drop, slice_index_or, refl, sym, ap, ◌∙◌, arith, drop-cons, add-one, append_assoc}
 use Rattle.std.proofs.lemmas.List.{map-append}
 use Rattle.std.proofs.lemmas.List.Elements.{All-append}
 use Rattle.codegen.specs.Loaded.{array_in, arrays_in}

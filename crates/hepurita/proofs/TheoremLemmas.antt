@@ -1,5 +1,5 @@
 -- An accepted text's image is the export, compiled; and what the passes ask of its export.
-use Rattle.std.proofs.Common.{◌≡◌, ℕ, ◌≤◌, Bool, true, false, nat_lt, List, [], length, Some, map, refl, sym, ap, subst, ◌∙◌, arith}
+use Rattle.std.proofs.Common.{◌≡◌, ℕ, ◌≤◌, Bool, true, false, nat_lt, List, [], length, Some, map, refl, sym, subst, ◌∙◌, arith}
 use Rattle.std.proofs.lemmas.Bool.Decides.{nat_tests}
 use Rattle.std.specs.List.{AllByRecursion}
 use Rattle.arguments.specs.Within.{AreWithin}
@@ -9,15 +9,12 @@ use Rattle.codegen.specs.Followed.{IsGenerated}
 use Rattle.image_fields.specs.Fields.{Fields}
 use Rattle.inline.proofs.FlatMeanings.{flat_keeps_meaning}
 use Rattle.inline.proofs.FlatPrograms.{flat_is_typed}
-use Rattle.inline.proofs.FlatSizes.{flat_is_sized}
-use Rattle.inline.specs.FlatMeaning.{outcome_of, ending_of}
-use Rattle.inline.specs.FlatSize.{IsSized}
+use Rattle.inline.specs.FlatMeaning.{outcome_of}
 use Rattle.inline.specs.FlatTyping.{IsTypedProgram}
 use Rattle.inline.specs.Numbering.{flattened, param_of}
 use Rattle.intervals.proofs.Safe.{accepted_is_safe, safe_runs_meet_no_fault}
 use Rattle.intervals.specs.Loose.{IsSafe}
 use Rattle.intervals.specs.Ranges.{range_violations, turns_of}
-use Rattle.intervals.specs.Ranged.{RangedProgram}
 use Rattle.intervals.specs.Work.{ranged, work_of, work_violations}
 use Rattle.intervals.specs.declared.limits.TheConstants.{MOST_WORK}
 use Rattle.inline.specs.Flat.{FlatProgram}
@@ -29,10 +26,10 @@ use Rattle.language.specs.Meaning.{Ending, Gives, gives, exported}
 use Rattle.language.specs.Results.{Results}
 use Rattle.language.specs.declared.values.Arg.{Arg}
 use Rattle.source_eval.proofs.WorkedOut.{worked-out}
-use Rattle.syntax.proofs.GrammarLemmas.{grammatical}
+use Rattle.syntax.proofs.GrammarLemmas.{read_text}
 use Rattle.syntax.specs.Reading.{Reads, accepted}
 use Rattle.language.specs.Tree.{ProcedureTree, ProgramTree}
-use Rattle.hepurita.specs.Built.{IsWellFormed, IsSmall, Judges, JudgesProgram, accepts, readable, fine}
+use Rattle.hepurita.specs.Built.{IsSmall, Judges, JudgesProgram, accepts, readable, fine}
 use Rattle.hepurita.proofs.Compiler.{compiled}
 use Rattle.hepurita.proofs.Exports.{of_export}
 use Rattle.hepurita.proofs.JudgementLemmas.{small_of, in_range_of}
@@ -43,22 +40,15 @@ use Rattle.hepurita.proofs.JudgementLemmas.{small_of, in_range_of}
 abbrev pub HasGrammaticalExport : ProgramTree → Type 0
 HasGrammaticalExport program = (before : List ProcedureTree) (p : ProcedureTree) → exported [] program.procedures ≡ Some (before, p) → AllByRecursion IsGrammatical before × IsGrammatical p
 
-module _ (program : ProgramTree) (before : List ProcedureTree) (export : ProcedureTree) (plain : HasGrammaticalExport program) (small : IsSmall program before export) where
-  pub flat_typed : IsTypedProgram (flattened before export)
-  flat_typed =
-      let is = small.well_formed in
-      let parts = plain before export is.is_export in
-      flat_is_typed program before export is.typed is.is_export parts.0 parts.1
-
-  pub flat_sized : IsSized (flattened before export)
-  flat_sized =
-      let is = small.well_formed in
-      let parts = plain before export is.is_export in
-      flat_is_sized program before export is.typed is.is_export parts.0 parts.1 small.sized
+pub flat_typed : (program : ProgramTree) (before : List ProcedureTree) (export : ProcedureTree) → HasGrammaticalExport program → IsSmall program before export → IsTypedProgram (flattened before export)
+flat_typed program before export plain small =
+    let is = small.well_formed in
+    let parts = plain before export is.is_export in
+    flat_is_typed program before export is.typed is.is_export parts.0 parts.1
 
 -- a body without too much work is within the limit
-pub within_work : (flat : FlatProgram) (r : RangedProgram) → r ≡ ranged flat → length (work_violations flat) ≡ 0 → r.work ≤ MOST_WORK
-within_work flat r is none = subst (λ (w : ℕ). w ≤ MOST_WORK) (sym (ap (λ (x : RangedProgram). x.work) is)) (by (nat_lt MOST_WORK (work_of flat)) refl none)
+pub within_work : (flat : FlatProgram) → length (work_violations flat) ≡ 0 → work_of flat ≤ MOST_WORK
+within_work flat none = by (nat_lt MOST_WORK (work_of flat)) refl none
   where
     by : (over : Bool) → nat_lt MOST_WORK (work_of flat) ≡ over → length (at flat.place (when over TooMuchWork)) ≡ 0 → work_of flat ≤ MOST_WORK
     by true is h = absurd (omega (arith, h))
@@ -83,7 +73,7 @@ export_compiled program before export straight image plain small in_range remove
 -- the export of a program that a text is, is grammatical, and so are those before it
 pub grammatical_export : (text : List ℕ) (program : ProgramTree) → Reads text (accepted program) → HasGrammaticalExport program
 grammatical_export text program reads before p is =
-    of_export IsGrammatical program.procedures before p is (λ q there. grammatical text program q reads there)
+    of_export IsGrammatical program.procedures before p is (read_text text program reads)
 
 pub texts_compiled : (text : List ℕ) (program : ProgramTree) (before : List ProcedureTree) (export : ProcedureTree) (straight : StraightProgram) (image : Fields) → Reads text (accepted program) → JudgesProgram program (accepts program before export) → IsRemoved (ranged (flattened before export)) straight → IsGenerated straight image → IsCompiled program before export image
 texts_compiled text program before export straight image reads judged removed generated =

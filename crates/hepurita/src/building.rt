@@ -1,15 +1,12 @@
 // A text, compiled to the bytes of an image.
 
-ghost use Rattle.std.specs.Prelude.{◌≡◌, ℕ, List, [], Some, IfOk, IfErr};
-ghost use Rattle.std.specs.List.{AllByRecursion};
+ghost use Rattle.std.specs.Prelude.{◌≡◌, ℕ, List, IfOk, IfErr};
 ghost use Rattle.branch_removal.specs.Removed.{IsRemoved};
 ghost use Rattle.branch_removal.specs.Straight.{StraightProgram};
 ghost use Rattle.codegen.specs.Followed.{IsGenerated};
 ghost use Rattle.image_fields.specs.Fields.{IsImage};
 ghost use Rattle.inline.specs.Numbering.{flattened};
 ghost use Rattle.intervals.specs.Work.{ranged};
-ghost use Rattle.language.specs.Grammatical.{IsGrammatical};
-ghost use Rattle.language.specs.Meaning.{exported};
 ghost use Rattle.language.specs.Tree.{ProcedureTree, ProgramTree, program_tree};
 ghost use Rattle.word.specs.declared.place.Place.{Place};
 ghost use Rattle.language.specs.declared.rule.Rule.{Rule};
@@ -26,7 +23,6 @@ use syntax::{one_answer_for_a_text, parse};
 
 /// The code of a program that violates no rule, or the first refusal.
 fn compile(alloc: Global, program: &Program<'_>) -> Result<Code, Refusal>
-    requires grammatical { (before : List ProcedureTree) (p : ProcedureTree) → exported [] (program_tree program.now).procedures ≡ Some (before, p) → AllByRecursion IsGrammatical before × IsGrammatical p }
     ensures accepted { IfOk result (λ image. (before : List ProcedureTree) × (export : ProcedureTree) × JudgesProgram (program_tree program.now) (accepts (program_tree program.now) before export) × ((straight : StraightProgram) × IsRemoved (ranged (flattened before export)) straight × IsGenerated straight image)) }
     ensures allowed { IfOk result IsImage }
     ensures refused { IfErr result (IsRefusal (JudgesProgram (program_tree program.now))) }

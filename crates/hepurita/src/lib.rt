@@ -23,5 +23,6 @@ pub use laws::{
     accepted_texts_are_evaluated, bases_fit, comparisons_agree, executions_agree,
     images_do_what_texts_mean, readings_agree, texts_are_compiled,
 };
-pub use loading::{CODE_BASE, FRAME_BASE, code, load, params};
+pub use loading::{CODE_BASE, FRAME_BASE, code, load, params, put_arguments};
 pub use reading::read_args;
+pub use results::{ResultSpace, outcome, result_space};

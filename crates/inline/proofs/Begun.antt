@@ -47,11 +47,6 @@ pub record ArrayGiven (names : Numbers) (types : Types) (n : ℕ) (p : Parameter
   pub elements : elements_by p.form p.length ≡ Some p.length
   pub serves : Serves (types number) (own_variable p)
 
-word_form : (form : Form) → is_word form ≡ true → form ≡ SingleWord
-word_form SingleWord e = refl
-word_form FixedArray e = absurd (true≢false (sym e))
-word_form MutableArray e = absurd (true≢false (sym e))
-
 no_word : {A : Type 0} (form : Form) → form ≡ SingleWord → is_word form ≡ false → A
 no_word form is e = absurd (true≢false (sym (ap is_word is) ∙ e))
 

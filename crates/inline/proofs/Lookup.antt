@@ -11,17 +11,9 @@ abbrev pub first_of_two : {A : Type 0} → Option A → Option A → Option A
 first_of_two (Some a) b = Some a
 first_of_two None b = b
 
-pub first-assoc : {A : Type 0} (a b c : Option A) → first_of_two (first_of_two a b) c ≡ first_of_two a (first_of_two b c)
-first-assoc (Some a) b c = refl
-first-assoc None b c = refl
-
 pub first-none : {A : Type 0} (a : Option A) → first_of_two a None ≡ a
 first-none (Some a) = refl
 first-none None = refl
-
-pub first-cond : {A : Type 0} (b : Bool) (x : A) (rest : Option A) → first_of_two (cond b (Some x) None) rest ≡ cond b (Some x) rest
-first-cond true x rest = refl
-first-cond false x rest = refl
 
 first-some : {A : Type 0} (a b : Option A) → is_some a ≡ true → first_of_two a b ≡ a
 first-some (Some a) b h = refl

@@ -60,8 +60,5 @@ module _ (earlier : List Procedure) (block left rest : List Statement) (s : Stat
   counted : nodes_of_block earlier left ≡ nodes_of_statement earlier (statement_tree s) + nodes_of_block earlier rest
   counted = ap (nodes_of_block earlier) here
 
-  pub statement_smaller : 8 * nodes_of_statement earlier (statement_tree s) + 6 < 8 * nodes_of_block earlier block + 7
-  statement_smaller = let both = counted in omega (arith, both, smaller)
-
   pub rest_smaller : nodes_of_block earlier rest ≤ nodes_of_block earlier block
   rest_smaller = let both = counted in omega (arith, both, smaller)

@@ -8,3 +8,4 @@ pub mod FlatTyping
 pub mod Fitting
 pub mod FlatSize
 pub mod Measured
+pub mod Kept

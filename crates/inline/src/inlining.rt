@@ -1,6 +1,7 @@
 // The export of a program as one body, where it passes no limit on its size.
 
 ghost use Rattle.std.specs.Prelude.{◌≡◌, [], List, Some, length, map, IfOk, IfErr};
+ghost use Rattle.inline.specs.Kept.{IsFlat};
 ghost use Rattle.inline.specs.Numbering.{flattened};
 ghost use Rattle.language.specs.FirstViolation.{IsRefusedFor};
 ghost use Rattle.language.specs.Signature.{exported};
@@ -23,6 +24,7 @@ fn flat_with<'a>(
     export: &Procedure<'a>,
 ) -> Result<Flat, AllocError>
     requires counted { nodes ≡ nodes_of (extents_of (map procedure_tree earlier.now)) (procedure_tree export.now) }
+    requires kept { IsFlat (flattened (map procedure_tree earlier.now) (procedure_tree export.now)) }
     ensures { IfOk result (λ flat. flat ≡ flattened (map procedure_tree earlier.now) (procedure_tree export.now)) }
 {
     let mut numbering = Numbering::new(alloc);
@@ -49,6 +51,7 @@ fn flat_of<'a>(
     earlier: &[Procedure<'a>],
     export: &Procedure<'a>,
 ) -> Result<Flat, Refusal>
+    requires { length (size_violations (map procedure_tree earlier.now) (procedure_tree export.now)) ≡ 0 → IsFlat (flattened (map procedure_tree earlier.now) (procedure_tree export.now)) }
     ensures accepted { IfOk result (λ flat. flat ≡ flattened (map procedure_tree earlier.now) (procedure_tree export.now)) }
     ensures within { IfOk result (λ _. length (size_violations (map procedure_tree earlier.now) (procedure_tree export.now)) ≡ 0) }
     ensures memory { earlier.now ≡ [] → IfErr result (λ refusal. IsWantOfMemory refusal.rule refusal.place → length (size_violations (map procedure_tree earlier.now) (procedure_tree export.now)) ≡ 0) }

@@ -1,12 +1,14 @@
 ghost use Rattle.std.specs.Prelude.{◌≡◌};
 ghost use Rattle.std.specs.Option.{option_map};
 ghost use Rattle.inline.specs.Flat.{FlatProgram, term_tree, flat_block};
+ghost use Rattle.inline.specs.Kept.{IsFlat};
 
 use crate::{FlatStatement, FlatVariable, Term};
 use language::{Param, Place, WordType};
 use std::marker::Model;
 
-/// The export as one body with numbered variables. Its parameters are the first variables.
+/// The export as one body with numbered variables. Its parameters are the first variables. It is well typed, and within
+/// the limits on size.
 #[derive(Debug, Drop)]
 pub struct Flat {
     place: Place,
@@ -22,12 +24,15 @@ impl Model for Flat {
     ghost use Rattle.std.specs.Option.{option_map};
     ghost use Rattle.inline.specs.Codes.{coded_program};
     ghost use Rattle.inline.specs.Flat.{FlatProgram, term_tree, flat_block};
+    ghost use Rattle.inline.specs.Kept.{IsFlat};
 
     ghost Value = { FlatProgram };
 
     ghost coded = { coded_program };
 
     ghost view = { λ f. record { place = f.place; parameters = f.parameters.items; returned = f.returned; nodes = f.nodes; declared = f.declared.items; body = flat_block f.body.items; value = option_map term_tree f.value } };
+
+    ghost invariant = { λ f. IsFlat (record { place = f.place; parameters = f.parameters.items; returned = f.returned; nodes = f.nodes; declared = f.declared.items; body = flat_block f.body.items; value = option_map term_tree f.value }) };
 }
 
 impl Flat {
@@ -41,6 +46,7 @@ impl Flat {
         body: Vec<FlatStatement>,
         value: Option<Term>,
     ) -> Self
+        requires { IsFlat (record { place = place; parameters = parameters.items; returned = returned; nodes = nodes; declared = declared.items; body = flat_block body.items; value = option_map term_tree value }) }
         ensures { result ≡ record { place = place; parameters = parameters.items; returned = returned; nodes = nodes; declared = declared.items; body = flat_block body.items; value = option_map term_tree value } }
     {
         Flat {
@@ -91,7 +97,8 @@ impl Flat {
 
     /// The statements before the result is known.
     pub fn body(&self) -> &[FlatStatement]
-        ensures { flat_block result.now ≡ self.now.body }
+        ensures body { flat_block result.now ≡ self.now.body }
+        ensures kept { IsFlat self.now }
     {
         self.body.as_slice()
     }

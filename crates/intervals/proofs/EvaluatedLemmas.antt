@@ -1,10 +1,10 @@
 -- A run without a fault that makes no more turns than are counted evaluates no more nodes than its work.
-use Rattle.std.proofs.Common.{◌≡◌, ℕ, zero, suc, ◌+◌, ◌-◌, ◌*◌, ◌≤◌, ◌==◌, Bool, true, false, if◌then◌else◌, List, [], ◌∷◌, ◌++◌, slice_index, arith}
+use Rattle.std.proofs.Common.{ℕ, zero, suc, ◌+◌, ◌-◌, ◌*◌, ◌≤◌, ◌==◌, Bool, true, false, if◌then◌else◌, List, [], ◌∷◌, ◌++◌, arith}
 use Rattle.std.proofs.Math.Nat.{mul-le-mul_right}
 use Rattle.arguments.specs.Within.{AreWithin}
 use Rattle.inline.specs.Flat.{FlatTree, declare, array, assign, put, hold, skip, branch, loop, FlatBlock, nothing, first, FlatProgram}
 use Rattle.inline.specs.FlatMeaning.{Values, with_value, value_in, path_in, path_of_turns, after, after_all, path_at, path_along, path_of_result, path_of, given, end_of}
-use Rattle.inline.specs.FlatSize.{term_nodes, value_nodes}
+use Rattle.inline.specs.FlatSize.{value_nodes}
 use Rattle.inline.specs.Path.{Path, bounded, AreFine}
 use Rattle.intervals.specs.Evaluated.{evaluated, evaluated_all, evaluated_in_turns, evaluated_by}
 use Rattle.intervals.specs.Loose.{IsSafe}

@@ -1,5 +1,5 @@
 -- Work that is above the limit is the first of what is violated.
-use Rattle.std.proofs.Common.{◌≡◌, ℕ, ◌<◌, ◌≤◌, inr, Bool, true, false, nat_lt, [], length, refl, sym, subst, arith, Result, Ok, Err, OnOk, IfErr}
+use Rattle.std.proofs.Common.{◌≡◌, ℕ, ◌<◌, ◌≤◌, inr, Bool, true, false, nat_lt, [], refl, sym, subst, arith, Result, Ok, Err, OnOk, IfErr}
 use Rattle.std.proofs.lemmas.Bool.Decides.{nat_tests}
 use Rattle.std.proofs.lemmas.List.Elements.{All-cons, All-nil}
 use Rattle.inline.specs.Flat.{FlatProgram}
@@ -21,9 +21,6 @@ above a b h = grind (arith, nat_tests)
 
 not_above : (a b : ℕ) → b ≤ a → nat_lt a b ≡ false
 not_above a b h = grind (arith, nat_tests)
-
-pub within_limit : (p : FlatProgram) → work_of p ≤ MOST_WORK → length (work_violations p) ≡ 0
-within_limit p few = subst (λ (b : Bool). length (at p.place (when b TooMuchWork)) ≡ 0) (sym (not_above MOST_WORK (work_of p) few)) refl
 
 pub above_limit : (p : FlatProgram) → (work_of p ≤ MOST_WORK → ⊥) → IsFirst (work_violations p) (record { place = p.place; rule = TooMuchWork })
 above_limit p many =

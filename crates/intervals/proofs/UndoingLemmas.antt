@@ -6,10 +6,6 @@ use Rattle.intervals.specs.declared.interval.Interval.{Interval}
 use Rattle.intervals.specs.declared.known.Change.{Change}
 use Rattle.intervals.specs.declared.known.Known.{Known}
 
-append_nil : {X : Type 0} (xs : List X) → xs ≡ xs ++ []
-append_nil [] = refl
-append_nil (x ∷ xs) = ap (λ ys. x ∷ ys) (append_nil xs)
-
 append_assoc : {X : Type 0} (xs ys zs : List X) → (xs ++ ys) ++ zs ≡ xs ++ (ys ++ zs)
 append_assoc [] ys zs = refl
 append_assoc (x ∷ xs) ys zs = ap (λ us. x ∷ us) (append_assoc xs ys zs)
@@ -25,20 +21,12 @@ put_back [] x new before h = cc
 put_back (b ∷ bs) zero new before h = cc
 put_back (b ∷ bs) (suc x) new before h = ap (λ cs. b ∷ cs) (put_back bs x new before h)
 
-pub from_itself : (k : Known) → CameFrom k k
-from_itself k = record { changes = []; kept = append_nil k.changes.items; rewound = refl }
-
 pub from_before : (a b c : Known) → CameFrom a b → CameFrom b c → CameFrom a c
 from_before a b c p q = record {
   changes = p.changes ++ q.changes;
   kept = q.kept ∙ ap (λ cs. cs ++ q.changes) p.kept ∙ append_assoc a.changes.items p.changes q.changes;
   rewound = rewound_append p.changes q.changes c.bounds.items ∙ ap (rewound p.changes) q.rewound ∙ p.rewound;
 }
-
-take_front : {X : Type 0} (xs ys : List X) → take (length xs) (xs ++ ys) ≡ xs
-take_front [] [] = refl
-take_front [] (y ∷ ys) = refl
-take_front (x ∷ xs) ys = ap (λ us. x ∷ us) (take_front xs ys)
 
 drop_front : {X : Type 0} (xs ys : List X) → drop (length xs) (xs ++ ys) ≡ ys
 drop_front [] [] = refl
@@ -48,9 +36,6 @@ drop_front (x ∷ xs) ys = drop_front xs ys
 -- taken back to a mark, all is as it was at the mark
 pub bounds_at_mark : (a b : Known) → CameFrom a b → rewound (drop (length a.changes.items) b.changes.items) b.bounds.items ≡ a.bounds.items
 bounds_at_mark a b p = ap (λ cs. rewound (drop (length a.changes.items) cs) b.bounds.items) p.kept ∙ ap (λ cs. rewound cs b.bounds.items) (drop_front a.changes.items p.changes) ∙ p.rewound
-
-pub changes_at_mark : (a b : Known) → CameFrom a b → take (length a.changes.items) b.changes.items ≡ a.changes.items
-changes_at_mark a b p = ap (take (length a.changes.items)) p.kept ∙ take_front a.changes.items p.changes
 
 drop_last : {X : Type 0} (mark : ℕ) (xs : List X) (x : X) → mark ≤ length xs → drop mark (xs ++ x ∷ []) ≡ drop mark xs ++ x ∷ []
 drop_last zero [] x few = refl
@@ -77,11 +62,3 @@ front_kept mark old rest c is few = sym (ap (take mark) is ∙ take_last mark re
 pub bounds_back : (a b c : Known) (mark : ℕ) → mark ≡ length a.changes.items → CameFrom a b → CameFrom b c
     → rewound (drop mark c.changes.items) c.bounds.items ≡ a.bounds.items
 bounds_back a b c mark at one other = ap (λ n. rewound (drop n c.changes.items) c.bounds.items) at ∙ bounds_at_mark a c (from_before a b c one other)
-
-pub changes_back : (a b c : Known) (mark : ℕ) → mark ≡ length a.changes.items → CameFrom a b → CameFrom b c
-    → take mark c.changes.items ≡ a.changes.items
-changes_back a b c mark at one other = ap (λ n. take n c.changes.items) at ∙ changes_at_mark a c (from_before a b c one other)
-
--- what has the same bounds and the same changes came from it
-pub from_same : (a b : Known) → b.bounds.items ≡ a.bounds.items → b.changes.items ≡ a.changes.items → CameFrom a b
-from_same a b bounds changes = record { changes = []; kept = changes ∙ append_nil a.changes.items; rewound = bounds }

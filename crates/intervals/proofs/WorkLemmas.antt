@@ -36,11 +36,6 @@ pub last_part : (o : Option ℕ) (room left last whole : ℕ) → whole + left �
 last_part None room left last whole sum less h = λ fits. h (omega arith)
 last_part (Some x) room left last whole sum less h = (omega arith, omega arith)
 
--- a part that does not fit what the others left
-pub does_not_fit : (o : Option ℕ) (room left last whole : ℕ) → whole + left ≡ room + last → left ≤ room → o ≡ None → (last ≤ left → ⊥) → SomeIff o (whole ≤ room) (room - whole)
-does_not_fit None room left last whole sum less none h = λ fits. h (omega arith)
-does_not_fit (Some x) room left last whole sum less none h = cc
-
 -- what fits a share so many times fits the room
 pub share_fits : (times body room : ℕ) → 0 < times → times * (1 + body) ≤ room → 1 + body ≤ room / times
 share_fits times body room some fits = (le-div_iff_mul-le some).1 (omega (arith, mul_comm times (1 + body), fits))

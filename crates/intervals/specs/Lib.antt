@@ -7,3 +7,4 @@ pub mod Undoing
 pub mod Ranges
 pub mod Work
 pub mod Evaluated
+pub mod Kept

@@ -1,9 +1,11 @@
 ghost use Rattle.std.specs.Prelude.{◌≡◌};
+ghost use Rattle.intervals.specs.Kept.{IsRanged};
 
 use inline::Flat;
 use std::marker::Model;
 
-/// A body with what is counted for it.
+/// A body with what is counted for it, its work within the limit. It is safe: no run meets a fault, or makes more turns in
+/// a loop than are counted for it.
 #[derive(Debug, Drop)]
 pub struct Ranged<'f> {
     flat: &'f Flat,
@@ -13,6 +15,7 @@ pub struct Ranged<'f> {
 
 impl<'f> Model for Ranged<'f> {
     ghost use Rattle.intervals.specs.Codes.{coded_ranged};
+    ghost use Rattle.intervals.specs.Kept.{IsRanged};
     ghost use Rattle.intervals.specs.Ranged.{RangedProgram};
 
     ghost Value = { RangedProgram };
@@ -20,11 +23,14 @@ impl<'f> Model for Ranged<'f> {
     ghost coded = { coded_ranged };
 
     ghost view = { λ r. record { flat = r.flat.now; turns = r.turns.items; work = r.work } };
+
+    ghost invariant = { λ r. IsRanged (record { flat = r.flat.now; turns = r.turns.items; work = r.work }) };
 }
 
 impl<'f> Ranged<'f> {
     /// A body with what is counted for it.
     pub(crate) fn new(flat: &'f Flat, turns: Vec<u32>, work: u64) -> Self
+        requires { IsRanged (record { flat = flat.now; turns = turns.items; work = work }) }
         ensures { result ≡ record { flat = flat.now; turns = turns.items; work = work } }
     {
         Ranged { flat, turns, work }
@@ -32,7 +38,8 @@ impl<'f> Ranged<'f> {
 
     /// The body.
     pub fn flat(&self) -> &'f Flat
-        ensures { result.now ≡ self.now.flat }
+        ensures flat { result.now ≡ self.now.flat }
+        ensures kept { IsRanged self.now }
     {
         self.flat
     }

@@ -1,4 +1,5 @@
 ghost use Rattle.std.specs.Prelude.{◌≡◌, None, fold, length, map, replicate, IfErr, IfOk, OnOk};
+ghost use Rattle.intervals.specs.Loose.{IsSafe};
 ghost use Rattle.intervals.specs.Ranges.{bound_by, bound_of, first_bounds, range_violations, result_violations, turns_of};
 ghost use Rattle.intervals.specs.Work.{IsRefusedByRanges, ranged, work_violations};
 ghost use Rattle.labels.specs.Sooner.{sooner};
@@ -52,10 +53,11 @@ fn first_bounds(alloc: Global, flat: &Flat) -> Result<Vec<Option<Interval>>, All
     Ok(bounds)
 }
 
-/// A walk over a whole program.
+/// A walk over a whole program, which is safe where no range is passed.
 fn walked(alloc: Global, flat: &Flat) -> Result<Walk, AllocError>
     ensures turns { IfOk result (λ walk. walk.turns.items ≡ turns_of flat.now) }
     ensures first { IfOk result (λ walk. walk.first.seen ≡ fold sooner None (range_violations flat.now)) }
+    ensures safe { OnOk result (length (range_violations flat.now) ≡ 0 → IsSafe flat.now (turns_of flat.now)) }
 {
     let declared = flat.declared();
     let mut walk = Walk {
@@ -81,7 +83,8 @@ fn walked(alloc: Global, flat: &Flat) -> Result<Walk, AllocError>
 
 /// The body with these turns and its work, where that is within the limit.
 fn with_work<'f>(flat: &'f Flat, turns: Vec<u32>) -> Result<Ranged<'f>, Refusal>
-    requires { turns.items ≡ turns_of flat.now }
+    requires turns { turns.items ≡ turns_of flat.now }
+    requires safe { IsSafe flat.now turns.items }
     ensures accepted { IfOk result (λ result. result ≡ ranged flat.now) }
     ensures worked { OnOk result (length (work_violations flat.now) ≡ 0) }
     ensures refused { IfErr result (λ refusal. IsRefusedFor (work_violations flat.now) refusal.rule refusal.place) }

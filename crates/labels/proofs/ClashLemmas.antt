@@ -6,6 +6,7 @@ use Rattle.std.proofs.lemmas.List.Folds.{list_any-append}
 use Rattle.std.proofs.lemmas.Slice.Eq.{bytes_eq-Decides}
 use Rattle.std.specs.List.{list_any}
 use Rattle.std.specs.Str.{bytes_eq}
+use Rattle.std.proofs.Math.Bool.{or-false, and-true, and-false}
 use Rattle.names.specs.Scope.{found, declared}
 use Rattle.language.specs.declared.tree.Expr.{Expr}
 use Rattle.language.specs.declared.tree.Parameter.{Parameter}
@@ -50,18 +51,6 @@ found_declared names text one = by (is_some (found names one)) refl
     by true is = rw is (found_taken names text one is)
     by false is = rw is (found_last names text one)
 
-or_false : (b : Bool) → (b || false) ≡ b
-or_false true = refl
-or_false false = refl
-
-and_true : (b : Bool) → (b && true) ≡ b
-and_true true = refl
-and_true false = refl
-
-and_false : (b : Bool) → (b && false) ≡ false
-and_false true = refl
-and_false false = refl
-
 or_assoc : (a b c : Bool) → ((a || b) || c) ≡ (a || (b || c))
 or_assoc true b c = refl
 or_assoc false b c = refl
@@ -70,13 +59,13 @@ or_assoc false b c = refl
 gathers_named : (names : Names) (test : List ℕ → Passed → Bool) (before : List Passed) (p : Passed) (one : List ℕ) → Gathers names test before →
     ((text : List ℕ) → test text p ≡ bytes_eq text one) → Gathers (declared names one true) test (before ++ p ∷ [])
 gathers_named names test before p one h is text =
-    found_declared names text one ∙ ap₂ ◌||◌ (h text) (sym (or_false (test text p) ∙ is text)) ∙ sym (list_any-append (test text) before (p ∷ []))
+    found_declared names text one ∙ ap₂ ◌||◌ (h text) (sym (or-false (test text p) ∙ is text)) ∙ sym (list_any-append (test text) before (p ∷ []))
 
 -- one more argument that does not pass the test
 gathers_same : (names : Names) (test : List ℕ → Passed → Bool) (before : List Passed) (p : Passed) → Gathers names test before →
     ((text : List ℕ) → test text p ≡ false) → Gathers names test (before ++ p ∷ [])
 gathers_same names test before p h is text =
-    h text ∙ sym (list_any-append (test text) before (p ∷ []) ∙ ap (λ b. list_any (test text) before || b) (or_false (test text p) ∙ is text) ∙ or_false _)
+    h text ∙ sym (list_any-append (test text) before (p ∷ []) ∙ ap (λ b. list_any (test text) before || b) (or-false (test text p) ∙ is text) ∙ or-false _)
 
 logic : (s m n c g : Bool) → ((s && (m || n)) || (c || (m && g))) ≡ (((s && n) || c) || (m && (s || g)))
 logic false m n c g = refl
@@ -89,11 +78,7 @@ logic true false false c g = refl
 -- an argument clashes with those before that are its array, where one of the two may be changed
 clashes_named : (p : Passed) (one : List ℕ) (before : List Passed) → array_name p.given p.argument ≡ Some one →
     list_any (clash p) before ≡ (list_any (changes one) before || (is_mutable p.parameter.form && list_any (gives one) before))
-clashes_named p one [] is = by (is_mutable p.parameter.form)
-  where
-    by : (m : Bool) → false ≡ (m && false)
-    by true = refl
-    by false = refl
+clashes_named p one [] is = sym (and-false (is_mutable p.parameter.form))
 clashes_named p one (q ∷ before) is =
     rw (is, clashes_named p one before is)
     (logic (same_name (Some one) (array_name q.given q.argument)) (is_mutable p.parameter.form) (is_mutable q.parameter.form) (list_any (changes one) before) (list_any (gives one) before))
@@ -118,9 +103,9 @@ pub named_changed : (all : List Passed) (i : ℕ) (q : Passed) (names after : Na
     Gathers names changes (take i all) → Some one ≡ array_name q.given q.argument → mutable ≡ is_mutable q.parameter.form →
     after ≡ cond mutable (declared names one true) names → Gathers after changes (take (i + 1) all)
 named_changed all i q names after one true h at so_far is m new =
-    rw (new, next_taken all i q h at) (gathers_named names changes (take i all) q one so_far (λ text. rw (← is, ← m) (and_true (bytes_eq text one))))
+    rw (new, next_taken all i q h at) (gathers_named names changes (take i all) q one so_far (λ text. rw (← is, ← m) (and-true (bytes_eq text one))))
 named_changed all i q names after one false h at so_far is m new =
-    rw (new, next_taken all i q h at) (gathers_same names changes (take i all) q so_far (λ text. rw (← is, ← m) (and_false (bytes_eq text one))))
+    rw (new, next_taken all i q h at) (gathers_same names changes (take i all) q so_far (λ text. rw (← is, ← m) (and-false (bytes_eq text one))))
 
 pub named_clash : (all : List Passed) (i : ℕ) (q : Passed) (given changed : Names) (one : List ℕ) (mutable clashed clash' final : Bool) → i < length all → get_or all i q ≡ q →
     Gathers given gives (take i all) → Gathers changed changes (take i all) → Some one ≡ array_name q.given q.argument → mutable ≡ is_mutable q.parameter.form →
@@ -234,7 +219,7 @@ clash_last ps ts es i clashed final h same same' is =
     let none : drop i (all_passed ps ts es) ≡ [] =
     drop_all i (all_passed ps ts es)
     (omega (arith, length-map ps parameter_tree, passed_long (map parameter_tree ps) ts (map expr_tree es) (omega (arith, length-map ps parameter_tree)) (omega (arith, length-map ps parameter_tree, length-map es expr_tree)))) in
-    sym (ap (λ rest. clashed || clashes (take i (all_passed ps ts es)) rest) none ∙ or_false clashed) ∙ is
+    sym (ap (λ rest. clashed || clashes (take i (all_passed ps ts es)) rest) none ∙ or-false clashed) ∙ is
 
 -- before the first argument
 pub no_arguments : (all : List Passed) (names changeable : Names) → names ≡ [] → changeable ≡ [] → SoFar all 0 names changeable false (clashes [] all)

@@ -1,7 +1,9 @@
 -- The exported procedure: where it stands, and that a program that violates no rule has one.
-use Rattle.std.proofs.Common.{◌≡◌, ℕ, suc, ◌+◌, ◌<◌, Bool, true, false, List, [], ◌∷◌, ◌++◌, length, length-append, append-nil, append_assoc, Option, None, Some, is_some, cond, slice_get, take, get_or, map, fold, refl, ap, ap₂, sym, ◌∙◌, arith}
+use Rattle.std.proofs.Common.{◌≡◌, ℕ, suc, ◌+◌, ◌<◌, Bool, true, false, List, [], ◌∷◌, ◌++◌, length, length-append, append-nil, append_assoc, Option, None, Some, is_some, cond, slice_get, take, get_or, map, fold, refl, ap, ap₂, sym, ◌∙◌, arith, subst}
+use Rattle.std.proofs.ByRecursion.{All-get_or, All-take}
+use Rattle.std.specs.List.{AllByRecursion}
 use Rattle.std.specs.Option.{option_map}
-use Rattle.std.proofs.lemmas.List.{length-map, take-map}
+use Rattle.std.proofs.lemmas.List.{get_or-map, length-map, take-map}
 use Rattle.std.proofs.lemmas.Option.{slice_get-map, slice_get_read, slice_get_within}
 use Rattle.word.specs.declared.place.Place.{Place}
 use Rattle.language.specs.declared.tree.Procedure.{Procedure}
@@ -90,6 +92,15 @@ export_read items index p inside is h = by (export_at (map procedure_tree items)
         let some : Some export ≡ Some (procedure_tree p) = sym at ∙ there in
         let same : export ≡ procedure_tree p = cc in
         found ∙ ap₂ (λ (l : List ProcedureTree) (q : ProcedureTree). Some (l, q)) (take-map procedure_tree index items) same
+
+-- what holds of all procedures holds of those before the index, and of the one there
+pub parts_of : (P : ProcedureTree → Type 0) (items : List Procedure) (index : ℕ) (p : Procedure) → index < length items → p ≡ get_or items index p → AllByRecursion P (map procedure_tree items) → AllByRecursion P (map procedure_tree (take index items)) × P (procedure_tree p)
+parts_of P items index p inside is all =
+    let many = length-map items procedure_tree in
+    let there : get_or (map procedure_tree items) index (procedure_tree p) ≡ procedure_tree p = get_or-map procedure_tree items index p (procedure_tree p) inside ∙ ap procedure_tree (sym is) in (
+      subst (AllByRecursion P) (take-map procedure_tree index items) (All-take P index (map procedure_tree items) all),
+      subst P there (All-get_or P (map procedure_tree items) index (procedure_tree p) (omega (arith, inside, many)) all),
+    )
 
 -- ---- what `check` has of a program after both looks at its procedures
 

@@ -1,7 +1,9 @@
 ghost use Rattle.std.specs.Prelude.{◌≡◌, ◌<◌, None, Some, [], fold, length, map, IsOk, IfOk, IfErr, OnOk};
+ghost use Rattle.std.specs.List.{AllByRecursion};
 ghost use Rattle.word.specs.Places.{origin};
 ghost use Rattle.language.specs.declared.rule.Rule.TheVariants.{NotExactlyOneExport};
 ghost use Rattle.language.specs.FirstViolation.{IsRefusedFor};
+ghost use Rattle.language.specs.Grammatical.{IsGrammatical};
 ghost use Rattle.language.specs.Signature.{exported};
 ghost use Rattle.language.specs.Tree.{procedure_tree, program_tree};
 ghost use Rattle.language.specs.Typing.{export_violations, exports, procedures_violations, violations};
@@ -21,7 +23,7 @@ pub struct Checked<'p, 'a> {
     /// How many procedures stand before the exported one.
     export: usize,
     pub ghost well_typed: { length (violations (program_tree program.now)) ≡ 0 },
-    pub ghost inside: { export < length program.now.procedures.items },
+    pub ghost inside: { export < length program.now },
     pub ghost exported: { export_index (exported [] (program_tree program.now).procedures) ≡ Some export },
 }
 
@@ -36,9 +38,11 @@ impl<'p, 'a> Checked<'p, 'a> {
 
     /// The exported procedure, and those before it.
     pub fn export(&self) -> (&'p [Procedure<'a>], &'p Procedure<'a>)
-        ensures { exported [] (program_tree self.now.program.now).procedures ≡ Some (map procedure_tree result.0.now, procedure_tree result.1.now) }
+        ensures exported { exported [] (program_tree self.now.program.now).procedures ≡ Some (map procedure_tree result.0.now, procedure_tree result.1.now) }
+        ensures earlier { AllByRecursion IsGrammatical (map procedure_tree result.0.now) }
+        ensures grammatical { IsGrammatical (procedure_tree result.1.now) }
     {
-        let procedures = self.program.procedures.as_slice();
+        let procedures = self.program.procedures();
         (&procedures[..self.export], &procedures[self.export])
     }
 }
@@ -80,11 +84,11 @@ fn note_procedures(
 pub fn check<'p, 'a>(alloc: Global, program: &'p Program<'a>) -> Result<Checked<'p, 'a>, Refusal>
     ensures program { IfOk result (λ checked. checked.program.now ≡ program.now) }
     ensures well_typed { IfOk result (λ _. length (violations (program_tree program.now)) ≡ 0) }
-    ensures empty { program.now.procedures.items ≡ [] → IfErr result (λ refusal. (refusal.rule ≡ NotExactlyOneExport) × (refusal.place ≡ Some origin)) }
+    ensures empty { program.now ≡ [] → IfErr result (λ refusal. (refusal.rule ≡ NotExactlyOneExport) × (refusal.place ≡ Some origin)) }
     ensures refused { IfErr result (λ refusal. IsRefusedFor (violations (program_tree program.now)) refusal.rule refusal.place) }
 {
     let mut first = First { seen: None };
-    let procedures = program.procedures.as_slice();
+    let procedures = program.procedures();
     let export = note_exports(&mut first, procedures);
     note_procedures(alloc, &mut first, procedures)?;
     if let Some(violation) = first.seen {

@@ -16,7 +16,6 @@ use Rattle.language.specs.declared.tree.Parameter.{Parameter}
 use Rattle.language.specs.declared.tree.Return.{Return}
 use Rattle.language.specs.declared.tree.Statement.{Statement, Declare, DeclareArray, Assign, AssignElement, Call as CallStatement, If', For', Row_of-Statement, end_of-Statement, more_of-Statement}
 use Rattle.language.specs.declared.tree.Procedure.{Procedure}
-use Rattle.language.specs.declared.tree.Program.{Program}
 
 -- an expression; each has the place of its head token
 pub data ExprTree : Type 0 where
@@ -147,5 +146,5 @@ procedure_tree p = record {
   returned = option_map return_tree p.returned;
 }
 
-abbrev pub program_tree : Program → ProgramTree
-program_tree p = record { procedures = map procedure_tree p.procedures.items }
+abbrev pub program_tree : List Procedure → ProgramTree
+program_tree procedures = record { procedures = map procedure_tree procedures }

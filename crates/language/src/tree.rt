@@ -5,6 +5,7 @@ ghost use Rattle.language.specs.Tree.{procedure_tree};
 
 use crate::{Form, Kind, Label, Operation, Param, Place, WordType};
 use std::alloc::{AllocError, Global};
+use std::marker::Model;
 
 /// A sign before an operand.
 #[derive(Clone, Copy, Debug, PartialEq, Eq)]
@@ -280,15 +281,53 @@ impl Procedure<'_> {
     }
 }
 
-/// A program: the tree of a text, its procedures in their order.
+/// A program: the tree of a text, its procedures in their order. Each is as the grammar has it.
 #[derive(Debug, Drop)]
 pub struct Program<'a> {
-    pub procedures: Vec<Procedure<'a>>,
+    procedures: Vec<Procedure<'a>>,
+}
+
+impl<'a> Model for Program<'a> {
+    ghost use denote.Signature.{static_lft};
+    ghost use Rattle.std.specs.Coded.{coded_list};
+    ghost use Rattle.std.specs.List.{AllByRecursion};
+    ghost use Rattle.std.specs.Prelude.{List, map};
+    ghost use Rattle.language.specs.contracts.tree.Procedure as procedure;
+    ghost use Rattle.language.specs.declared.tree.Procedure.{Procedure};
+    ghost use Rattle.language.specs.Grammatical.{IsGrammatical};
+    ghost use Rattle.language.specs.Tree.{procedure_tree};
+
+    ghost Value = { List Procedure };
+
+    // A procedure is told from another in the same way at each lifetime.
+    ghost coded = { coded_list (procedure.the_row static_lft).coded };
+
+    ghost view = { λ p. p.procedures.items };
+
+    ghost invariant = { λ p. AllByRecursion IsGrammatical (map procedure_tree p.procedures.items) };
 }
 
 impl<'a> Program<'a> {
+    ghost use Rattle.std.specs.List.{AllByRecursion};
+    ghost use Rattle.language.specs.Grammatical.{IsGrammatical};
     ghost use Rattle.language.specs.Signature.{exported};
     ghost use Rattle.language.specs.Tree.{program_tree};
+
+    /// A program of these procedures.
+    pub fn new(procedures: Vec<Procedure<'a>>) -> Self
+        requires { AllByRecursion IsGrammatical (map procedure_tree procedures.items) }
+        ensures { result ≡ procedures.entry.items }
+    {
+        Program { procedures }
+    }
+
+    /// The procedures, in their order.
+    pub fn procedures(&self) -> &[Procedure<'a>]
+        ensures procedures { result.now ≡ self.now }
+        ensures grammatical { AllByRecursion IsGrammatical (map procedure_tree self.now) }
+    {
+        self.procedures.as_slice()
+    }
 
     /// The first exported procedure, and those before it.
     pub fn exported(&self) -> Option<(&[Procedure<'a>], &Procedure<'a>)>

@@ -270,7 +270,7 @@ a_grammatical_program (a_program_rule list trees h) small = all_grammatical h sm
 answered : {tokens : List Lexeme} {end : Ending} (program : ProgramTree) → Answers tokens end (accepted program) → SmallTokens tokens → AreGrammatical program.procedures
 answered program (a_program tokens place tree is within) small = a_grammatical_program is small
 
-read_text : (text : List ℕ) (program : ProgramTree) → Reads text (accepted program) → AreGrammatical program.procedures
+pub read_text : (text : List ℕ) (program : ProgramTree) → Reads text (accepted program) → AreGrammatical program.procedures
 read_text text program (by_tokens bytes tokens end answer short lexes answers) = answered program answers (small_tokens lexes)
 
 -- the procedures of a text are as the grammar has them

@@ -43,10 +43,6 @@ stops-lacks-square : (level : ℕ) (ts : List Lexeme) → Stops level ts → Lac
 stops-lacks-square level [] h = absurd h
 stops-lacks-square level (t ∷ ts) h = h.0.0
 
-stops-lacks-round : (level : ℕ) (ts : List Lexeme) → Stops level ts → Lacks (token.Sign sign.OpenRound) ts
-stops-lacks-round level [] h = absurd h
-stops-lacks-round level (t ∷ ts) h = h.0.1
-
 stops-more : (low high : ℕ) (rest : List Lexeme) → low ≤ high → Stops low rest → Stops high rest
 stops-more low high [] le h = h
 stops-more low high (t ∷ ts) le h = (h.0, λ link e. let lt = h.1 link e in omega arith)

@@ -1,18 +1,16 @@
 -- What the parser's functions share: faults passed on, and single steps of the machine.
 use Rattle.std.proofs.Common.{◌≡◌, ℕ, ◌≤◌, true, false, List, [], ◌∷◌, ◌++◌, map, length, nat_eq, Option, Some, None, Result, Ok, Err, MatchResult, refl, sym, subst, ap, ◌∙◌, if◌then◌else◌}
-use Rattle.std.specs.Result.{IsErrAnd, IfOk, IfErr}
+use Rattle.std.specs.Result.{IsErrAnd}
 use Rattle.std.specs.Prelude.{is_some}
 use Rattle.std.specs.Option.{option_map}
 use Rattle.language.specs.declared.signature.Kind.{Kind}
 use Rattle.language.specs.declared.signature.Label.{Label}
 use Rattle.syntax.specs.declared.parser.Fault.{Fault}
-use Rattle.syntax.specs.declared.parser.Fault.TheVariants.{Memory}
 use Rattle.syntax.specs.declared.parser.Parser.{Parser}
 use Rattle.syntax.specs.declared.parser.operator.Begins.{Begins}
 use Rattle.syntax.specs.declared.parser.operator.Link.{Link}
 use Rattle.syntax.specs.declared.parser.statement.Start.{Start}
 use Rattle.syntax.specs.declared.token.Token.{Token}
-use Rattle.language.specs.declared.tree.Expr.{Expr}
 use Rattle.syntax.specs.Grammar.{label_of, word_of, amount_of, length_of}
 use Rattle.syntax.specs.Lexeme.{Lexeme, lexeme, lexemes}
 use Rattle.syntax.specs.Nesting.{Nest, after}
@@ -20,7 +18,7 @@ use Rattle.syntax.specs.Tokens.{Ending, ending}
 use Rattle.syntax.specs.private.Machine.{State, procedures, fits, one, either, statements, starts_with, statement, started, a_label, a_kind, a_length, an_amount, expr, more, more_exprs, more_parameters, otherwise, after_else, begins_of, operand, link_of, link_level, link_left_level, linked, within, joined, step, at_end, parameter, procedure, verdict, ending_answer, token_answer}
 use Rattle.syntax.specs.private.ParserViews.{Leads, FaultIs, ahead, nest, taken}
 use Rattle.syntax.specs.Reading.{Answer}
-use Rattle.language.specs.Tree.{ExprTree, StatementTree, BlockTree, nothing, first, ParameterTree, ProcedureTree, expr_tree}
+use Rattle.language.specs.Tree.{ExprTree, StatementTree, BlockTree, nothing, first, ParameterTree, ProcedureTree}
 use Rattle.syntax.proofs.MachineExpressions.{within_level}
 use Rattle.syntax.specs.declared.token.TokenKind.TheVariants as token
 use Rattle.syntax.specs.declared.token.TokenKind.{TokenKind}
@@ -44,11 +42,6 @@ passed-after s s' next r f old mid new h e g = passed s next r f old new h (faul
 pub leads-after : {T : Type 0} (s s' : State) (next : T → State) (r : Result T Fault) (old mid new : Parser) → ahead s old ≡ ahead s' mid → Leads s' next r mid new → Leads s next r old new
 leads-after s s' next (Ok x) old mid new e h = e ∙ h
 leads-after s s' next (Err f) old mid new e h = fault-back f (ahead s old) (ahead s' mid) e h
-
--- a tree made at the end, where memory may be wanting
-pub leads-made : (s : State) (k : ExprTree → State) (r : Result Expr Fault) (tree : ExprTree) (old new : Parser) → ahead s old ≡ ahead (k tree) new → IfOk r (λ e. expr_tree e ≡ tree) → IfErr r (λ f. f ≡ Memory) → Leads s (λ e. k (expr_tree e)) r old new
-leads-made s k (Ok x) tree old new e is memory = e ∙ ap (λ y. ahead (k y) new) (sym is)
-leads-made s k (Err f) tree old new e is memory = subst (λ x. FaultIs x (ahead s old)) (sym memory) tt
 
 -- a token that was taken, and one that was not there
 pub after-taken : (s : State) (next : Lexeme → State) (other : State) (o : Option Token) (t : Token) (old new : Parser) → ahead s old ≡ ahead (taken next other o) new → o ≡ Some t → ahead s old ≡ ahead (next (lexeme t)) new

@@ -19,7 +19,7 @@ mod step;
 
 use crate::lexer::lex;
 use crate::nesting::Nesting;
-use crate::{ListEnd, Place, Program, Refusal, Rule, Token};
+use crate::{ListEnd, Place, Procedure, Program, Refusal, Rule, Token};
 use std::alloc::{AllocError, AllocFailed, Global};
 
 /// Why the parser stops.
@@ -59,8 +59,8 @@ struct Parser<'t, 'a> {
 }
 
 impl<'t, 'a> Parser<'t, 'a> {
-    fn program(&mut self) -> Result<Program<'a>, Fault>
-        ensures leads { MatchResult result (λ p. ahead program_state self.old ≡ accepted (program_tree p))
+    fn procedures(&mut self) -> Result<Vec<Procedure<'a>>, Fault>
+        ensures leads { MatchResult result (λ procedures. ahead program_state self.old ≡ accepted (program_tree procedures.items))
             (λ f. FaultIs f (ahead program_state self.old)) }
     {
         let mut procedures = Vec::new(self.alloc);
@@ -69,19 +69,19 @@ impl<'t, 'a> Parser<'t, 'a> {
             procedures.push(procedure)?;
         }
         match self.end {
-            ListEnd::TextEnd(_) => Ok(Program { procedures }),
+            ListEnd::TextEnd(_) => Ok(procedures),
             ListEnd::Fault(rule, place) => Err(Fault::Refused(rule, place)),
         }
     }
 }
 
-/// The program that the tokens are.
+/// The procedures of the program that the tokens are.
 fn parse_tokens<'t, 'a>(
     alloc: Global,
     tokens: &'t [Token<'a>],
     end: ListEnd,
-) -> Result<Program<'a>, Refusal>
-    ensures accepted { IfOk result (λ p. Answers (lexemes tokens.entry.now) (ending end) (accepted (program_tree p))) }
+) -> Result<Vec<Procedure<'a>>, Refusal>
+    ensures accepted { IfOk result (λ procedures. Answers (lexemes tokens.entry.now) (ending end) (accepted (program_tree procedures.items))) }
     ensures refused { IfErr result (IsRefusedAs (Answers (lexemes tokens.entry.now) (ending end))) }
 {
     let mut parser = Parser {
@@ -90,8 +90,8 @@ fn parse_tokens<'t, 'a>(
         end,
         nesting: Nesting::new(alloc),
     };
-    match parser.program() {
-        Ok(program) => Ok(program),
+    match parser.procedures() {
+        Ok(procedures) => Ok(procedures),
         Err(Fault::Refused(rule, place)) => Err(Refusal::at(rule, place)),
         Err(Fault::Memory) => Err(Refusal::memory()),
     }
@@ -105,7 +105,8 @@ pub fn parse(alloc: Global, text: &str) -> Result<Program<'_>, Refusal>
     ensures refused { IfErr result (IsRefusedAs (Reads text.now)) }
 {
     let lexed = lex(alloc, text)?;
-    parse_tokens(alloc, lexed.tokens.as_slice(), lexed.end)
+    let procedures = parse_tokens(alloc, lexed.tokens.as_slice(), lexed.end)?;
+    Ok(Program::new(procedures))
 }
 
 /// Tokens are one program at most.

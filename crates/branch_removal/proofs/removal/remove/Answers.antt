@@ -1,5 +1,6 @@
 use Rattle.std.proofs.Common.{◌≡◌, None, ap, ap₂, sym, subst, ◌∙◌, arith}
 use Rattle.inline.specs.Flat.{FlatBlock, FlatProgram}
+use Rattle.inline.specs.Kept.{IsFlat}
 use Rattle.branch_removal.specs.private.Removal.{controls_in_all, removed_all, straightened}
 use Rattle.branch_removal.specs.Removed.{IsRemoved}
 use Rattle.branch_removal.specs.Kept.{IsStraight}
@@ -10,32 +11,32 @@ use Rattle.branch_removal.proofs.removal.remove.Goals as goal
 
 pub controls_in_all-controls-requires : goal.controls_in_all-controls-requires
 controls_in_all-controls-requires c =
-    let body = c.body-body.ensures ∙ ap (λ (p : FlatProgram). p.body) c.flat.ensures in
-    record { numbered = omega (arith, ap controls_in_all body, few_controls c.args.ranged.now.flat c.requires.sized) }
+    let body = c.body-body.ensures.body in
+    record { numbered = omega (arith, ap controls_in_all body, few_controls c.flat.result.now c.body-body.ensures.kept.sized) }
 
 pub push_removed_all-requires : goal.push_removed_all-requires
 push_removed_all-requires c =
-    let body = c.body-body.ensures ∙ ap (λ (p : FlatProgram). p.body) c.flat.ensures in
-    record { numbered = omega (arith, ap controls_in_all body, few_controls c.args.ranged.now.flat c.requires.sized) }
+    let body = c.body-body.ensures.body in
+    record { numbered = omega (arith, ap controls_in_all body, few_controls c.flat.result.now c.body-body.ensures.kept.sized) }
 
 pub new-requires : goal.new-requires
 new-requires c =
     let r = c.args.ranged.now in
-    let body = c.body-body.ensures ∙ ap (λ (p : FlatProgram). p.body) c.flat.ensures in
+    let body = c.body-body.ensures.body ∙ ap (λ (p : FlatProgram). p.body) c.flat.ensures.flat in
     let controls : c.controls_in_all-controls.result ≡ controls_in_all r.flat.body = c.controls_in_all-controls.ensures ∙ ap controls_in_all body in
     let code : straight_block c.push_removed_all.new.code.items ≡ removed_all None 0 r.flat.body =
     c.in_ok-push_removed_all.ensures
     ∙ ap₂ (λ (front : StraightBlock) (b : FlatBlock). chain front (removed_all None 0 b)) (ap straight_block c.new-code.ensures.items) body in
-    let promised = removed_as_promised r c.requires.typed c.requires.sized c.requires.counted c.requires.safe c.requires.worked in
+    let promised = removed_as_promised r (subst IsFlat c.flat.ensures.flat c.body-body.ensures.kept) c.flat.ensures.kept in
     subst (λ (p : StraightProgram). IsStraight p) (sym (straight_of r _ _ controls code)) (record { typed = promised.typed; bounded = promised.bounded })
 
 pub returns-clause-removed : goal.returns-clause-removed
 returns-clause-removed c =
     let r = c.args.ranged.now in
-    let body = c.body-body.ensures ∙ ap (λ (p : FlatProgram). p.body) c.flat.ensures in
+    let body = c.body-body.ensures.body ∙ ap (λ (p : FlatProgram). p.body) c.flat.ensures.flat in
     let controls : c.controls_in_all-controls.result ≡ controls_in_all r.flat.body = c.controls_in_all-controls.ensures ∙ ap controls_in_all body in
     let code : straight_block c.push_removed_all.new.code.items ≡ removed_all None 0 r.flat.body =
     c.in_ok-push_removed_all.ensures
     ∙ ap₂ (λ (front : StraightBlock) (b : FlatBlock). chain front (removed_all None 0 b)) (ap straight_block c.new-code.ensures.items) body in
     let whole : c.new.result ≡ straightened r = c.new.ensures ∙ straight_of r _ _ controls code in
-    subst (λ (p : StraightProgram). IsRemoved r p) (sym whole) (removed_as_promised r c.requires.typed c.requires.sized c.requires.counted c.requires.safe c.requires.worked)
+    subst (λ (p : StraightProgram). IsRemoved r p) (sym whole) (removed_as_promised r (subst IsFlat c.flat.ensures.flat c.body-body.ensures.kept) c.flat.ensures.kept)

@@ -3,18 +3,13 @@ use Rattle.language.specs.Tree.{program_tree}
 use Rattle.hepurita.specs.Built.{readable}
 use Rattle.hepurita.proofs.BuiltLemmas.{refusal_of_text, refusal_of_program}
 use Rattle.hepurita.proofs.BaseLemmas.{bases_of}
-use Rattle.hepurita.proofs.TheoremLemmas.{grammatical_export, judged_compiled}
+use Rattle.hepurita.proofs.TheoremLemmas.{judged_compiled}
 use Rattle.hepurita.proofs.building.build.Goals as goal
 
 pub returns-in_err-program-clause-refused : goal.returns-in_err-program-clause-refused
 returns-in_err-program-clause-refused c =
     let p = err_from_is_err_and c.from_residual.result c.from_residual.ensures.1 in
     rw (p.1, p.2) (refusal_of_text c.args.text.now c.in_err-program.field-0.0 c.in_err-program.ensures.refused)
-
-pub compile-requires : goal.compile-requires
-compile-requires c =
-    let program = program_tree c.in_ok-program.program in
-    record { grammatical = grammatical_export c.args.text.now program c.in_ok-program.ensures.accepted }
 
 pub returns-in_err-code-clause-refused : goal.returns-in_err-code-clause-refused
 returns-in_err-code-clause-refused c =

@@ -1,19 +1,13 @@
-use Rattle.std.proofs.Common.{◌≡◌, inl, length, sym, subst, ap, ◌∙◌}
+use Rattle.std.proofs.Common.{◌≡◌, inl, length, subst, ap, ◌∙◌}
 use Rattle.std.proofs.lemmas.Result.{err_from_is_err_and, IfOk-weaker, IfErr-weaker}
 use Rattle.branch_removal.specs.Removed.{IsRemoved}
 use Rattle.inline.specs.Flat.{FlatProgram}
-use Rattle.inline.specs.FlatSize.{IsSized}
-use Rattle.inline.specs.FlatTyping.{IsTypedProgram}
-use Rattle.intervals.proofs.Safe.{accepted_is_safe}
-use Rattle.intervals.specs.Loose.{IsSafe}
 use Rattle.intervals.specs.Ranged.{RangedProgram}
 use Rattle.intervals.specs.Ranges.{range_violations}
 use Rattle.intervals.specs.Work.{ranged, work_violations}
-use Rattle.language.specs.declared.typing.Violation.{Violation}
 use Rattle.language.specs.Tree.{program_tree}
 use Rattle.hepurita.specs.Built.{fine}
 use Rattle.hepurita.proofs.BuiltLemmas.{refusal_of_ranges}
-use Rattle.hepurita.proofs.TheoremLemmas.{flat_sized, flat_typed, within_work}
 use Rattle.hepurita.proofs.building.compile.Goals as goal
 
 pub returns-in_err-ranged-clause-refused : goal.returns-in_err-ranged-clause-refused
@@ -21,22 +15,6 @@ returns-in_err-ranged-clause-refused c =
     let p = err_from_is_err_and c.from_residual-in_err-ranged.result c.from_residual-in_err-ranged.ensures.1 in
     let made = c.in_ok-flat.ensures.accepted in
     rw (p.1, p.2) (refusal_of_ranges (program_tree c.args.program.now) made.0 made.1 c.in_ok-flat.flat c.in_err-ranged.field-0.0 made.2 made.3 c.in_err-ranged.ensures.refused)
-
-pub remove-requires : goal.remove-requires
-remove-requires c =
-    let program = program_tree c.args.program.now in
-    let made = c.in_ok-flat.ensures.accepted in
-    let is = c.in_ok-ranged.ensures.accepted in
-    let typed : IsTypedProgram c.in_ok-flat.flat = subst IsTypedProgram (sym made.3) (flat_typed program made.0 made.1 c.requires.grammatical made.2) in
-    let sized : IsSized c.in_ok-flat.flat = subst IsSized (sym made.3) (flat_sized program made.0 made.1 c.requires.grammatical made.2) in
-    let safe = accepted_is_safe c.in_ok-flat.flat typed c.in_ok-ranged.ensures.in_range in
-    record {
-      typed = subst (λ (r : RangedProgram). IsTypedProgram r.flat) (sym is) typed;
-      sized = subst (λ (r : RangedProgram). IsSized r.flat) (sym is) sized;
-      counted = is ∙ ap (λ (r : RangedProgram). ranged r.flat) (sym is);
-      worked = within_work c.in_ok-flat.flat c.in_ok-ranged.ranged is c.in_ok-ranged.ensures.worked;
-      safe = subst (λ (r : RangedProgram). IsSafe r.flat r.turns) (sym is) safe;
-    }
 
 pub returns-in_err-straight-clause-refused : goal.returns-in_err-straight-clause-refused
 returns-in_err-straight-clause-refused c =

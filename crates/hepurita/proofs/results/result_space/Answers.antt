@@ -1,4 +1,4 @@
-use Rattle.std.proofs.Common.{rules, ◌≡◌, ◌≢◌, ℕ, List, [], ◌∷◌, ◌+◌, ◌≤◌, ◌++◌, All, drop, map, slice_index_or, is_ok, sym, ap, subst, ◌∙◌, arith}
+use Rattle.std.proofs.Common.{rules, ◌≡◌, ◌≢◌, ℕ, List, [], ◌∷◌, ◌+◌, ◌≤◌, ◌++◌, All, drop, map, slice_index_or, is_ok, sym, ap, subst, ◌∙◌}
 use Rattle.std.specs.List.{AllByRecursion}
 use Rattle.std.proofs.ResultArms.{chosen}
 use Rattle.std.proofs.lemmas.List.Elements.{All-from_recursion}

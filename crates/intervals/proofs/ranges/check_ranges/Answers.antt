@@ -1,4 +1,5 @@
-use Rattle.std.proofs.Common.{sym, ◌∙◌, inl, inr}
+use Rattle.std.proofs.Common.{sym, subst, ◌∙◌, inl, inr}
+use Rattle.intervals.specs.Loose.{IsSafe}
 use Rattle.intervals.specs.Ranges.{range_violations}
 use Rattle.labels.proofs.SoonerLemmas.{found_first, found_none}
 use Rattle.intervals.proofs.RefusalLemmas.{on_any, on_error}
@@ -15,3 +16,8 @@ returns-in-None-clause-in_range c =
 pub returns-in-None-clause-refused : goal.returns-in-None-clause-refused
 returns-in-None-clause-refused c =
     on_error c.with_work.result (λ refusal h. inr (found_none (range_violations c.args.flat.now) (sym c.in_ok-walk.ensures.first ∙ c.in-None.is), h)) c.with_work.ensures.refused
+
+pub with_work-requires : goal.with_work-requires
+with_work-requires c =
+    let in_range = found_none (range_violations c.args.flat.now) (sym c.in_ok-walk.ensures.first ∙ c.in-None.is) in
+    record { turns = c.in_ok-walk.ensures.turns; safe = subst (IsSafe c.args.flat.now) (sym c.in_ok-walk.ensures.turns) (c.in_ok-walk.ensures.safe in_range) }

@@ -1,12 +1,27 @@
-use Rattle.std.proofs.Common.{◌+◌, Some, inr, ap, ◌∙◌, arith}
+use Rattle.std.proofs.Common.{◌≡◌, ℕ, ◌+◌, List, Some, inr, ap, ap₂, ◌∙◌, arith}
 use Rattle.inline.specs.FlatSize.{value_nodes}
-use Rattle.intervals.specs.Work.{body_work}
+use Rattle.intervals.specs.Ranged.{RangedProgram}
+use Rattle.intervals.specs.Work.{body_work, work_of}
 use Rattle.language.specs.declared.rule.Rule.TheVariants.{TooMuchWork}
 use Rattle.intervals.proofs.RefusalLemmas.{above_limit}
 use Rattle.intervals.proofs.ranges.with_work.Goals as goal
 
+pub new-requires : goal.new-requires
+new-requires c =
+    let p = c.args.flat.now in
+    let turns = c.requires.turns in
+    let same = ap (λ ts. body_work ts p.body + value_nodes p.value) (c.as_slice.ensures.value ∙ turns) in
+    let made : List ℕ → ℕ → RangedProgram = λ ts w. record { flat = p; turns = ts; work = w } in
+    let few = c.in-Some.ensures.0 in
+    let work : c.in-Some.work ≡ work_of p = c.in-Some.ensures.1 ∙ same in
+    record {
+      counted = ap₂ made turns work;
+      worked = omega (arith, few, c.in-Some.ensures.1);
+      safe = c.requires.safe;
+    }
+
 pub returns-clause-refused : goal.returns-clause-refused
 returns-clause-refused c =
     let p = c.args.flat.now in
-    let same = ap (λ ts. body_work ts p.body + value_nodes p.value) (c.as_slice.ensures.value ∙ c.requires) in
+    let same = ap (λ ts. body_work ts p.body + value_nodes p.value) (c.as_slice.ensures.value ∙ c.requires.turns) in
     inr (record { place = p.place; rule = TooMuchWork }, above_limit p (λ few. c.in-None.ensures (omega (arith, same, few))), c.at.ensures.rule, c.at.ensures.place ∙ ap Some c.place.ensures)

@@ -2,7 +2,7 @@ use Rattle.std.proofs.Common.{◌≡◌, map, length}
 use Rattle.syntax.specs.private.Machine.{program, procedures}
 use Rattle.syntax.specs.private.ParserViews.{ahead}
 use Rattle.language.specs.Tree.{procedure_tree}
-use Rattle.syntax.proofs.parser.Parser.program.Given as goal
+use Rattle.syntax.proofs.parser.Parser.procedures.Given as goal
 
 abbrev pub invariant-loop-self : goal.invariant-loop-self
 invariant-loop-self l = ahead program l.fn.self ≡ ahead (procedures (map procedure_tree l.procedures.items)) l.self

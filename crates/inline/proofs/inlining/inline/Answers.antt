@@ -1,0 +1,17 @@
+use Rattle.std.proofs.Common.{map}
+use Rattle.inline.proofs.FlatPrograms.{flat_is_typed}
+use Rattle.inline.proofs.FlatSizes.{flat_is_sized}
+use Rattle.inline.proofs.inlining.inline.Goals as goal
+use Rattle.language.specs.Tree.{procedure_tree, program_tree}
+
+pub flat_of-requires : goal.flat_of-requires
+flat_of-requires c =
+    let checked = c.args.checked.now in
+    let program = program_tree checked.program.now in
+    let before = map procedure_tree c.export.result.0.now in
+    let p = procedure_tree c.export.result.1.now in
+    let is = c.export.ensures in
+    λ small. record {
+      typed = flat_is_typed program before p checked.well_typed is.exported is.earlier is.grammatical;
+      sized = flat_is_sized program before p checked.well_typed is.exported is.earlier is.grammatical small;
+    }
