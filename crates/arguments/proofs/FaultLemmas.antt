@@ -71,7 +71,7 @@ Decides-nat_le a b = (λ e. grind (arith, nat_tests), λ h. grind (arith, nat_te
 pub Decides-values : (kind : Kind) (words : List ℕ) → Decides (list_all (λ word. nat_le word (greatest_of kind)) words) (All (λ word. word ≤ greatest_of kind) words)
 Decides-values kind words = Decides-by_and (λ word. nat_le word (greatest_of kind)) (λ word. word ≤ greatest_of kind) (list_all (λ word. nat_le word (greatest_of kind))) (λ word. Decides-nat_le word (greatest_of kind)) refl (λ _ _. refl) words
 
-both_hold : (shape values : Bool) → (if shape then (if values then None else Some Value) else Some Shape) ≡ None → (shape ≡ true) × (values ≡ true)
+pub both_hold : (shape values : Bool) → (if shape then (if values then None else Some Value) else Some Shape) ≡ None → (shape ≡ true) × (values ≡ true)
 both_hold true true e = (refl, refl)
 both_hold true false e = cc
 both_hold false values e = cc

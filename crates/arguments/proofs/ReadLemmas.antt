@@ -1,10 +1,10 @@
 -- The arguments that texts without fault spell.
-use Rattle.std.proofs.Common.{◌≡◌, ℕ, ◌+◌, ◌-◌, ◌^◌, ◌<◌, ◌≤◌, min, Bool, true, false, nat_le, nat_lt, ◌&&◌, if◌then◌else◌, ◌==◌, List, [], ◌∷◌, ◌++◌, length, get_or, take, map, ◌⊎◌, inl, inr, Option, Some, None, Result, Ok, Err, ◌↔◌, refl, sym, ap, subst, ◌∙◌, arith}
+use Rattle.std.proofs.Common.{◌≡◌, ℕ, ◌+◌, ◌-◌, ◌^◌, ◌<◌, min, Bool, true, false, nat_le, nat_lt, ◌&&◌, if◌then◌else◌, ◌==◌, List, [], ◌∷◌, ◌++◌, length, get_or, take, map, ◌⊎◌, inl, inr, Option, Some, None, Result, Ok, Err, ◌↔◌, refl, sym, ap, subst, ◌∙◌, arith}
 use Rattle.std.specs.List.{list_all, filter_map, cons_option}
 use Rattle.std.specs.Option.{option_map, option_and_then}
 use Rattle.std.proofs.lemmas.List.{length-map, take_more, map-append, append-nil}
 use Rattle.std.proofs.lemmas.List.Elements.{filter_map-append}
-use Rattle.std.proofs.lemmas.Bool.{false≢true}
+use Rattle.std.proofs.lemmas.Bool.{and_parts}
 use Rattle.std.proofs.lemmas.Bool.Decides.{Decides-eqb, Decides-ltb, Decides-like, same_from_decides, nat_tests}
 use Rattle.language.specs.declared.signature.Form.{Form}
 use Rattle.language.specs.declared.signature.Form.TheVariants.{SingleWord, FixedArray, MutableArray}
@@ -18,11 +18,10 @@ use Rattle.arguments.specs.Faults.{fault_at, fault_from, fault_by, count_fault}
 use Rattle.arguments.specs.Texts.{number_of, each_number, word_of, count_of, rule_of_numbers}
 use Rattle.arguments.specs.declared.fault.ArgumentFault.{ArgumentFault}
 use Rattle.arguments.specs.declared.fault.ArgumentRule.{ArgumentRule}
-use Rattle.arguments.specs.declared.fault.ArgumentRule.TheVariants.{Shape, Value}
 use Rattle.arguments.specs.declared.texts.ReadError.{ReadError}
 use Rattle.arguments.specs.declared.texts.ReadError.TheVariants.{Argument, Memory}
 use Rattle.arguments.proofs.NumberLemmas.{capped}
-use Rattle.arguments.proofs.FaultLemmas.{Decides-values}
+use Rattle.arguments.proofs.FaultLemmas.{Decides-values, both_hold}
 
 -- ---- the words of one text
 -- a number that fits a word
@@ -55,15 +54,11 @@ splits None rest numbers e = cc
 splits (Some n) None numbers e = cc
 splits (Some n) (Some others) numbers e = record { first = n; others = others; is_first = refl; are_others = refl; same = cc }
 
-both_true : (a b : Bool) → (a && b) ≡ true → (a ≡ true) × (b ≡ true)
-both_true true b e = (refl, e)
-both_true false b e = absurd (false≢true e)
-
 pub filter_map-word_of : (parts : List (List ℕ)) (numbers : List ℕ) → each_number parts ≡ Some numbers → list_all (λ n. nat_lt n (2 ^ 32)) numbers ≡ true → filter_map word_of parts ≡ numbers
 filter_map-word_of [] numbers e small = cc
 filter_map-word_of (part ∷ parts) numbers e small =
     let s = splits (number_of part) (each_number parts) numbers e in
-    let fit = both_true (nat_lt s.first (2 ^ 32)) (list_all (λ n. nat_lt n (2 ^ 32)) s.others) (ap (list_all (λ n. nat_lt n (2 ^ 32))) s.same ∙ small) in
+    let fit = and_parts (nat_lt s.first (2 ^ 32)) (list_all (λ n. nat_lt n (2 ^ 32)) s.others) (ap (list_all (λ n. nat_lt n (2 ^ 32))) s.same ∙ small) in
     let word : word_of part ≡ Some s.first = ap fitting s.is_first ∙ ap (λ b. if b then Some s.first else None) fit.0 in
     ap (λ o. cons_option o (filter_map word_of parts)) word ∙ ap (λ l. s.first ∷ l) (filter_map-word_of parts s.others s.are_others fit.1) ∙ s.same
 
@@ -72,15 +67,10 @@ pub record Fitting (param : Param) (numbers : List ℕ) : Type 0 where
   pub count : length numbers ≡ count_of param.form param.length
   pub within : list_all (λ word. nat_le word (greatest_of param.kind)) numbers ≡ true
 
-fit_both : (a b : Bool) → (if a then (if b then None else Some Value) else Some Shape) ≡ None → (a ≡ true) × (b ≡ true)
-fit_both true true e = (refl, refl)
-fit_both true false e = cc
-fit_both false b e = cc
-
 pub Fitting-from_rule : (param : Param) (o : Option (List ℕ)) → rule_of_numbers param o ≡ None → (numbers : List ℕ) × (o ≡ Some numbers) × Fitting param numbers
 Fitting-from_rule param None e = cc
 Fitting-from_rule param (Some numbers) e =
-    let both = fit_both (length numbers == count_of param.form param.length) (list_all (λ word. nat_le word (greatest_of param.kind)) numbers) e in
+    let both = both_hold (length numbers == count_of param.form param.length) (list_all (λ word. nat_le word (greatest_of param.kind)) numbers) e in
     (numbers, refl, record { count = (Decides-eqb (length numbers) (count_of param.form param.length)).0 both.0; within = both.1 })
 
 greatest_of-small : (kind : Kind) → greatest_of kind < 2 ^ 32
@@ -93,7 +83,7 @@ greatest_of-small Uint32 = omega arith
 small_from_within : (most : ℕ) → most < 2 ^ 32 → (numbers : List ℕ) → list_all (λ word. nat_le word most) numbers ≡ true → list_all (λ n. nat_lt n (2 ^ 32)) numbers ≡ true
 small_from_within most fits [] e = refl
 small_from_within most fits (n ∷ numbers) e =
-    let both = both_true (nat_le n most) (list_all (λ word. nat_le word most) numbers) e in
+    let both = and_parts (nat_le n most) (list_all (λ word. nat_le word most) numbers) e in
     let first : nat_lt n (2 ^ 32) ≡ true = grind (arith, nat_tests, both.0) in
     ap (λ b. b && list_all (λ n. nat_lt n (2 ^ 32)) numbers) first ∙ small_from_within most fits numbers both.1
 
@@ -133,14 +123,6 @@ pub word_below : (part : List ℕ) (n : ℕ) → Some n ≡ capped (number_of pa
 word_below part n e small =
     let below : nat_lt n (2 ^ 32) ≡ true = grind (arith, nat_tests) in
     ap (λ b. if b then Some n else None) (sym below) ∙ ap fitting e ∙ fitting-capped (number_of part)
-
-pub word_above : (part : List ℕ) (n : ℕ) → Some n ≡ capped (number_of part) → 2 ^ 32 ≤ n → None ≡ word_of part
-word_above part n e large =
-    let above : nat_lt n (2 ^ 32) ≡ false = grind (arith, nat_tests) in
-    ap (λ b. if b then Some n else None) (sym above) ∙ ap fitting e ∙ fitting-capped (number_of part)
-
-pub word_none : (part : List ℕ) → None ≡ capped (number_of part) → None ≡ word_of part
-word_none part e = ap fitting e ∙ fitting-capped (number_of part)
 
 -- one more part gives its word, or none
 module _ {X Y Z : Type 0} (f : Y → Option Z) (view : X → Y) (xs : List X) (x : X) (words : List Z) where

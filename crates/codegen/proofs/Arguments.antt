@@ -159,13 +159,13 @@ module _ (frame : ℕ) where
       arguments_data size (with_argument frame bytes (record { param = p; offset = low }) arg) (low + 4 * flat_size.words_of (declaration_of p)) ps args within.1
       (argument_data_by size p.kind p.label p.length p.form bytes low arg within.0 here (omega (arith, room))) (omega (arith, room))
 
-head_is : (e d : FlatVariable) (es ds : List FlatVariable) → e ∷ es ≡ d ∷ ds → e ≡ d
+pub head_is : (e d : FlatVariable) (es ds : List FlatVariable) → e ∷ es ≡ d ∷ ds → e ≡ d
 head_is e d es ds h = cc
 
-tail_is : (e d : FlatVariable) (es ds : List FlatVariable) → e ∷ es ≡ d ∷ ds → es ≡ ds
+pub tail_is : (e d : FlatVariable) (es ds : List FlatVariable) → e ∷ es ≡ d ∷ ds → es ≡ ds
 tail_is e d es ds h = cc
 
-no_cons : (d : FlatVariable) (ds : List FlatVariable) → [] ≡ d ∷ ds → ⊥
+pub no_cons : (d : FlatVariable) (ds : List FlatVariable) → [] ≡ d ∷ ds → ⊥
 no_cons d ds h = cc
 
 pub zero_at : (n i : ℕ) → slice_index (replicate n 0) i ≡ 0

@@ -15,7 +15,7 @@ use Rattle.rv_machine.specs.Machine as machine
 use Rattle.codegen.proofs.Jumps.{Still, branching}
 use Rattle.codegen.proofs.Showing.{Shown, first_runs, ready_valued, ready_still}
 use Rattle.codegen.proofs.Slots.{hidden_then, hidden_by, hidden_kept}
-use Rattle.expression_code.proofs.Straight.{Setting, base_of, Runs, seq, weaken}
+use Rattle.expression_code.proofs.Straight.{Setting, base_of, Runs, seq, gives}
 use Rattle.expression_code.proofs.Values.{Ready}
 
 -- the condition is known
@@ -46,8 +46,7 @@ module _ (z : Setting) (depth : ℕ) (condition : TermTree) (word : WordType) (a
   -- the condition, and then one of both arms
   pub branch_runs : Runs z (16 * term_nodes condition + (2 + m + n)) (λ env. path_at env (branch condition accepted otherwise)) (expr_code z.declared (base_of z) 0 condition ++ branch_code xs ys) (Ready z) (Shown z depth (λ env. after env (branch condition accepted otherwise)))
   branch_runs =
-      weaken z {P = Ready z}
-      (λ env s fine ready. ready)
+      gives z
       (λ env s t fine ready done. record {
         ready = done.second.ready;
         hidden = hidden_then z depth s done.middle t (hidden_kept z depth s done.middle within done.first.kept) done.second.hidden;

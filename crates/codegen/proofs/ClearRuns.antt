@@ -2,6 +2,7 @@
 use Rattle.std.proofs.Common.{◌≡◌, ◌≢◌, ℕ, zero, suc, ◌+◌, ◌-◌, ◌*◌, ◌/◌, ◌%◌, ◌^◌, ◌<◌, ◌≤◌, ◌==◌, ◌⊎◌, inl, inr, Bool, true, false, cond, nat_lt, [], ◌∷◌, ◌++◌, replicate, Some, slice_get, slice_index, refl, sym, ap, ◌∙◌, subst, arith}
 use Rattle.std.proofs.lemmas.Bool.Decides.{nat_tests}
 use Rattle.std.proofs.lemmas.Option.{same_Some}
+use Rattle.std.proofs.lemmas.Bool.{eqb-true, eqb-false}
 use Rattle.inline.specs.declared.flat.FlatVariable.{FlatVariable}
 use Rattle.inline.specs.Fitting.{IsHeld}
 use Rattle.inline.specs.Flat.{array_as, numbers_in}
@@ -29,7 +30,7 @@ use Rattle.rv_machine.specs.Registers.{register}
 use Rattle.rv_machine.proofs.ByteLaws.{number_at_same, with_number-suc, with_byte_same, with_byte_other, with_number_below, with_number_above}
 use Rattle.codegen.proofs.Arguments.{zero_at, held_zeros}
 use Rattle.expression_code.proofs.Arithmetic.{near_field, parts, upper_fits, lower_fits}
-use Rattle.expression_code.proofs.Computing.{same_number, computing_runs}
+use Rattle.expression_code.proofs.Computing.{computing_runs}
 use Rattle.expression_code.proofs.ExpressionRuns.{kind_known}
 use Rattle.expression_code.proofs.Held.{HeldAt, Held, held_regs, held_store, frame_there}
 use Rattle.codegen.proofs.Jumps.{Still, looping_for}
@@ -39,7 +40,7 @@ use Rattle.expression_code.proofs.Pieces.{register-at}
 use Rattle.expression_code.proofs.Places.{bytes_of, place_of, place_within, ends_before_result, apart_from}
 use Rattle.codegen.proofs.Showing.{Shown}
 use Rattle.expression_code.proofs.Steps.{Always, Moves, computing, storing}
-use Rattle.expression_code.proofs.Straight.{Setting, none, Runs, seq, quiet, weaken, cheaper, along, as_code}
+use Rattle.expression_code.proofs.Straight.{Setting, none, Runs, seq, quiet, weaken, gives, cheaper, along, as_code}
 use Rattle.expression_code.proofs.Values.{Ready}
 
 -- No turn changes the state of straight code, or puts anything on the path.
@@ -59,17 +60,14 @@ zero_bytes : (bytes : ByteMap) (n a x : ℕ) → a ≤ x → x < a + n → with_
 zero_bytes bytes zero a x low high = absurd (omega (arith, low, high))
 zero_bytes bytes (suc n) a x low high = by_case (x == a) refl (λ above. zero_bytes bytes n (a + 1) x above (omega (arith, high)))
   where
-    differ : x ≡ a → (x == a) ≡ false → ⊥
-    differ q h = grind (arith, nat_tests)
-
     above : (x == a) ≡ false → a + 1 ≤ x
     above h = grind (arith, nat_tests)
 
     by_case : (b : Bool) → (x == a) ≡ b → (a + 1 ≤ x → with_number bytes n (a + 1) 0 x ≡ Some 0) → with_number bytes (suc n) a 0 x ≡ Some 0
-    by_case true e rest = ap (λ (m : ByteMap). m x) (with_number-suc bytes n a 0) ∙ with_byte_same (with_number bytes n (a + 1) (0 / 256)) a (0 % 256) x (same_number x a e)
+    by_case true e rest = ap (λ (m : ByteMap). m x) (with_number-suc bytes n a 0) ∙ with_byte_same (with_number bytes n (a + 1) (0 / 256)) a (0 % 256) x (eqb-true x a e)
     by_case false e rest =
         ap (λ (m : ByteMap). m x) (with_number-suc bytes n a 0)
-        ∙ (with_byte_other (with_number bytes n (a + 1) (0 / 256)) a (0 % 256) x (λ q. differ q e) ∙ rest (above e))
+        ∙ (with_byte_other (with_number bytes n (a + 1) (0 / 256)) a (0 % 256) x (eqb-false x a e) ∙ rest (above e))
 
 -- so many words from an offset on are 0, and all else is as it was
 pub record Cleared (z : Setting) (offset count : ℕ) (o s : machine.State) : Type 0 where
@@ -122,8 +120,7 @@ module _ (z : Setting) (offset words : ℕ) (aligned : offset % 4 ≡ 0) (inside
   begin_runs =
       let ends = z.ends in
       cheaper z (omega arith)
-      (weaken z {P = Held z}
-      (λ env s fine held. held)
+      (gives z
       (λ env s t fine held done.
       let m3 = done.middle in
       let m2 = done.first.middle in
@@ -194,8 +191,7 @@ module _ (z : Setting) (offset words : ℕ) (aligned : offset % 4 ≡ 0) (inside
   body_below left i below =
       let ends = z.ends in
       let even = z.even in
-      weaken z {P = Turning (suc left) i}
-      (λ env s fine given. given)
+      gives z
       (λ env s t fine given done.
       let m = done.middle in
       let one = done.first in
@@ -294,8 +290,7 @@ module _ (z : Setting) (offset words : ℕ) (aligned : offset % 4 ≡ 0) (inside
 
   pub clear_bytes : Runs z (6 + (words + 1) * 5) none (clear_code offset words) (Held z) (λ env s t. HeldAt z t × Cleared z offset words s t)
   clear_bytes =
-      weaken z {P = Held z}
-      (λ env s fine held. held)
+      gives z
       (λ env s t fine held done. (
         done.second.0,
         record {
@@ -341,7 +336,7 @@ module _ (z : Setting) (depth x size : ℕ) (typed : IsFilled z.declared x size 
 
     fits_at : (y : ℕ) (e : FlatVariable) → slice_get z.declared y ≡ Some e → (b : Bool) → (y == x) ≡ b → IsHeld e (cond b (replicate size 0) (env.variables y))
     fits_at y e is true q =
-        let kind : d ≡ e = same_Some d e (sym typed.known ∙ (ap (λ n. slice_get z.declared n) (sym (same_number y x q)) ∙ is)) in
+        let kind : d ≡ e = same_Some d e (sym typed.known ∙ (ap (λ n. slice_get z.declared n) (sym (eqb-true y x q)) ∙ is)) in
         subst (λ (f : FlatVariable). IsHeld f (replicate size 0)) kind (held_zeros d)
     fits_at y e is false q = ready.fits y e is
 
@@ -357,7 +352,7 @@ module _ (z : Setting) (depth x size : ℕ) (typed : IsFilled z.declared x size 
     there_at : (y : ℕ) (e : FlatVariable) (j : ℕ) → slice_get z.declared y ≡ Some e → j < numbers_in e.elements → (b : Bool) → (y == x) ≡ b
         → number_at t.bytes (bytes_of e) (z.frame + place_of z.declared y e j) ≡ Some (slice_index (cond b (replicate size 0) (env.variables y)) j)
     there_at y e j is less true q =
-        let at = same_number y x q in
+        let at = eqb-true y x q in
         let kind : d ≡ e = same_Some d e (sym typed.known ∙ (ap (λ n. slice_get z.declared n) (sym at) ∙ is)) in
         ap (λ n. number_at t.bytes (bytes_of e) (z.frame + place_of z.declared n e j)) at
         ∙ subst (λ (f : FlatVariable). number_at t.bytes (bytes_of f) (z.frame + place_of z.declared x f j) ≡ Some (slice_index (replicate size 0) j)) kind

@@ -5,6 +5,7 @@ use Rattle.std.proofs.Math.Nat.{le-max_left, le-max_right}
 use Rattle.std.proofs.Math.Seq.{set-append_seam}
 use Rattle.std.proofs.lemmas.Bool.{eqb-true}
 use Rattle.std.proofs.lemmas.Bool.Decides.{nat_tests}
+use Rattle.std.proofs.lemmas.List.{nil_from_length}
 use Rattle.inline.specs.declared.flat.FlatVariable.{FlatVariable}
 use Rattle.inline.specs.Flat.{TermTree, array_as}
 use Rattle.inline.specs.FlatMeaning.{Values, with_value, value_in, path_in_all}
@@ -38,7 +39,7 @@ use Rattle.codegen.proofs.PutRuns.{store_bytes, element_before, element_inside}
 use Rattle.codegen.proofs.Showing.{Shown, suits_fits, value_runs, ready_valued, wrote_as}
 use Rattle.codegen.proofs.Slots.{Wrote, hidden_then, hidden_kept, hidden_wrote, cut_element, ready_same, ready_put}
 use Rattle.expression_code.proofs.Steps.{Always, Inside, Fit, Moves, storing, computing}
-use Rattle.expression_code.proofs.Straight.{Setting, base_of, none, Runs, seq, quiet, weaken, cheaper, beside, along, as_code, idle}
+use Rattle.expression_code.proofs.Straight.{Setting, base_of, none, Runs, seq, quiet, weaken, gives, cheaper, beside, along, as_code, idle}
 use Rattle.expression_code.proofs.TermLengths.{height}
 use Rattle.expression_code.proofs.Values.{Ready}
 
@@ -94,8 +95,7 @@ module _ (z : Setting) (kind : Kind) (o : ℕ) (inside : o + element_bytes kind 
   far_element : Runs z 3 none (instr.Upper Lui 28 (upper_part o) ∷ instr.Register Add 28 28 2 ∷ instr.Store (store_by kind) 5 28 (lower_part o) ∷ []) (Held z) (λ env s t. Wrote z (element_bytes kind) o (s.regs 5) s t)
   far_element =
       let ends = z.ends in
-      weaken z {P = Held z}
-      (λ env s fine held. held)
+      gives z
       (λ env s t fine held both.
       let m = both.middle in
       let one = both.first in
@@ -150,8 +150,7 @@ module _ (z : Setting) (depth : ℕ) (within : depth ≤ z.depths) (x size : ℕ
       let every = suits_among (types_but z.declared x) (types_of z.declared) (but_among z.declared x) word e suits in
       let before = element_before z x size word mutable known k below in
       let n = element_bytes word.kind in
-      weaken z {P = Ready z}
-      (λ env s fine ready. ready)
+      gives z
       (λ env s t fine ready done.
       let m = done.middle in
       let v = value_in env.variables e in
@@ -168,8 +167,7 @@ module _ (z : Setting) (depth : ℕ) (within : depth ≤ z.depths) (x size : ℕ
   fill_from : (k o : ℕ) (es : List TermTree) → o ≡ at k → AllSuit (types_but z.declared x) word es → k + length es ≤ size → base_of z + 4 * slots_to (height_of_all es) ≤ z.size
       → Runs z (32 * terms_nodes es) (λ env. path_in_all env.variables es) (fill_code z.declared (base_of z) word.kind o es) (Ready z) (Shown z depth (filled k es))
   fill_from k o [] is suits few room =
-      weaken z
-      (λ env s fine ready. ready)
+      gives z
       (λ env s t fine ready still. record {
         ready = subst (λ (u : machine.State). Ready z env u) (sym still) ready;
         hidden = λ a low high. ap (λ (u : machine.State). u.bytes (z.frame + a)) still;
@@ -180,8 +178,7 @@ module _ (z : Setting) (depth : ℕ) (within : depth ≤ z.depths) (x size : ℕ
       let b = le-max_right (height_of e) (height_of_all es) in
       let h = height e in
       cheaper z (omega (arith, h))
-      (weaken z {P = Ready z}
-      (λ env s fine ready. ready)
+      (gives z
       (λ env s t fine ready done. record {
         ready = done.second.ready;
         hidden = hidden_then z depth s done.middle t done.first.hidden done.second.hidden;
@@ -204,13 +201,9 @@ module _ (z : Setting) (depth : ℕ) (within : depth ≤ z.depths) (x size : ℕ
   controls_kept k [] env c = refl
   controls_kept k (e ∷ es) env c = controls_kept (k + 1) es (step k e env) c
 
-  no_more : (back : List ℕ) → length back ≡ 0 → back ≡ []
-  no_more [] h = refl
-  no_more (b ∷ back) h = absurd (omega (arith, h))
-
   values_there : (k : ℕ) (es : List TermTree) (env : StraightState) (front back : List ℕ) → AllSuit (types_but z.declared x) word es
       → env.variables x ≡ front ++ back → length front ≡ k → length back ≡ length es → (filled k es env).variables x ≡ front ++ map (value_in env.variables) es
-  values_there k [] env front back suits is long short = is ∙ ap (λ (b : List ℕ). front ++ b) (no_more back short)
+  values_there k [] env front back suits is long short = is ∙ ap (λ (b : List ℕ). front ++ b) (nil_from_length back short)
   values_there k (e ∷ es) env front [] suits is long short = absurd (omega (arith, short))
   values_there k (e ∷ es) env front (b ∷ back) suits is long short =
       let v = value_in env.variables e in
@@ -236,8 +229,7 @@ fill_runs z depth x values typed room within =
     let d : FlatVariable = array_as typed.word typed.mutable (length values) in
     as_code z (ap (λ k. fill_code z.declared (base_of z) k (variable_offset z.declared x) values) (kind_known z.declared x d typed.known))
     (cheaper z (omega arith)
-    (weaken z {P = Ready z}
-    (λ env s fine ready. ready)
+    (gives z
     (λ env s t fine ready done. record {
       ready =
           ready_same z (filled z depth within x (length values) typed.word typed.mutable typed.known 0 values env) (with_variable env x (map (value_at env) values)) t

@@ -1,7 +1,7 @@
 -- Code that jumps: of two lists one is run, or a list is run again and again.
 use Rattle.std.proofs.Common.{◌≡◌, ◌≢◌, ℕ, zero, suc, ◌+◌, ◌-◌, ◌*◌, ◌%◌, ◌^◌, ◌<◌, ◌≤◌, ◌==◌, Bool, true, false, not, cond, if◌then◌else◌, List, [], ◌∷◌, ◌++◌, length, None, All, refl, sym, ap, ◌∙◌, subst, arith, length-append, append_assoc}
 use Rattle.std.proofs.Math.Path.{fun_ext}
-use Rattle.std.proofs.lemmas.Bool.{true≢false}
+use Rattle.std.proofs.lemmas.Bool.{true≢false, eqb-true}
 use Rattle.std.proofs.lemmas.Bool.Decides.{nat_tests}
 use Rattle.branch_removal.specs.StraightMeaning.{StraightState}
 use Rattle.expression_code.specs.Inside.{IsInside}
@@ -27,9 +27,6 @@ use Rattle.expression_code.proofs.Straight.{Setting, Placed, Placed-left, Placed
 pub record Still (s t : machine.State) : Type 0 where
   pub regs : t.regs ≡ s.regs
   pub bytes : t.bytes ≡ s.bytes
-
-same_number : (q r : ℕ) → (q == r) ≡ true → q ≡ r
-same_number q r h = grind (arith, nat_tests)
 
 dropped : (regs : ℕ → ℕ) (v : ℕ) → with_register regs 0 v ≡ regs
 dropped regs v = fun_ext (λ r. by_register r (r == 0))
@@ -183,7 +180,7 @@ module _ (z : Setting) where
       by_case : (c : Bool) (env : StraightState) (s : machine.State) (rest : Path) → (value env == 0) ≡ c → s.pc ≡ p → AreFine z.counts (cond c (b env) (a env)) → P env s
           → Ends z (2 + m + n) (p + 4 * length (branch_code xs ys)) (cond c (both (both (always (shown_at p)) (always (shown_at (p + 4)))) second_arm.leak) (both (both (always (shown_at p)) first_arm.leak) (always (shown_at middle)))) (cond c (b env) (a env) ++ rest) rest (S env s) s
       by_case true env s rest is at fine fit =
-          let none' = same_number (value env) 0 is in
+          let none' = eqb-true (value env) 0 is in
           let arm = after_arm.1 in
           let e = last in
           let past : p + 4 + 4 + 4 * (length xs + 1) ≡ middle + 4 = omega arith in

@@ -30,7 +30,7 @@ use Rattle.expression_code.proofs.Pieces.{load_runs}
 use Rattle.codegen.proofs.Showing.{Shown, first_runs, ready_with, ready_below, ready_behind, word_before, wrote_as}
 use Rattle.codegen.proofs.Slots.{Hidden, hidden_then, hidden_less, hidden_by, hidden_wrote, hidden_beyond, hidden_number, put_wrote, other_number, ready_set}
 use Rattle.expression_code.proofs.Stores.{store_runs}
-use Rattle.expression_code.proofs.Straight.{Setting, base_of, none, Runs, seq, quiet, quietly, weaken, as_code, beside}
+use Rattle.expression_code.proofs.Straight.{Setting, base_of, none, Runs, seq, quiet, quietly, weaken, gives, as_code, beside}
 use Rattle.expression_code.proofs.Values.{Kept, Ready, kept_number, kept_less, kept_then, put_kept, put_there}
 
 -- So many turns are left, the next of them for this number: both of the loop's words tell it.
@@ -89,8 +89,7 @@ module _ (z : Setting) (depth : ℕ) (within : depth < z.depths) where
   test_runs : (left i : ℕ) → Runs z 7 none (test_code next) (AtLoop z next left i) (TestedFor z left i)
   test_runs left i =
       let inside = next_inside in
-      weaken z {P = AtLoop z next left i}
-      (λ env s fine at. at)
+      gives z
       (λ env s t fine at done.
       let m2 = done.middle in
       let m1 = done.first.middle in
@@ -130,8 +129,7 @@ module _ (z : Setting) (depth : ℕ) (within : depth < z.depths) where
       let before = word_before z x counter_type false known in
       let inside = next_inside in
       let room = z.room in
-      weaken z {P = Turns left i}
-      (λ env s fine given. given)
+      gives z
       (λ env u v fine given done.
       let at = given.0 in
       let m2 = done.middle in
@@ -185,8 +183,7 @@ module _ (z : Setting) (depth : ℕ) (within : depth < z.depths) where
   pushed : (e : TermTree) (o : ℕ) → HasType (types_of z.declared) e counter_type → base_of z + 4 * slots_to (height_of e) ≤ z.size → o ≤ base_of z → o % 4 ≡ 0 → o + 4 ≤ z.size
       → Runs z (16 * term_nodes e + 3) (λ env. path_in env.variables e) (expr_code z.declared (base_of z) 0 e ++ store_code 5 o) (Ready z) (Pushed e o)
   pushed e o has room below aligned inside =
-      weaken z {P = Ready z}
-      (λ env s fine ready. ready)
+      gives z
       (λ env s t fine ready done.
       let m = done.middle in
       let one = done.first in
@@ -208,8 +205,7 @@ module _ (z : Setting) (depth : ℕ) (within : depth < z.depths) where
   bounds_runs low high has_low has_high room_low room_high =
       let inside = next_inside in
       let base : next + 8 ≤ base_of z = omega (arith, within) in
-      weaken z {P = Ready z}
-      (λ env s fine ready. ready)
+      gives z
       (λ env s t fine ready done.
       let m = done.middle in
       let one = done.first in
@@ -246,8 +242,7 @@ module _ (z : Setting) (depth : ℕ) (within : depth < z.depths) where
     -- a turn
     body_runs : (left i : ℕ) → Runs z (7 + n) (λ env. path_along (counted x i env) body) (count_code next (variable_offset z.declared x) ++ ys) (Turns left i) (Done left i)
     body_runs left i =
-        weaken z {P = Turns left i}
-        (λ env s fine given. given)
+        gives z
         (λ env u v fine given done.
         let m = done.middle in
         let first = done.first in
@@ -296,8 +291,7 @@ module _ (z : Setting) (depth : ℕ) (within : depth < z.depths) where
     pub repeats_runs : Runs z (16 * term_nodes low + 3 + (16 * term_nodes high + 3) + (slice_index z.counts x + 1) * (7 + (7 + n) + 2)) (λ env. path_at env (repeats x low high body))
         (bounds_code z.declared next (base_of z) low high ++ loop_code (test_code next) (count_code next (variable_offset z.declared x) ++ ys)) (Ready z) (Shown z depth (λ env. after env (repeats x low high body)))
     repeats_runs =
-        weaken z {P = Ready z}
-        (λ env s fine ready. ready)
+        gives z
         (λ env s t fine ready done. record {
           ready = done.second.0;
           hidden = hidden_then z depth s done.middle t done.first.1 done.second.1;

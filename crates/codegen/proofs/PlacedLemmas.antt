@@ -1,6 +1,7 @@
 -- Well-typed statements that are not too large have their places.
 use Rattle.std.proofs.Common.{◌≡◌, ℕ, ◌+◌, ◌*◌, ◌≤◌, ◌<◌, ◌==◌, Bool, true, false, List, [], ◌∷◌, length, max, Some, None, slice_get, cond, arith, length-append}
 use Rattle.std.proofs.Math.Nat.{le-max_left, le-max_right}
+use Rattle.std.proofs.lemmas.Option.{none-some, slice_get_within}
 use Rattle.branch_removal.specs.Bounds.{statement_nodes, block_nodes}
 use Rattle.branch_removal.specs.Straight.{StraightTree, set, clear, fill, put, take, set_under, put_under, branch, repeats, StraightBlock, nothing, first}
 use Rattle.branch_removal.specs.StraightTyping.{IsTyped, AreTyped, types_but}
@@ -19,7 +20,7 @@ use Rattle.language.specs.declared.typing.WordType.{WordType}
 use Rattle.language.specs.Size.{array_words}
 use Rattle.codegen.proofs.CodeLengths.{block_length, test_length, count_length}
 use Rattle.expression_code.proofs.Places.{ends_before_result}
-use Rattle.expression_code.proofs.TermTypes.{known_among, typed_within, typed_among}
+use Rattle.expression_code.proofs.TermTypes.{typed_within, typed_among}
 
 -- an array has no more elements than bytes
 elements_in_words : (kind : Kind) (size : ℕ) → size ≤ 4 * array_words kind size
@@ -28,12 +29,9 @@ elements_in_words Uint8 size = omega arith
 elements_in_words Uint16 size = omega arith
 elements_in_words Uint32 size = omega arith
 
-no_variable : (d : FlatVariable) → None ≡ Some d → ⊥
-no_variable d e = cc
-
 known_but : (declared : List FlatVariable) (x y : ℕ) (d : FlatVariable) (b : Bool) → cond b None (slice_get declared y) ≡ Some d → y < length declared
-known_but declared x y d true is = absurd (no_variable d is)
-known_but declared x y d false is = known_among declared y d is
+known_but declared x y d true is = absurd (none-some d is)
+known_but declared x y d false is = slice_get_within declared y d is
 
 module _ (declared : List FlatVariable) (controls depths : ℕ) (small : 4 * declared_words declared ≤ 40768) where
   abbrev free : ℕ
@@ -57,22 +55,22 @@ module _ (declared : List FlatVariable) (controls depths : ℕ) (small : 4 * dec
 
   mutual
     statement_placed : (depth : ℕ) (s : StraightTree) → IsTyped declared controls s → free + 4 * slots_to (height_in s) ≤ 65536 → depth + depth_in s ≤ depths → statement_nodes s ≤ 6000 → HasPlace declared controls depths depth s
-    statement_placed depth (set x value) typed room deep nodes = (known_among declared x _ typed.known, term_placed 0 typed.suits.has_type (omega (arith, room)))
+    statement_placed depth (set x value) typed room deep nodes = (slice_get_within declared x _ typed.known, term_placed 0 typed.suits.has_type (omega (arith, room)))
     statement_placed depth (clear x size) typed room deep nodes =
-        (known_among declared x _ typed.known, (fits_in_frame x size typed.word typed.mutable typed.known).0)
+        (slice_get_within declared x _ typed.known, (fits_in_frame x size typed.word typed.mutable typed.known).0)
     statement_placed depth (fill x values) typed room deep nodes =
-        (known_among declared x _ typed.known, values_placed x typed.word values typed.suit room, (fits_in_frame x (length values) typed.word typed.mutable typed.known).1)
+        (slice_get_within declared x _ typed.known, values_placed x typed.word values typed.suit room, (fits_in_frame x (length values) typed.word typed.mutable typed.known).1)
     statement_placed depth (put place x size index value) typed room deep nodes =
         let l = le-max_left (height_of index) (1 + height_of value) in
         let r = le-max_right (height_of index) (1 + height_of value) in
-        (known_among declared x _ typed.known, term_placed 0 typed.index_type (omega (arith, room, l)), term_placed 1 typed.suits.has_type (omega (arith, room, r)))
+        (slice_get_within declared x _ typed.known, term_placed 0 typed.index_type (omega (arith, room, l)), term_placed 1 typed.suits.has_type (omega (arith, room, r)))
     statement_placed depth (take control within condition) typed room deep nodes = (typed.0, typed.1, term_placed 0 typed.2.1 (omega (arith, room)))
     statement_placed depth (set_under control x value) typed room deep nodes =
-        (typed.0, known_among declared x _ typed.1.known, term_placed 0 typed.1.suits.has_type (omega (arith, room)))
+        (typed.0, slice_get_within declared x _ typed.1.known, term_placed 0 typed.1.suits.has_type (omega (arith, room)))
     statement_placed depth (put_under control place x size index value) typed room deep nodes =
         let l = le-max_left (height_of index) (1 + height_of value) in
         let r = le-max_right (height_of index) (1 + height_of value) in
-        (typed.0, known_among declared x _ typed.1.known, term_placed 0 typed.1.index_type (omega (arith, room, l)), term_placed 1 typed.1.suits.has_type (omega (arith, room, r)))
+        (typed.0, slice_get_within declared x _ typed.1.known, term_placed 0 typed.1.index_type (omega (arith, room, l)), term_placed 1 typed.1.suits.has_type (omega (arith, room, r)))
     statement_placed depth (branch condition accepted otherwise) typed room deep nodes =
         let inner = max (height_in_all accepted) (height_in_all otherwise) in
         let a = le-max_left (height_of condition) inner in
@@ -101,7 +99,7 @@ module _ (declared : List FlatVariable) (controls depths : ℕ) (small : 4 * dec
         let f = test_length next in
         let g = count_length next (variable_offset declared x) in
         let h = block_length declared controls depths (depth + 1) body in (
-          known_among declared x _ typed.2,
+          slice_get_within declared x _ typed.2,
           omega (arith, deep),
           term_placed 0 typed.0 (omega (arith, room, a, c)),
           term_placed 0 typed.1 (omega (arith, room, a, d)),

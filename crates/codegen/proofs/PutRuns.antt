@@ -26,14 +26,14 @@ use Rattle.word.specs.declared.place.Place.{Place}
 use Rattle.rv_code.specs.declared.instructions.Instr.{Instr}
 use Rattle.rv_code.specs.declared.instructions.Instr.TheVariants as instr
 use Rattle.rv_machine.specs.Bytes.{ByteMap, number_at, with_number}
-use Rattle.rv_machine.specs.Effects.{load_size, loaded_value, store_size, sum_of, address_of, sign_extended}
+use Rattle.rv_machine.specs.Effects.{load_size, store_size, sum_of, address_of, sign_extended}
 use Rattle.rv_machine.specs.Machine as machine
 use Rattle.rv_machine.specs.Registers.{register}
 use Rattle.rv_machine.specs.Sizes.{byte_count}
 use Rattle.expression_code.proofs.Arithmetic.{lower_fits}
 use Rattle.expression_code.proofs.Computing.{computing_runs}
 use Rattle.expression_code.proofs.Elements.{Addressed, address_runs}
-use Rattle.expression_code.proofs.ExpressionRuns.{steps_of, expr_runs, kind_known}
+use Rattle.expression_code.proofs.ExpressionRuns.{steps_of, expr_runs, kind_known, load_bytes, load_plain}
 use Rattle.expression_code.proofs.Held.{HeldAt, held_regs, held_store, frame_there}
 use Rattle.expression_code.proofs.Homes.{IsFree}
 use Rattle.codegen.proofs.Marks.{Indexed, by_index}
@@ -41,9 +41,10 @@ use Rattle.expression_code.proofs.Masks.{mask_of, merged, merge}
 use Rattle.expression_code.proofs.Pieces.{load_runs}
 use Rattle.expression_code.proofs.Places.{place_of, place_within, place_aligned, ends_before_result}
 use Rattle.codegen.proofs.Showing.{Shown, first_runs, ready_with}
+use Rattle.codegen.proofs.SetRuns.{chosen_fits}
 use Rattle.codegen.proofs.Slots.{Wrote, Hidden, hidden_then, hidden_by, hidden_kept, hidden_wrote, cut_kind, cut_element, ready_put, ready_under}
 use Rattle.expression_code.proofs.Steps.{Inside, loading, storing}
-use Rattle.expression_code.proofs.Straight.{Setting, base_of, none, Runs, seq, quiet, weaken, cheaper, as_code}
+use Rattle.expression_code.proofs.Straight.{Setting, base_of, none, Runs, seq, quiet, weaken, gives, cheaper, as_code}
 use Rattle.expression_code.proofs.Values.{Ready, kept_less, ready_after}
 
 pub store_bytes : (kind : Kind) → byte_count (store_size (store_by kind)) ≡ element_bytes kind
@@ -51,18 +52,6 @@ store_bytes Boolean = refl
 store_bytes Uint8 = refl
 store_bytes Uint16 = refl
 store_bytes Uint32 = refl
-
-load_bytes : (kind : Kind) → byte_count (load_size (load_by kind)) ≡ element_bytes kind
-load_bytes Boolean = refl
-load_bytes Uint8 = refl
-load_bytes Uint16 = refl
-load_bytes Uint32 = refl
-
-load_plain : (kind : Kind) (v : ℕ) → loaded_value (load_by kind) v ≡ v
-load_plain Boolean v = refl
-load_plain Uint8 v = refl
-load_plain Uint16 v = refl
-load_plain Uint32 v = refl
 
 -- an index and a value in the registers of the first two temporaries
 pub record Aimed (z : Setting) (i : ℕ) (value : StraightState → ℕ) (env : StraightState) (s : machine.State) : Type 0 where
@@ -122,8 +111,7 @@ module _ (z : Setting) (x size : ℕ) (word : WordType) (mutable : Bool) (known 
   put_piece : (i : ℕ) (value : StraightState → ℕ) → i < size → Runs z 5 none (put_code word.kind offset) (Aimed z i value) (λ env s t. Wrote z (element_bytes word.kind) (at i) (value env) s t)
   put_piece i value below =
       let n = byte_count (store_size (store_by word.kind)) in
-      weaken z {P = Aimed z i value}
-      (λ env s fine aimed. aimed)
+      gives z
       (λ env s t fine aimed done.
       let m = done.middle in
       let one = done.first in
@@ -187,8 +175,7 @@ module _ (z : Setting) (x size : ℕ) (word : WordType) (mutable : Bool) (known 
         → Runs z (16 * term_nodes index + (16 * term_nodes value + n)) (λ env. path_in env.variables index ++ indexed place size (number_of env) ∷ path_in env.variables value) (index_code z.declared (base_of z) index value ++ tail) (Ready z) (Shown z depth change)
     at_element {tail = tail} change act =
         as_code z (append_assoc (expr_code z.declared (base_of z) 0 index) (expr_code z.declared (base_of z) 1 value) tail)
-        (weaken z {P = Ready z}
-        (λ env s fine ready. ready)
+        (gives z
         (λ env s t fine ready done. record {
           ready = done.second.ready;
           hidden = hidden_then z depth s done.middle t (hidden_kept z depth s done.middle within done.first.kept) done.second.hidden;
@@ -197,8 +184,7 @@ module _ (z : Setting) (x size : ℕ) (word : WordType) (mutable : Bool) (known 
         (first_runs z has room_left)
         (by_index z {P = Stacked} place size number_of
         (λ i below.
-        weaken z {P = Indexed Stacked number_of size i} {R = Shown z depth change}
-        (λ env s fine given. given)
+        gives z {R = Shown z depth change}
         (λ env s t fine given done. record {
           ready = done.second.1 given.is;
           hidden = hidden_then z depth s done.middle t done.first.hidden done.second.0;
@@ -209,8 +195,7 @@ module _ (z : Setting) (x size : ℕ) (word : WordType) (mutable : Bool) (known 
     put_done : (i : ℕ) → i < size → word'.kind ≡ word.kind → Runs z 5 none (put_code word.kind offset) (Aimed z i value_of) (λ env s t. Hidden z depth s t × (number_of env ≡ i → Ready z (with_element env x (number_of env) (value_of env)) t))
     put_done i below same =
         let b = element_before i below in
-        weaken z {P = Aimed z i value_of}
-        (λ env s fine aimed. aimed)
+        gives z
         (λ env s t fine aimed wrote.
         let fits : value_of env < 2 ^ bits_of word.kind = subst (λ k. value_of env < 2 ^ bits_of k) same (value_fits (types_of z.declared) env.variables aimed.ready.fits has') in (
           hidden_wrote z depth (element_bytes word.kind) (at i) (value_of env) s t (omega (arith, b)) wrote,
@@ -235,8 +220,7 @@ module _ (z : Setting) (x size : ℕ) (word : WordType) (mutable : Bool) (known 
       both_piece : (i : ℕ) → i < size → Runs z 5 none (address_code 5 word.kind offset ++ instr.Load (load_by word.kind) 7 5 (lower_part offset) ∷ []) (Aimed z i value_of) (Both i)
       both_piece i below =
           let n = byte_count (load_size (load_by word.kind)) in
-          weaken z {P = Aimed z i value_of}
-          (λ env s fine aimed. aimed)
+          gives z
           (λ env s t fine aimed done.
           let m = done.middle in
           let one = done.first in
@@ -261,8 +245,7 @@ module _ (z : Setting) (x size : ℕ) (word : WordType) (mutable : Bool) (known 
           let n = byte_count (store_size (store_by word.kind)) in
           let b = element_before i below in
           let space = z.room in
-          weaken z {P = Aimed z i value_of}
-          (λ env s fine aimed. aimed)
+          gives z
           (λ env s t fine aimed done.
           let m3 = done.middle in
           let m2 = done.first.middle in
@@ -286,7 +269,7 @@ module _ (z : Setting) (x size : ℕ) (word : WordType) (mutable : Bool) (known 
           let same : m3.bytes ≡ s.bytes = three.same ∙ (two.same ∙ one.same) in
           let ready3 = ready_with z env s m3 aimed.ready three.held same in
           let w = chosen env i in
-          let w_fits = chosen_below mask v old (2 ^ bits_of word.kind) fits old_fits in
+          let w_fits = chosen_fits mask v old (2 ^ bits_of word.kind) fits old_fits in
           let written : t.bytes ≡ with_number m3.bytes (element_bytes word.kind) (z.frame + at i) w =
           written_as n (z.frame + at i) (register m3.regs 6) m3 t (store_bytes word.kind) four.written ∙ ap (λ u. with_number m3.bytes (element_bytes word.kind) (z.frame + at i) u) made in
           let wrote : Wrote z (element_bytes word.kind) (at i) w m3 t = record {
@@ -314,10 +297,6 @@ module _ (z : Setting) (x size : ℕ) (word : WordType) (mutable : Bool) (known 
             data_there = there_at i n t (store_bytes word.kind) below done.second.held;
           }))
         where
-          chosen_below : (b : Bool) (v old n : ℕ) → v < n → old < n → (if b then v else old) < n
-          chosen_below true v old n h k = h
-          chosen_below false v old n h k = k
-
           under_same : (b : Bool) (env : StraightState) (t : machine.State) (j : ℕ) → Ready z (with_element env x j (if b then value_of env else slice_index (env.variables x) j)) t → Ready z (if b then with_element env x j (value_of env) else env) t
           under_same true env t j ready = ready
           under_same false env t j ready =

@@ -15,7 +15,7 @@ use Rattle.codegen.proofs.Results.{Left}
 use Rattle.codegen.proofs.Showing.{value_runs, ready_valued, ready_result}
 use Rattle.codegen.proofs.Slots.{put_wrote}
 use Rattle.expression_code.proofs.Stores.{store_runs}
-use Rattle.expression_code.proofs.Straight.{Setting, base_of, Steps, Runs, quiet, weaken, cheaper, idle}
+use Rattle.expression_code.proofs.Straight.{Setting, base_of, Steps, Runs, quiet, gives, cheaper, idle}
 use Rattle.expression_code.proofs.Values.{Ready, put_there}
 
 -- what a result puts on the path
@@ -30,8 +30,7 @@ pub record Given (z : Setting) (value : Option TermTree) (env : StraightState) (
 module _ (z : Setting) where
   pub result_runs : (returned : Option WordType) (value : Option TermTree) → IsResult (types_of z.declared) returned value → base_of z + 4 * slots_to (result_height value) ≤ z.size → Runs z (32 * value_nodes value) (steps_of_result value) (result_code z.declared (base_of z) value) (Ready z) (Given z value)
   result_runs returned None typed room =
-      weaken z
-      (λ env s fine ready. ready)
+      gives z
       (λ env s t fine ready still. record { ready = subst (λ (u : machine.State). Ready z env u) (sym still) ready; left = tt })
       (idle z {P = Ready z})
   result_runs None (Some value) typed room = absurd typed
@@ -39,8 +38,7 @@ module _ (z : Setting) where
       let o = result_offset z.declared in
       let space = z.room in
       cheaper z (omega arith)
-      (weaken z {P = Ready z}
-      (λ env s fine ready. ready)
+      (gives z
       (λ env s t fine ready done.
       let m = done.middle in
       let v = value_in env.variables value in

@@ -18,6 +18,7 @@ use Rattle.language.specs.declared.typing.WordType.{WordType}
 use Rattle.language.specs.Size.{element_bytes}
 use Rattle.rv_machine.specs.Bytes.{ByteMap, number_at}
 use Rattle.expression_code.proofs.Places.{bytes_of, place_of}
+use Rattle.codegen.proofs.Arguments.{head_is, tail_is, no_cons}
 
 -- numbers that are there, one after another
 numbers_are : (bytes : ByteMap) (size at : ℕ) (vs : List ℕ) → ((i : ℕ) → i < length vs → number_at bytes size (at + size * i) ≡ Some (slice_index vs i)) → numbers_at bytes size at (length vs) ≡ vs
@@ -39,15 +40,6 @@ array_is frame bytes kind label n low SingleWord vs long there = refl
 array_is frame bytes kind label n low FixedArray vs long there = refl
 array_is frame bytes kind label n low MutableArray vs long there =
     ap (λ (ws : List ℕ). ws ∷ []) (ap (λ m. numbers_at bytes (element_bytes kind) (frame + low) m) (sym long) ∙ numbers_are bytes (element_bytes kind) (frame + low) vs there)
-
-head_is : (e d : FlatVariable) (es ds : List FlatVariable) → e ∷ es ≡ d ∷ ds → e ≡ d
-head_is e d es ds h = cc
-
-tail_is : (e d : FlatVariable) (es ds : List FlatVariable) → e ∷ es ≡ d ∷ ds → es ≡ ds
-tail_is e d es ds h = cc
-
-no_cons : (d : FlatVariable) (ds : List FlatVariable) → [] ≡ d ∷ ds → ⊥
-no_cons d ds h = cc
 
 -- The arrays, where each parameter's numbers lie in its slot: the first of them has this number and lies at this offset.
 pub arrays_are : (frame : ℕ) (bytes : ByteMap) (m : Values) (ps : List Param) (declared : List FlatVariable) (x low : ℕ) → take (length ps) declared ≡ map declaration_of ps

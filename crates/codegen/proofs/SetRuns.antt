@@ -30,7 +30,7 @@ use Rattle.expression_code.proofs.Pieces.{Took, load_runs}
 use Rattle.codegen.proofs.Showing.{Shown, Evaluated, suits_fits, first_runs, value_runs, ready_valued, ready_with, word_before, wrote_as}
 use Rattle.codegen.proofs.Slots.{hidden_then, hidden_by, hidden_kept, hidden_wrote, put_wrote, cut_kind, ready_set, ready_under, ready_taken}
 use Rattle.expression_code.proofs.Stores.{store_runs}
-use Rattle.expression_code.proofs.Straight.{Setting, base_of, none, Then, Runs, quiet, weaken, cheaper, idle}
+use Rattle.expression_code.proofs.Straight.{Setting, base_of, none, Then, Runs, quiet, weaken, gives, cheaper, idle}
 use Rattle.expression_code.proofs.Values.{Ready}
 
 -- a condition, as f and as g, in the registers of the masks
@@ -46,12 +46,16 @@ pub record Narrowed (z : Setting) (within : Option ℕ) (f g : StraightState →
   pub otherwise : t.regs 5 ≡ mask_of (holds env within && g env)
   pub same : t.bytes ≡ s.bytes
 
+-- either of two numbers fits where both do
+pub chosen_fits : (b : Bool) (v old n : ℕ) → v < n → old < n → (if b then v else old) < n
+chosen_fits true v old n h k = h
+chosen_fits false v old n h k = k
+
 module _ (z : Setting) where
   within_runs : (within : Option ℕ) (f g : StraightState → Bool) → IsAmong z.controls within → Runs z 5 none (within_code z.declared within) (Prepared z f g) (Narrowed z within f g)
   within_runs None f g among =
       cheaper z (omega arith)
-      (weaken z
-      (λ env s fine prepared. prepared)
+      (gives z
       (λ env s t fine prepared still. record {
         held = subst (λ (u : machine.State). HeldAt z u) (sym still) prepared.ready.held;
         when = ap (λ (u : machine.State). u.regs 7) still ∙ prepared.when;
@@ -62,8 +66,7 @@ module _ (z : Setting) where
   within_runs (Some d) f g among =
       let o = control_offset z.declared d in
       let room = z.room in
-      weaken z {P = Prepared z f g}
-      (λ env s fine prepared. prepared)
+      gives z
       (λ env s t fine prepared done.
       let m = done.middle in
       let one = done.first in
@@ -92,8 +95,7 @@ module _ (z : Setting) where
       let before = word_before z x typed.word typed.mutable typed.known in
       let fits = z.room in
       cheaper z (omega arith)
-      (weaken z {P = Ready z}
-      (λ env s fine ready. ready)
+      (gives z
       (λ env s t fine ready done.
       let m = done.middle in
       let v = value_in env.variables value in
@@ -105,10 +107,6 @@ module _ (z : Setting) where
       (quiet z (value_runs z typed.word value typed.suits room)
       (store_runs z 5 (omega arith) (λ e. omega arith) (λ e. omega arith) o (omega arith) (omega (arith, before, fits)))
       (λ env s t ready valued. valued.held)))
-
-  chosen_fits : (b : Bool) (v old n : ℕ) → v < n → old < n → (if b then v else old) < n
-  chosen_fits true v old n h k = h
-  chosen_fits false v old n h k = k
 
   either_list : (b : Bool) (v old : ℕ) (l : List ℕ) → l ≡ old ∷ [] → (if b then v else old) ∷ [] ≡ cond b (v ∷ []) l
   either_list true v old l is = refl
@@ -123,8 +121,7 @@ module _ (z : Setting) where
       let before = word_before z x typed.word typed.mutable typed.known in
       let space = z.room in
       cheaper z (omega arith)
-      (weaken z {P = Ready z}
-      (λ env s fine ready. ready)
+      (gives z
       (λ env s t fine ready done.
       let t4 = done.middle in
       let t3 = done.first.middle in
@@ -193,8 +190,7 @@ module _ (z : Setting) where
         otherwise = ap (λ (regs : ℕ → ℕ). regs 5) done.second.registers ∙ (ap (λ x. sum_of x 4294967295) done.first.there ∙ mask_otherwise (value_in env.variables condition) truth);
       } in
       cheaper z (omega arith)
-      (weaken z {P = Ready z}
-      (λ env s fine ready. ready)
+      (gives z
       (λ env s u fine ready done.
       let t4 = done.middle in
       let t3 = done.first.middle in

@@ -20,7 +20,7 @@ use Rattle.expression_code.proofs.Held.{HeldAt, held_regs}
 use Rattle.codegen.proofs.Jumps.{Still}
 use Rattle.expression_code.proofs.Places.{bytes_of, place_of, place_within, ends_before_result}
 use Rattle.codegen.proofs.Slots.{Wrote, Hidden, other_number}
-use Rattle.expression_code.proofs.Straight.{Setting, base_of, Runs, weaken}
+use Rattle.expression_code.proofs.Straight.{Setting, base_of, Runs, gives}
 use Rattle.expression_code.proofs.Values.{Kept, Ready, kept_number, kept_less, kept_by, ready_after}
 
 -- the state that is made of the one before is shown, and the words of the loops around are as they were
@@ -43,8 +43,7 @@ module _ (z : Setting) where
 
   pub first_runs : {e : TermTree} {word : WordType} → HasType (types_of z.declared) e word → base_of z + 4 * slots_to (height_of e) ≤ z.size → Runs z (16 * term_nodes e) (steps_of e) (expr_code z.declared (base_of z) 0 e) (Ready z) (Evaluated z e)
   first_runs has room =
-      weaken z {P' = Ready z}
-      (λ env s fine ready. ready)
+      gives z {P = Ready z}
       (λ env s t fine ready done. record { held = done.held; there = done.there; kept = kept_less z (base_of z) (base_of z + 4 * 0) s t (omega arith) done.kept })
       (expr_runs z (base_of z) (omega arith) (omega arith) has 0 (omega (arith, room)))
 

@@ -5,6 +5,7 @@ use Rattle.std.proofs.lemmas.Bool.Decides.{nat_tests}
 use Rattle.std.proofs.lemmas.List.{length-set, get_or-set_same, get_or-set_other}
 use Rattle.std.proofs.lemmas.List.Elements.{All-set}
 use Rattle.std.proofs.lemmas.Option.{same_Some}
+use Rattle.std.proofs.lemmas.Bool.{eqb-true, eqb-false}
 use Rattle.branch_removal.specs.StraightMeaning.{StraightState, with_variable, with_element, with_controls}
 use Rattle.expression_code.specs.Layout.{variable_offset, result_offset, control_offset, next_offset}
 use Rattle.inline.specs.declared.flat.FlatVariable.{FlatVariable}
@@ -18,7 +19,6 @@ use Rattle.language.specs.Types.{bits_of}
 use Rattle.rv_machine.specs.Bytes.{ByteMap, number_at, with_number}
 use Rattle.rv_machine.proofs.ByteLaws.{number_at_apart, number_at_same, number_at-with_number, with_number_below, with_number_above}
 use Rattle.rv_machine.specs.Machine as machine
-use Rattle.expression_code.proofs.Computing.{same_number}
 use Rattle.expression_code.proofs.Held.{HeldAt}
 use Rattle.expression_code.proofs.Masks.{mask_of, mask_fits}
 use Rattle.expression_code.proofs.Pieces.{Put}
@@ -113,7 +113,7 @@ module _ (z : Setting) where
 
     fits_at : (y : ℕ) (e : FlatVariable) → slice_get z.declared y ≡ Some e → (b : Bool) → (y == x) ≡ b → IsHeld e (cond b (slice_set old i v) (env.variables y))
     fits_at y e is true q =
-        let same : slice_get z.declared x ≡ Some e = ap (λ n. slice_get z.declared n) (sym (same_number y x q)) ∙ is in
+        let same : slice_get z.declared x ≡ Some e = ap (λ n. slice_get z.declared n) (sym (eqb-true y x q)) ∙ is in
         let kind : d ≡ e = same_Some d e (sym known ∙ same) in
         let before = ready.fits x e same in
         record {
@@ -124,21 +124,18 @@ module _ (z : Setting) where
 
     same_there : (j : ℕ) → j < numbers_in d.elements → (b : Bool) → (j == i) ≡ b → number_at t.bytes (bytes_of d) (z.frame + place_of z.declared x d j) ≡ Some (slice_index (slice_set old i v) j)
     same_there j more true q =
-        let e = same_number j i q in
+        let e = eqb-true j i q in
         let here : number_at t.bytes (bytes_of d) (z.frame + place_of z.declared x d i) ≡ Some v =
         ap (λ (b : ByteMap). number_at b (bytes_of d) (z.frame + place_of z.declared x d i)) wrote.written ∙ (number_at-with_number s.bytes (bytes_of d) (z.frame + place_of z.declared x d i) w ∙ ap Some cut) in
         ap (λ k. number_at t.bytes (bytes_of d) (z.frame + place_of z.declared x d k)) e ∙ (here ∙ ap Some (sym (ap (λ k. slice_index (slice_set old i v) k) e ∙ get_or-set_same old i v 0 inside)))
     same_there j more false q =
         other_number (bytes_of d) (place_of z.declared x d i) w (bytes_of d) (place_of z.declared x d j) s t wrote (elements_apart z.declared x d i j q)
-        ∙ (ready.variables_there x d j known more ∙ ap Some (sym (get_or-set_other old i j v 0 (λ e. differ e q))))
-      where
-        differ : j ≡ i → (j == i) ≡ false → ⊥
-        differ e h = grind (arith, nat_tests)
+        ∙ (ready.variables_there x d j known more ∙ ap Some (sym (get_or-set_other old i j v 0 (eqb-false j i q))))
 
     there_at : (y : ℕ) (e : FlatVariable) (j : ℕ) → slice_get z.declared y ≡ Some e → j < numbers_in e.elements → (b : Bool) → (y == x) ≡ b
         → number_at t.bytes (bytes_of e) (z.frame + place_of z.declared y e j) ≡ Some (slice_index (cond b (slice_set old i v) (env.variables y)) j)
     there_at y e j is more true q =
-        let at = same_number y x q in
+        let at = eqb-true y x q in
         let same : slice_get z.declared x ≡ Some e = ap (λ n. slice_get z.declared n) (sym at) ∙ is in
         let kind : d ≡ e = same_Some d e (sym known ∙ same) in
         let fewer : j < numbers_in d.elements = subst (λ (f : FlatVariable). j < numbers_in f.elements) (sym kind) more in
@@ -187,14 +184,9 @@ module _ (z : Setting) where
         let put = ready_put x 0 v v (word_as word mutable) known (omega arith) fits env s t ready wrote_first (omega (arith, small)) in
         ready_same (with_element env x 0 v) (with_variable env x (v ∷ [])) t (λ y. ap (λ (l : List ℕ). if y == x then l else env.variables y) (alone (env.variables x) v (ready.fits x (word_as word mutable) known).count)) (λ c. refl) put
 
-    pub set_before : variable_offset z.declared x + 4 ≤ result_offset z.declared
-    set_before =
-        let e = ends_before_result z.declared x (word_as word mutable) known in
-        omega (arith, e)
-
   -- a variable that is set to what it holds
   same_again : (x : ℕ) (env : StraightState) (y : ℕ) (b : Bool) → (y == x) ≡ b → cond b (env.variables x) (env.variables y) ≡ env.variables y
-  same_again x env y true e = ap env.variables (sym (same_number y x e))
+  same_again x env y true e = ap env.variables (sym (eqb-true y x e))
   same_again x env y false e = refl
 
   -- a variable is set or kept
@@ -220,7 +212,7 @@ module _ (z : Setting) where
   module _ (c r : ℕ) (b : Bool) (among : c < z.controls) (env : StraightState) (s t : machine.State) (ready : Ready z env s) (put : Put z 4 r (control_offset z.declared c) env s t) (value : s.regs r ≡ mask_of b) where
     control_there : (y : ℕ) → y < z.controls → (e : Bool) → (y == c) ≡ e → number_at t.bytes 4 (z.frame + control_offset z.declared y) ≡ Some (mask_of (cond e b (env.controls y)))
     control_there y below true e =
-        ap (λ n. number_at t.bytes 4 (z.frame + control_offset z.declared n)) (same_number y c e) ∙ put_there z r (control_offset z.declared c) (mask_of b) env s t put value (mask_fits b)
+        ap (λ n. number_at t.bytes 4 (z.frame + control_offset z.declared n)) (eqb-true y c e) ∙ put_there z r (control_offset z.declared c) (mask_of b) env s t put value (mask_fits b)
     control_there y below false e =
         other_number 4 (control_offset z.declared c) (s.regs r) 4 (control_offset z.declared y) s t (put_wrote z 4 r (control_offset z.declared c) env s t put) (by_side (spaced y c e)) ∙ ready.controls_there y below
       where
@@ -242,7 +234,7 @@ module _ (z : Setting) where
   -- the order of two control values does not matter
   swapped : (y c : ℕ) (f g h : Bool) (e : Bool) → (y == c) ≡ e → (if y == c + 1 then g else cond e f h) ≡ cond e f (if y == c + 1 then g else h)
   swapped y c f g h true e =
-      let same = same_number y c e in
+      let same = eqb-true y c e in
       rw (ne_eqb y (c + 1) (λ q. omega (arith, same, q))) refl
   swapped y c f g h false e = refl
 

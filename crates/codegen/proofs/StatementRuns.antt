@@ -22,7 +22,7 @@ use Rattle.codegen.proofs.LoopRuns.{repeats_runs}
 use Rattle.codegen.proofs.SetRuns.{set_runs, set_under_runs, take_runs}
 use Rattle.codegen.proofs.Showing.{Shown}
 use Rattle.codegen.proofs.Slots.{hidden_then}
-use Rattle.expression_code.proofs.Straight.{Setting, base_of, Runs, seq, weaken, cheaper, beside, idle}
+use Rattle.expression_code.proofs.Straight.{Setting, base_of, Runs, seq, gives, cheaper, beside, idle}
 use Rattle.expression_code.proofs.TermLengths.{height}
 use Rattle.expression_code.proofs.Values.{Ready}
 
@@ -73,8 +73,7 @@ module _ (z : Setting) where
     pub block_runs : (depth : ℕ) (b : StraightBlock) → AreTyped z.declared z.controls b → base_of z + 4 * slots_to (height_in_all b) ≤ z.size → depth + depth_in_all b ≤ z.depths → block_nodes b ≤ 6000
         → Runs z (32 * block_work z.counts b) (λ env. path_along env b) (block_code z.declared z.controls z.depths depth b) (Ready z) (Shown z depth (λ env. after_all env b))
     block_runs depth nothing typed room within few =
-        weaken z
-        (λ env s fine ready. ready)
+        gives z
         (λ env s t fine ready still. record {
           ready = subst (λ (u : machine.State). Ready z env u) (sym still) ready;
           hidden = λ o low high. ap (λ (u : machine.State). u.bytes (z.frame + o)) still;
@@ -86,8 +85,7 @@ module _ (z : Setting) where
         let c = le-max_left (depth_in s) (depth_in_all rest) in
         let d = le-max_right (depth_in s) (depth_in_all rest) in
         cheaper z (omega arith)
-        (weaken z {P = Ready z}
-        (λ env t fine ready. ready)
+        (gives z
         (λ env t u fine ready done. record {
           ready = done.second.ready;
           hidden = hidden_then z depth t done.middle u done.first.hidden done.second.hidden;

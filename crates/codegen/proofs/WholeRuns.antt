@@ -31,7 +31,7 @@ use Rattle.codegen.proofs.ResultRuns.{steps_of_result, Given, result_runs}
 use Rattle.codegen.proofs.Results.{arrays_are, returned_is}
 use Rattle.codegen.proofs.StatementRuns.{block_runs}
 use Rattle.expression_code.proofs.Steps.{All-one}
-use Rattle.expression_code.proofs.Straight.{Setting, Placed, Placed-left, Placed-right, Straight, Steps, Runs, seq, weaken, cheaper, beside}
+use Rattle.expression_code.proofs.Straight.{Setting, Placed, Placed-left, Placed-right, Straight, Steps, Runs, seq, gives, cheaper, beside}
 use Rattle.expression_code.proofs.Values.{Ready}
 
 -- the state that the value is taken in
@@ -72,8 +72,7 @@ module _ (p : StraightProgram) (room : HasRoom p) (code frame : ℕ) (bases : Ar
       let counted = room.counted in
       let nodes = room.nodes in
       cheaper setting (omega (arith, worked))
-      (weaken setting {P = Ready setting}
-      (λ env s fine ready. ready)
+      (gives setting
       (λ env s t fine ready done. record { ready = done.second.ready; left = done.second.left })
       (seq setting
       (block_runs setting 0 p.body room.typed.body (omega (arith, l)) (omega arith) (omega (arith, counted, nodes)))

@@ -1,6 +1,6 @@
 -- Code that only computes: what the registers are after it, and that the machine follows it.
 use Rattle.std.proofs.Common.{◌≡◌, ◌≢◌, ℕ, ◌*◌, ◌^◌, ◌<◌, Bool, true, false, ◌&&◌, ◌==◌, cond, nat_lt, List, [], ◌∷◌, length, refl, sym, ap, ◌∙◌, arith}
-use Rattle.std.proofs.lemmas.Bool.{false≢true}
+use Rattle.std.proofs.lemmas.Bool.{false≢true, ltb-true, eqb-true, eqb-false}
 use Rattle.std.proofs.lemmas.Bool.Decides.{nat_tests}
 use Rattle.std.proofs.Math.Path.{fun_ext}
 use Rattle.rv_code.specs.declared.instructions.Instr.{Instr}
@@ -14,7 +14,7 @@ use Rattle.rv_machine.specs.Registers.{register, with_register}
 use Rattle.branch_removal.specs.StraightMeaning.{StraightState}
 use Rattle.expression_code.proofs.Held.{Held, held_regs}
 use Rattle.expression_code.proofs.Steps.{Always, Moves, unwritten, computing}
-use Rattle.expression_code.proofs.Straight.{Setting, none, Runs, seq, weaken, cheaper, idle}
+use Rattle.expression_code.proofs.Straight.{Setting, none, Runs, seq, weaken, gives, cheaper, idle}
 
 -- the register that an instruction writes, where it only computes
 abbrev pub written_register : Instr → ℕ
@@ -66,9 +66,6 @@ working rd h =
     let high : rd < 32 = grind (arith, nat_tests) in
     (λ e. omega (arith, low, e), λ e. omega (arith, low, e), high)
 
-below : (n most : ℕ) → nat_lt n most ≡ true → n < most
-below n most h = grind (arith, nat_tests)
-
 pub both_left : (a b : Bool) → (a && b) ≡ true → a ≡ true
 both_left true b h = refl
 both_left false b h = absurd (false≢true h)
@@ -93,24 +90,24 @@ module _ (works : ℕ → Bool) (allowed : AreWorking works) where
   plain : (i : Instr) → computes works i ≡ true → Plain i
   plain (Upper Lui rd immediate) h =
       let w = allowed rd (both_left (works rd) (nat_lt immediate 1048576) h) in
-      let small = below immediate 1048576 (both_right (works rd) (nat_lt immediate 1048576) h) in
+      let small = ltb-true immediate 1048576 (both_right (works rd) (nat_lt immediate 1048576) h) in
       record { in_range = (w.2, small); nonzero = w.0; other = w.1; effect = λ pc regs. refl }
   plain (Immediate operation rd rs1 immediate) h =
       let t = three_tests rd (nat_lt rs1 32) (nat_lt immediate 4096) h in
       let w = allowed rd t.0 in
-      record { in_range = (w.2, below rs1 32 t.1, below immediate 4096 t.2); nonzero = w.0; other = w.1; effect = λ pc regs. refl }
+      record { in_range = (w.2, ltb-true rs1 32 t.1, ltb-true immediate 4096 t.2); nonzero = w.0; other = w.1; effect = λ pc regs. refl }
   plain (Shift operation rd rs1 amount) h =
       let t = three_tests rd (nat_lt rs1 32) (nat_lt amount 32) h in
       let w = allowed rd t.0 in
-      record { in_range = (w.2, below rs1 32 t.1, below amount 32 t.2); nonzero = w.0; other = w.1; effect = λ pc regs. refl }
+      record { in_range = (w.2, ltb-true rs1 32 t.1, ltb-true amount 32 t.2); nonzero = w.0; other = w.1; effect = λ pc regs. refl }
   plain (Register operation rd rs1 rs2) h =
       let t = three_tests rd (nat_lt rs1 32) (nat_lt rs2 32) h in
       let w = allowed rd t.0 in
-      record { in_range = (w.2, below rs1 32 t.1, below rs2 32 t.2); nonzero = w.0; other = w.1; effect = λ pc regs. refl }
+      record { in_range = (w.2, ltb-true rs1 32 t.1, ltb-true rs2 32 t.2); nonzero = w.0; other = w.1; effect = λ pc regs. refl }
   plain (Multiply operation rd rs1 rs2) h =
       let t = three_tests rd (nat_lt rs1 32) (nat_lt rs2 32) h in
       let w = allowed rd t.0 in
-      record { in_range = (w.2, below rs1 32 t.1, below rs2 32 t.2); nonzero = w.0; other = w.1; effect = λ pc regs. refl }
+      record { in_range = (w.2, ltb-true rs1 32 t.1, ltb-true rs2 32 t.2); nonzero = w.0; other = w.1; effect = λ pc regs. refl }
   plain (Upper Auipc rd immediate) h = absurd (false≢true h)
   plain (Jump rd offset) h = absurd (false≢true h)
   plain (JumpRegister rd rs1 offset) h = absurd (false≢true h)
@@ -142,18 +139,12 @@ module _ (works : ℕ → Bool) (allowed : AreWorking works) where
 
 -- one register is written, as a whole
 
-pub same_number : (q r : ℕ) → (q == r) ≡ true → q ≡ r
-same_number q r h = grind (arith, nat_tests)
-
-other_number : (q r : ℕ) → (q == r) ≡ false → q ≢ r
-other_number q r h e = grind (arith, nat_tests)
-
 at_register : (rd value : ℕ) (s t : State) → rd ≢ 0 → Moves rd value s t → (q : ℕ) (zeroth this : Bool) → (q == 0) ≡ zeroth → (q == rd) ≡ this → t.regs q ≡ cond zeroth (s.regs q) (cond this value (s.regs q))
 at_register rd value s t nonzero moves q true true z e =
-    absurd (nonzero (sym (same_number q rd e) ∙ same_number q 0 z))
-at_register rd value s t nonzero moves q true false z e = moves.others q (other_number q rd e)
-at_register rd value s t nonzero moves q false true z e = ap t.regs (same_number q rd e) ∙ moves.there
-at_register rd value s t nonzero moves q false false z e = moves.others q (other_number q rd e)
+    absurd (nonzero (sym (eqb-true q rd e) ∙ eqb-true q 0 z))
+at_register rd value s t nonzero moves q true false z e = moves.others q (eqb-false q rd e)
+at_register rd value s t nonzero moves q false true z e = ap t.regs (eqb-true q rd e) ∙ moves.there
+at_register rd value s t nonzero moves q false false z e = moves.others q (eqb-false q rd e)
 
 all_registers : (rd value : ℕ) (s t : State) → rd ≢ 0 → Moves rd value s t → t.regs ≡ with_register s.regs rd value
 all_registers rd value s t nonzero moves = fun_ext (λ q. at_register rd value s t nonzero moves q (q == 0) (q == rd) refl refl)
@@ -180,16 +171,14 @@ record Follows (is : List Instr) (env : StraightState) (s t : State) : Type 0 wh
 module _ (z : Setting) (works : ℕ → Bool) (allowed : AreWorking works) where
   follows : (is : List Instr) → only_computes works is ≡ true → Runs z (length is) none is Always (Follows is)
   follows [] h =
-      weaken z
-      (λ env s fine fit. fit)
+      gives z
       (λ env s t fine fit still. record { registers = ap (λ (u : State). u.regs) still; same = ap (λ (u : State). u.bytes) still })
       (idle z)
   follows (i ∷ is) h =
       let one = plain works allowed i (both_left (computes works i) (only_computes works is) h) in
       let rd = written_register i in
       cheaper z (omega arith)
-      (weaken z {P = Always}
-      (λ env s fine fit. fit)
+      (gives z
       (λ env s t fine fit done.
       let m = done.middle in
       record {

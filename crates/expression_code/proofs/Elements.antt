@@ -18,7 +18,7 @@ use Rattle.expression_code.proofs.Held.{HeldAt, Held, held_regs}
 use Rattle.expression_code.proofs.Homes.{IsFree}
 use Rattle.expression_code.proofs.Pieces.{register-at}
 use Rattle.expression_code.proofs.Steps.{Always, Moves, computing}
-use Rattle.expression_code.proofs.Straight.{Setting, Before, none, Runs, seq, weaken, cheaper, idle}
+use Rattle.expression_code.proofs.Straight.{Setting, Before, none, Runs, seq, weaken, gives, cheaper, idle}
 
 -- only this register and the one for addresses are written
 pub record Rewrites (r value : ℕ) (s t : State) : Type 0 where
@@ -65,8 +65,7 @@ module _ (z : Setting) (r : ℕ) (free : IsFree r) where
   unshifted : Runs z 1 none [] (λ env s. 1 * s.regs r < 2 ^ 32) (λ env s t. Moves r (1 * s.regs r) s t)
   unshifted =
       cheaper z (omega arith)
-      (weaken z
-      (λ env s fine fit. fit)
+      (gives z
       (λ env s t fine fit still.
       let one : s.regs r ≡ 1 * s.regs r = omega arith in
       record {
@@ -86,8 +85,7 @@ module _ (z : Setting) (r : ℕ) (free : IsFree r) where
   raise_by : (o : ℕ) (near : Bool) → Runs z 2 none (cond near [] (instr.Upper Lui 28 (upper_part o) ∷ instr.Register Add r r 28 ∷ [])) Always (λ env s t. Rewrites r (raised near o (s.regs r)) s t)
   raise_by o true =
       cheaper z (omega arith)
-      (weaken z
-      (λ env s fine fit. fit)
+      (gives z
       (λ env s t fine fit still. record {
         there = ap (λ (u : State). u.regs r) still;
         others = λ q other another. ap (λ (u : State). u.regs q) still;
@@ -120,8 +118,7 @@ module _ (z : Setting) (r : ℕ) (free : IsFree r) where
       (λ env s. HeldAt z s × (s.regs r ≡ index env) × (z.frame + (o + element_bytes kind * index env) < 2 ^ 32))
       (λ env s t. Addressed z r o (o + element_bytes kind * index env) env s t)
   address_runs kind o index =
-      weaken z {P = Asks kind o index}
-      (λ env s fine fit. fit)
+      gives z
       (λ env s t fine fit done.
       let m = done.middle in
       let n = done.second.middle in

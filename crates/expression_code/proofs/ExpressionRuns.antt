@@ -41,7 +41,7 @@ use Rattle.expression_code.proofs.OperatorRuns.{truth_fits}
 use Rattle.expression_code.proofs.Pieces.{load_runs}
 use Rattle.expression_code.proofs.Places.{place_of, place_aligned}
 use Rattle.expression_code.proofs.Steps.{Inside, loading_at}
-use Rattle.expression_code.proofs.Straight.{Setting, base_of, fine_right, none, Steps, Runs, seq, quiet, quietly, weaken, cheaper, as_code}
+use Rattle.expression_code.proofs.Straight.{Setting, base_of, fine_right, none, Steps, Runs, seq, quiet, quietly, weaken, gives, cheaper, as_code}
 use Rattle.expression_code.proofs.TermLengths.{constant_length, cut_length, prefix_length, rotate_length}
 use Rattle.expression_code.proofs.Fetching.{lower_spare, fetch_runs, keeps}
 use Rattle.expression_code.proofs.Working.{word_there, home_one, beside_free, beside_apart, works, works_home, operator_runs}
@@ -72,13 +72,13 @@ kind_known (d ∷ ds) zero e is = ap (λ (v : FlatVariable). v.word.kind) (same_
 kind_known (d ∷ ds) (suc x) e is = kind_known ds x e is
 
 -- an element's load takes the element's bytes, as they are
-load_bytes : (kind : Kind) → byte_count (load_size (load_by kind)) ≡ element_bytes kind
+pub load_bytes : (kind : Kind) → byte_count (load_size (load_by kind)) ≡ element_bytes kind
 load_bytes Boolean = refl
 load_bytes Uint8 = refl
 load_bytes Uint16 = refl
 load_bytes Uint32 = refl
 
-load_plain : (kind : Kind) (v : ℕ) → loaded_value (load_by kind) v ≡ v
+pub load_plain : (kind : Kind) (v : ℕ) → loaded_value (load_by kind) v ≡ v
 load_plain Boolean v = refl
 load_plain Uint8 v = refl
 load_plain Uint16 v = refl
@@ -147,8 +147,7 @@ module _ (z : Setting) (free : ℕ) (aligned : free % 4 ≡ 0) (above : base_of 
       let l = home place 29 in
       cheaper z (omega (arith, short))
       (keeps z free aligned place room whole (λ env s ready. word' env.variables ready.fits)
-      (weaken z {P = Ready z}
-      (λ env s fine ready. ready)
+      (gives z
       (λ env s t fine ready done.
       let t2 = done.middle in
       let t1 = done.first.middle in
@@ -185,8 +184,7 @@ module _ (z : Setting) (free : ℕ) (aligned : free % 4 ≡ 0) (above : base_of 
       let k = slot_of free place in
       cheaper z (omega arith)
       (keeps z free aligned place (omega (arith, room)) (binary source operator width left right) (λ env s ready. value_word z.declared (binary source operator width left right) word env.variables ready.fits has)
-      (weaken z {P = Ready z}
-      (λ env s fine ready. ready)
+      (gives z
       (λ env s t fine ready done.
       let u4 = done.middle in
       let u3 = done.first.middle in
@@ -248,8 +246,7 @@ module _ (z : Setting) (free : ℕ) (aligned : free % 4 ≡ 0) (above : base_of 
       let yw = homes_apart (place + 1) (place + 2) 30 31 (omega arith) (omega arith) (omega arith) in
       cheaper z (omega arith)
       (keeps z free aligned place (omega (arith, room)) (select condition accepted otherwise) (λ env s ready. value_word z.declared (select condition accepted otherwise) word env.variables ready.fits whole)
-      (weaken z {P = Ready z}
-      (λ env s fine ready. ready)
+      (gives z
       (λ env s t fine ready done.
       let t6 = done.middle in
       let t5 = done.first.middle in

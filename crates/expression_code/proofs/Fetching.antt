@@ -12,7 +12,7 @@ use Rattle.rv_machine.specs.Machine as machine
 use Rattle.expression_code.proofs.Held.{HeldAt, held_regs}
 use Rattle.expression_code.proofs.Pieces.{load_runs}
 use Rattle.expression_code.proofs.Stores.{store_runs}
-use Rattle.expression_code.proofs.Straight.{Setting, none, Steps, Before, Runs, quiet, weaken, cheaper, idle}
+use Rattle.expression_code.proofs.Straight.{Setting, none, Steps, Before, Runs, quiet, weaken, gives, cheaper, idle}
 use Rattle.expression_code.proofs.Values.{Valued, Kept, Lower, Holds, HoldsBy, kept_by, kept_then, put_kept, put_there}
 
 -- a temporary is in a register, and only a spare register has changed
@@ -47,8 +47,7 @@ module _ (z : Setting) (free : ℕ) (aligned : free % 4 ≡ 0) (place : ℕ) (ro
         → Runs z 3 none (cond b [] (load_code spare (slot_of free place))) (λ env s. HeldAt z s × HoldsBy b z free place s (v env)) (λ env s t. Fetched z (cond b (5 + place) spare) spare (v env) s t)
     fetch_by true h =
         cheaper z (omega arith)
-        (weaken z
-        (λ env s fine given. given)
+        (gives z
         (λ env s t fine given still. record {
           held = held_regs z s t (ap (λ (u : machine.State). u.regs 2) still) (ap (λ (u : machine.State). u.bytes) still) given.0;
           there = ap (λ (u : machine.State). u.regs (5 + place)) still ∙ given.1;
@@ -77,8 +76,7 @@ module _ (z : Setting) (free : ℕ) (aligned : free % 4 ≡ 0) (place : ℕ) (ro
         (λ env s t. HeldAt z t × HoldsBy b z free place t (v env) × Kept z (slot_of free place) s t × ((q : ℕ) → q ≢ 28 → t.regs q ≡ s.regs q))
     keep_by true h =
         cheaper z (omega arith)
-        (weaken z
-        (λ env s fine given. given)
+        (gives z
         (λ env s t fine given still. (
           held_regs z s t (ap (λ (u : machine.State). u.regs 2) still) (ap (λ (u : machine.State). u.bytes) still) given.0,
           ap (λ (u : machine.State). u.regs (5 + place)) still ∙ given.1,
@@ -95,8 +93,7 @@ module _ (z : Setting) (free : ℕ) (aligned : free % 4 ≡ 0) (place : ℕ) (ro
 
     keep_runs : Runs z 3 none (keep_code free place) (λ env s. HeldAt z s × (s.regs (home place 29) ≡ v env) × (v env < 2 ^ 32)) (λ env s t. Stayed z free place (v env) s t)
     keep_runs =
-        weaken z
-        (λ env s fine given. given)
+        gives z
         (λ env s t fine given done. record { held = done.0; there = done.1; kept = done.2; others = done.3 })
         (keep_by (nat_lt place register_count) refl)
 
@@ -104,8 +101,7 @@ module _ (z : Setting) (free : ℕ) (aligned : free % 4 ≡ 0) (place : ℕ) (ro
   pub keeps : (e : TermTree) {n : ℕ} {steps : Steps} {is : List Instr} {P : Before} → ((env : StraightState) (s : machine.State) → P env s → value_in env.variables e < 2 ^ 32)
       → Runs z n steps is P (Made z e free place) → Runs z (n + 3) steps (is ++ keep_code free place) P (Valued z e free place)
   keeps e {P = P} fits runs =
-      weaken z {P = P}
-      (λ env s fine fit. fit)
+      gives z
       (λ env s t fine fit done.
       let m = done.middle in
       let one = done.first in

@@ -1,5 +1,6 @@
 -- Offsets as they are listed, and as they are defined.
 use Rattle.std.proofs.Common.{◌≡◌, ℕ, zero, suc, ◌+◌, ◌*◌, ◌<◌, ◌≤◌, List, [], ◌∷◌, ◌++◌, length, map, get_or, take, drop, refl, sym, ap, ◌∙◌, arith, append_assoc}
+use Rattle.std.proofs.Math.Seq.{take-length}
 use Rattle.expression_code.specs.Layout.{offsets_from, slots_from, variable_offset, result_offset}
 use Rattle.image_fields.specs.declared.slot.Slot.{Slot}
 use Rattle.inline.specs.Flat.{declaration_of, elements_by}
@@ -33,12 +34,8 @@ offset_listed ds x e below =
     let h = offset_at 0 ds x e below in
     omega (arith, h)
 
-all_of : (ds : List FlatVariable) → take (length ds) ds ≡ ds
-all_of [] = refl
-all_of (d ∷ ds) = ap (λ (rest : List FlatVariable). d ∷ rest) (all_of ds)
-
 pub end_listed : (ds : List FlatVariable) (e : ℕ) → get_or (offsets_from 0 ds) (length ds) e ≡ result_offset ds
-end_listed ds e = offset_listed ds (length ds) e (omega arith) ∙ ap (λ (front : List FlatVariable). 4 * declared_words front) (all_of ds)
+end_listed ds e = offset_listed ds (length ds) e (omega arith) ∙ ap (λ (front : List FlatVariable). 4 * declared_words front) (take-length ds)
 
 pub kind_listed : (ds : List FlatVariable) (x : ℕ) (e : FlatVariable) → x < length ds → (get_or ds x e).word.kind ≡ kind_at ds x
 kind_listed [] x e below = absurd (omega (arith, below))

@@ -1,7 +1,7 @@
 -- Of each piece of emitted code that only computes: that it does (`plain`), what its instructions give one after the
 -- other (`composed`), and what it makes in the register of the first operand, which is what its node means (`made`).
 use Rattle.std.proofs.Common.{◌≡◌, ◌≢◌, ℕ, ◌-◌, ◌%◌, ◌^◌, ◌<◌, ◌==◌, ◌⊎◌, inl, inr, Bool, true, false, ◌&&◌, ◌||◌, cond, if◌then◌else◌, nat_lt, List, [], ◌∷◌, ◌++◌, refl, sym, ap, ap₂, ◌∙◌, arith, eq-eqb, ne_eqb}
-use Rattle.std.proofs.lemmas.Bool.{true≢false}
+use Rattle.std.proofs.lemmas.Bool.{true≢false, lt-ltb, eqb-true}
 use Rattle.std.proofs.lemmas.Bool.Decides.{nat_tests}
 use Rattle.rv_code.specs.declared.instructions.Instr.{Instr}
 use Rattle.rv_code.specs.declared.instructions.Instr.TheVariants as instr
@@ -21,13 +21,10 @@ use Rattle.word.specs.declared.width.Width.TheVariants.{W8, W16, W32}
 use Rattle.word.specs.Operators.{converted, rotated_left}
 use Rattle.word.specs.Widths.{bits}
 use Rattle.expression_code.proofs.Arithmetic.{near_field, parts, upper_fits, lower_fits}
-use Rattle.expression_code.proofs.Computing.{registers_after, computes, only_computes, AreWorking, both_left, both_right, same_number}
+use Rattle.expression_code.proofs.Computing.{registers_after, computes, only_computes, AreWorking, both_left, both_right}
 use Rattle.expression_code.proofs.Homes.{IsFree}
 use Rattle.expression_code.proofs.Masks.{chosen}
 use Rattle.expression_code.proofs.OperatorRuns.{cut_value, composed, composed_prefix, around_value, cut_computes, operator_computes, prefix_computes, rotate_computes}
-
-is_below : (n most : ℕ) → n < most → nat_lt n most ≡ true
-is_below n most h = grind (arith, nat_tests)
 
 plain_append : (works : ℕ → Bool) (xs ys : List Instr) → only_computes works xs ≡ true → only_computes works ys ≡ true → only_computes works (xs ++ ys) ≡ true
 plain_append works [] ys one two = two
@@ -79,17 +76,17 @@ module _ (l r : ℕ) (one : IsFree l) (other : IsFree r) (apart : l ≢ r) where
   r0 = ne_eqb r 0 other.nonzero
 
   l32 : nat_lt l 32 ≡ true
-  l32 = is_below l 32 one.small
+  l32 = lt-ltb l 32 one.small
 
   r32 : nat_lt r 32 ≡ true
-  r32 = is_below r 32 other.small
+  r32 = lt-ltb r 32 other.small
 
   pub written_either : (q : ℕ) → either_of l r q ≡ true → (q ≡ l) ⊎ (q ≡ r)
   written_either q h = by_test (q == l) refl h
     where
       by_test : (b : Bool) → (q == l) ≡ b → (b || (q == r)) ≡ true → (q ≡ l) ⊎ (q ≡ r)
-      by_test true e h = inl (same_number q l e)
-      by_test false e h = inr (same_number q r h)
+      by_test true e h = inl (eqb-true q l e)
+      by_test false e h = inr (eqb-true q r h)
 
   pub allowed : AreWorking (either_of l r)
   allowed q h = by_register (written_either q h)
@@ -104,13 +101,13 @@ module _ (l r : ℕ) (one : IsFree l) (other : IsFree r) (apart : l ≢ r) where
     near_plain : nat_lt n 2048 ≡ true → only_computes (either_of l r) (instr.Immediate Addi l 0 n ∷ []) ≡ true
     near_plain h =
         let near : n < 2048 = grind (arith, nat_tests) in
-        let small = is_below n 4096 (omega (arith, near)) in
+        let small = lt-ltb n 4096 (omega (arith, near)) in
         simp (ll, small)
 
     far_plain : only_computes (either_of l r) (instr.Upper Lui l (upper_part n) ∷ instr.Immediate Addi l l (lower_part n) ∷ []) ≡ true
     far_plain =
-        let upper = is_below (upper_part n) 1048576 (upper_fits n) in
-        let lower = is_below (lower_part n) 4096 (lower_fits n) in
+        let upper = lt-ltb (upper_part n) 1048576 (upper_fits n) in
+        let lower = lt-ltb (lower_part n) 4096 (lower_fits n) in
         simp (ll, l32, upper, lower)
 
     plain_by : (b : Bool) → nat_lt n 2048 ≡ b → only_computes (either_of l r) (cond b (instr.Immediate Addi l 0 n ∷ []) (instr.Upper Lui l (upper_part n) ∷ instr.Immediate Addi l l (lower_part n) ∷ [])) ≡ true
@@ -223,8 +220,8 @@ module _ (l r : ℕ) (one : IsFree l) (other : IsFree r) (apart : l ≢ r) where
   around_plain w amount within true h = refl
   around_plain w amount within false h =
       let some : 0 < amount = grind (arith, nat_tests) in
-      let up = is_below amount 32 (amount_up w amount within) in
-      let down = is_below (bits w - amount) 32 (amount_down w amount some) in
+      let up = lt-ltb amount 32 (amount_up w amount within) in
+      let down = lt-ltb (bits w - amount) 32 (amount_down w amount some) in
       simp (rl, ll, rr, l32, r32, up, down, cut_plain w)
 
   pub rotate_plain : (w : Width) (amount : ℕ) → only_computes (either_of l r) (rotate_by w amount) ≡ true
@@ -256,7 +253,7 @@ module _ (l r : ℕ) (one : IsFree l) (other : IsFree r) (apart : l ≢ r) where
     n0 = ne_eqb n 0 third.nonzero
 
     n32 : nat_lt n 32 ≡ true
-    n32 = is_below n 32 third.small
+    n32 = lt-ltb n 32 third.small
 
     pub choice_plain : only_computes (either_of l r) (choice_code l r n) ≡ true
     choice_plain = simp (rl, ll, rr, l32, r32, n32)

@@ -210,11 +210,6 @@ converted_fits W8 b = omega arith
 converted_fits W16 b = omega arith
 converted_fits W32 b = omega arith
 
-pub rotated_fits : (w : Width) (b amount : ℕ) → rotated_left w b amount < 2 ^ 32
-rotated_fits w b amount =
-    let n = b % 2 ^ bits w in let j = amount % bits w in
-    converted_fits w (n * 2 ^ j + n / 2 ^ (bits w - j))
-
 pub truth_fits : (c : Bool) → word_of c < 2 ^ 32
 truth_fits false = omega arith
 truth_fits true = omega arith

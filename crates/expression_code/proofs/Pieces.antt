@@ -11,7 +11,7 @@ use Rattle.rv_machine.specs.Machine.{State}
 use Rattle.rv_machine.specs.Registers.{register}
 use Rattle.expression_code.specs.TermCode.{upper_part, lower_part, load_code}
 use Rattle.branch_removal.specs.StraightMeaning.{StraightState}
-use Rattle.expression_code.proofs.Straight.{Setting, none, Runs, seq, weaken, cheaper}
+use Rattle.expression_code.proofs.Straight.{Setting, none, Runs, seq, weaken, gives, cheaper}
 use Rattle.expression_code.proofs.Arithmetic.{far_address, near_address, upper_fits, lower_fits}
 use Rattle.expression_code.proofs.Held.{Held, held_regs, frame_there}
 use Rattle.expression_code.proofs.Steps.{Always, Moves, Fit, Inside, computing, loading}
@@ -88,8 +88,7 @@ module _ (z : Setting) (r o : ℕ) (aligned : o % 4 ≡ 0) (inside : o + 4 ≤ z
 
   far_load : r < 32 → r ≢ 0 → r ≢ 2 → Runs z 3 none (instr.Upper Lui r (upper_part o) ∷ instr.Register Add r r 2 ∷ instr.Load Lw r r (lower_part o) ∷ []) (Held z) (Took z r o)
   far_load small nonzero other =
-      weaken z {P = Held z}
-      (λ env s fine held. held)
+      gives z
       (λ env s t fine held both.
       let one = both.first in
       let two = both.second in

@@ -207,18 +207,6 @@ module _ (z : Setting) where
         load_ends operation rd rs offset (place (index env)) p _ _ rest ok nonzero placed i.even i.low i.high refl s at fit;
   }
 
-  -- a store at such an index
-  pub storing_at : (where' : Place) (count : ℕ) (index : StraightState → ℕ) (place : ℕ → ℕ) (operation : StoreOperation) (rs2 rs offset : ℕ) → IsInstr (instr.Store operation rs2 rs offset)
-      → ((i : ℕ) → i < count → Inside (byte_count (store_size operation)) (place i))
-      → Runs z 1 (λ env. indexed where' count (index env) ∷ []) (instr.Store operation rs2 rs offset ∷ [])
-      (λ env s. Fit (byte_count (store_size operation)) rs offset (place (index env)) s) (λ env s t. Writes (byte_count (store_size operation)) rs2 (place (index env)) s t)
-  storing_at where' count index place operation rs2 rs offset ok inside p placed = record {
-    leak = at_index (λ a. Some (event.Store a (store_size operation))) place p;
-    runs = λ env s rest at fine fit.
-        let i = inside (index env) fine.0 in
-        store_ends operation rs2 rs offset (place (index env)) p _ _ rest ok placed i.even i.low i.high refl s at fit;
-  }
-
   -- what is shown of the next mark's operands
   abbrev of_operands : ℕ → Leak
   of_operands p [] = ([], [])

@@ -9,7 +9,7 @@ use Rattle.rv_machine.specs.Bytes.{ByteMap, with_number}
 use Rattle.rv_machine.specs.Effects.{sum_of, sign_extended}
 use Rattle.rv_machine.specs.Registers.{register}
 use Rattle.expression_code.specs.TermCode.{upper_part, lower_part, store_code}
-use Rattle.expression_code.proofs.Straight.{Setting, none, Runs, seq, weaken, cheaper}
+use Rattle.expression_code.proofs.Straight.{Setting, none, Runs, seq, weaken, gives, cheaper}
 use Rattle.expression_code.proofs.Arithmetic.{near_address, lower_fits}
 use Rattle.expression_code.proofs.Held.{Held, held_store, frame_there}
 use Rattle.expression_code.proofs.Pieces.{Put, register-at, word_inside, add_upper, far_fit}
@@ -37,8 +37,7 @@ module _ (z : Setting) (r : ℕ) (small : r < 32) (nonzero : r ≢ 0) (other : r
 
   far_store : Runs z 3 none (instr.Upper Lui 28 (upper_part o) ∷ instr.Register Add 28 28 2 ∷ instr.Store Sw r 28 (lower_part o) ∷ []) (Held z) (Put z 4 r o)
   far_store =
-      weaken z {P = Held z}
-      (λ env s fine held. held)
+      gives z
       (λ env s t fine held both.
       let m = both.middle in
       let one = both.first in

@@ -246,6 +246,12 @@ module _ (z : Setting) where
             ends_as (a.runs env s rest at fine (before env s fine fit)) (omega arith) refl (λ t done. after env s t fine fit done);
       }
 
+  -- the same code, giving less
+  pub gives : {n : ℕ} {steps : Steps} {is : List Instr} {P : Before} {Q R : After}
+      → ((env : StraightState) (s t : machine.State) → AreFine z.counts (steps env) → P env s → Q env s t → R env s t)
+      → Runs z n steps is P Q → Runs z n steps is P R
+  gives after one = weaken (λ env s fine given. given) after one
+
   -- the same code, with a greater cost
   pub cheaper : {m n : ℕ} {steps : Steps} {is : List Instr} {P : Before} {Q : After}
       → m ≤ n → Runs z m steps is P Q → Runs z n steps is P Q

@@ -22,7 +22,7 @@ use Rattle.expression_code.proofs.Homes.{IsFree, spare_free, home_free, home_apa
 use Rattle.expression_code.proofs.Operations.{either_of, written_either, allowed, operator_plain, operator_made}
 use Rattle.expression_code.proofs.Pieces.{register-at}
 use Rattle.expression_code.proofs.Steps.{Moves, dividing}
-use Rattle.expression_code.proofs.Straight.{Setting, none, Runs, weaken, cheaper}
+use Rattle.expression_code.proofs.Straight.{Setting, none, Runs, weaken, gives, cheaper}
 use Rattle.expression_code.proofs.TermLengths.{operator_length}
 use Rattle.expression_code.proofs.Values.{Lower}
 
@@ -47,8 +47,7 @@ module _ (z : Setting) where
       → (is : List Instr) → only_computes (either_of l r) is ≡ true → Runs z (length is) none is (Held z) (λ env s t. Worked place is s t)
   works place l r one other apart beside is plain =
       let fine' = allowed l r one other apart in
-      weaken z
-      (λ env s fine held. held)
+      gives z
       (λ env s t fine held done. record {
         held = done.held;
         registers = done.registers;
@@ -128,8 +127,7 @@ module _ (z : Setting) where
     pub operator_runs : (operator : BinaryOperator) → Runs z 3 (λ env. division source operator (a env) (b env)) (operator_code l r operator width) (Operands l r a b) (Operated l r operator width a b)
     operator_runs Divide =
         cheaper z (omega arith)
-        (weaken z
-        (λ env s fine given. given)
+        (gives z
         (λ env s t fine given moves. record {
           held = held_regs z s t (moves.others 2 (λ e. one.not_base (sym e))) moves.same given.held;
           there = moves.there ∙ divided_by (b env) fine.0 (2 ^ 32 - 1) (a env / b env);
@@ -139,8 +137,7 @@ module _ (z : Setting) where
         (divides_runs Divu))
     operator_runs Remainder =
         cheaper z (omega arith)
-        (weaken z
-        (λ env s fine given. given)
+        (gives z
         (λ env s t fine given moves. record {
           held = held_regs z s t (moves.others 2 (λ e. one.not_base (sym e))) moves.same given.held;
           there = moves.there ∙ divided_by (b env) fine.0 (a env) (a env % b env);

@@ -42,10 +42,6 @@ control_offset declared control = result_offset declared + 4 + 4 * control
 abbrev pub next_offset : List FlatVariable → ℕ → ℕ → ℕ
 next_offset declared controls depth = result_offset declared + 4 + 4 * controls + 8 * depth
 
--- and its second bound
-abbrev pub bound_offset : List FlatVariable → ℕ → ℕ → ℕ
-bound_offset declared controls depth = next_offset declared controls depth + 4
-
 -- behind so many control values and loops
 abbrev pub temporaries_offset : List FlatVariable → ℕ → ℕ → ℕ
 temporaries_offset declared controls depths = result_offset declared + 4 + 4 * controls + 8 * depths

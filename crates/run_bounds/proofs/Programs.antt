@@ -1,5 +1,5 @@
 -- A program that violates no rule evaluates no more nodes than are counted for the one body that it becomes.
-use Rattle.std.proofs.Common.{◌≡◌, ◌+◌, ◌≤◌, List, [], ◌++◌, length, map, Option, Some, sym, subst, arith}
+use Rattle.std.proofs.Common.{◌≡◌, ◌≤◌, List, [], ◌++◌, length, map, Option, Some, sym, subst, arith}
 use Rattle.std.specs.List.{AllByRecursion}
 use Rattle.arguments.specs.Within.{AreWithin}
 use Rattle.inline.specs.FlatMeaning.{given}

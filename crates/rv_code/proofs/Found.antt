@@ -1,6 +1,7 @@
 -- What is read from a word is an instruction that has that word.
 use Rattle.std.proofs.Common.{◌≡◌, ℕ, ◌/◌, ◌%◌, ◌^◌, ◌<◌, Bool, true, false, cond, ◌==◌, ◌&&◌, List, [], ◌∷◌, Option, Some, IfSome, find, refl, sym, arith, eqb-true}
 use Rattle.std.specs.Option.{option_map}
+use Rattle.std.proofs.lemmas.Bool.{and_parts}
 use Rattle.rv_code.specs.declared.instructions.Instr.{Instr}
 use Rattle.rv_code.specs.Words.{word_of, IsInstr, upper_opcode, branch_funct3, load_funct3, store_funct3, immediate_funct3, shift_funct3, shift_funct7, register_funct3, register_funct7, multiply_funct3, divide_funct3, muldiv_funct7, op_imm_opcode, op_opcode, load_opcode, store_opcode, branch_opcode, jal_opcode, jalr_opcode, misc_mem_opcode, system_opcode, ecall_word, ebreak_word}
 use Rattle.rv_code.specs.Reading.{opcode_at, funct3_at, funct7_at, upper_operations, branch_tests, load_operations, store_operations, immediate_operations, shift_operations, register_operations, multiply_operations, divide_operations, upper_made, branch_made, load_made, store_made, immediate_made, shift_made, register_made, multiply_made, divide_made, upper_at, branch_at, load_at, store_at, immediate_at, shift_at, register_at, multiply_at, divide_at, jump_at, jump_register_at, op_imm_at, muldiv_at, op_at, fence_at, system_at, group_at}
@@ -15,10 +16,6 @@ IfSome-found made test [] P holds = tt
 IfSome-found made test (x ∷ xs) P holds =
     elim (test x) as (λ b. test x ≡ b → IfSome (option_map made (cond b (Some x) (find test xs))) P)
     [ true ↦ λ passes. holds x passes | false ↦ λ _. IfSome-found made test xs P holds ] refl
-
-both_true : (a b : Bool) → (a && b) ≡ true → (a ≡ true) × (b ≡ true)
-both_true true b h = (refl, h)
-both_true false b h = cc
 
 -- a choice by a test of two numbers, each side with what the test says
 IfSome-cond : (m n : ℕ) (a b : Option Instr) (P : Instr → Type 0) → (m ≡ n → IfSome a P) → IfSome b P → IfSome (cond (m == n) a b) P
@@ -71,7 +68,7 @@ unfolding shift_at word_of
 shift_at-has word fits opcode =
     IfSome-found (shift_made word) (λ o. shift_funct3 o == funct3_at word && shift_funct7 o == funct7_at word) shift_operations (HasWord word)
     (λ o passes.
-    let both = both_true (shift_funct3 o == funct3_at word) (shift_funct7 o == funct7_at word) passes in
+    let both = and_parts (shift_funct3 o == funct3_at word) (shift_funct7 o == funct7_at word) passes in
     let e : shift_funct3 o ≡ funct3_at word = eqb-true _ _ both.0 in
     let f : shift_funct7 o ≡ funct7_at word = eqb-true _ _ both.1 in
     ((omega arith, omega arith, omega arith), omega arith))
@@ -86,7 +83,7 @@ unfolding register_at word_of
 register_at-has word fits opcode =
     IfSome-found (register_made word) (λ o. register_funct3 o == funct3_at word && register_funct7 o == funct7_at word) register_operations (HasWord word)
     (λ o passes.
-    let both = both_true (register_funct3 o == funct3_at word) (register_funct7 o == funct7_at word) passes in
+    let both = and_parts (register_funct3 o == funct3_at word) (register_funct7 o == funct7_at word) passes in
     let e : register_funct3 o ≡ funct3_at word = eqb-true _ _ both.0 in
     let f : register_funct7 o ≡ funct7_at word = eqb-true _ _ both.1 in
     ((omega arith, omega arith, omega arith), omega arith))

@@ -4,6 +4,7 @@ use Rattle.std.proofs.lemmas.List.{drop_more, drop_all, map-append}
 use Rattle.std.proofs.lemmas.Bool.Decides.{nat_tests}
 use Rattle.std.proofs.lemmas.Result.{err_from_is_err_and}
 use Rattle.std.specs.Result.{IfErr, IsErrAnd}
+use Rattle.std.proofs.lemmas.Bool.{ltb-false}
 use Rattle.language.specs.declared.signature.Form.{Form}
 use Rattle.language.specs.declared.signature.Form.TheVariants.{SingleWord, FixedArray, MutableArray}
 use Rattle.language.specs.declared.tree.Expr.{Expr}
@@ -78,11 +79,8 @@ module _ (whole : Run State) (known : Runnables) (start room : ℕ) (ss : List S
       l.ends s now (record { gives_it = refl; spends = omega arith; opens = omega arith })
 
 -- nothing of a list is left
-below : (i n : ℕ) → false ≡ nat_lt i n → n ≤ i
-below i n h = grind (arith, nat_tests)
-
 pub none_after : {A : Type 0} (xs : List A) (i : ℕ) → false ≡ nat_lt i (length xs) → drop i xs ≡ []
-none_after xs i h = drop_all i xs (below i (length xs) h)
+none_after xs i h = drop_all i xs (ltb-false i (length xs) (sym h))
 
 no_copies : (s t : State) (ps : List ParameterTree) → copied_out s t ps [] ≡ s
 no_copies s t [] = refl

@@ -123,10 +123,6 @@ pub record Leads {A B : Type 0} (whole : Run A) (start room : ℕ) (rest : Run B
   pub ends : (b : B) (after : ℕ) → Ended rest now room b after → Ended whole start room (join b) after
   pub stops : (fault : EvalFault) → Stopped rest now room fault → Stopped whole start room fault
 
--- the values of expressions, some of which are found
-pub values_begin : (s : State) (es : List ExprTree) (left : ℕ) → Leads (values s es) left 0 (values s es) left (λ vs. [] ++ vs)
-values_begin s es left = record { ends = λ b after h. h; stops = λ fault h. h }
-
 cons_ends : {r : Run (List Word)} (v : Word) (left room : ℕ) (vs : List Word) (after : ℕ) → Ended r left room vs after → Ended (andthen r (λ ws. given (v ∷ ws))) left room (v ∷ vs) after
 cons_ends {r} v left room vs after h = then_ends r _ left after after room vs (v ∷ vs) h (record { gives_it = refl; spends = omega arith; opens = omega arith })
 

@@ -1,3 +1,6 @@
+ghost use Rattle.std.specs.Prelude.{◌≡◌};
+ghost use Rattle.source_eval.specs.declared.fault.EvalFault.TheVariants.{Memory};
+
 use arguments::ArgumentFault;
 use language::Place;
 use std::alloc::{AllocError, AllocFailed};
@@ -17,9 +20,6 @@ pub enum EvalFault {
 }
 
 impl From<AllocError> for EvalFault {
-    ghost use Rattle.std.specs.Prelude.{◌≡◌};
-    ghost use Rattle.source_eval.specs.declared.fault.EvalFault.TheVariants.{Memory};
-
     ghost from_gives = { λ _ fault. fault ≡ Memory };
 
     fn from(_: AllocError) -> Self {
@@ -28,9 +28,6 @@ impl From<AllocError> for EvalFault {
 }
 
 impl<T: Drop> From<AllocFailed<T>> for EvalFault {
-    ghost use Rattle.std.specs.Prelude.{◌≡◌};
-    ghost use Rattle.source_eval.specs.declared.fault.EvalFault.TheVariants.{Memory};
-
     ghost from_gives = { λ _ fault. fault ≡ Memory };
 
     fn from(_: AllocFailed<T>) -> Self {

@@ -1,9 +1,10 @@
 -- Arguments beside their parameters.
-use Rattle.std.proofs.Common.{◌≡◌, ℕ, suc, Bool, true, false, not, ◌&&◌, ◌||◌, ◌==◌, List, [], ◌∷◌, ◌++◌, length, Some, refl, sym, ap, ap₂, ◌∙◌, subst, true≢false, arith, if◌then◌else◌}
+use Rattle.std.proofs.Common.{◌≡◌, suc, Bool, true, false, not, ◌&&◌, ◌||◌, ◌==◌, List, [], ◌∷◌, ◌++◌, length, Some, refl, sym, ap, ap₂, ◌∙◌, subst, true≢false, arith, if◌then◌else◌}
 use Rattle.std.proofs.lemmas.Bool.Decides.{nat_tests}
 use Rattle.std.proofs.lemmas.List.Folds.{list_any-append}
 use Rattle.std.proofs.lemmas.Option.{same_Some}
 use Rattle.std.specs.List.{list_any}
+use Rattle.std.proofs.lemmas.Bool.{and_parts, or_parts, not-false, eqb-true, eq-eqb}
 use Rattle.language.specs.declared.rule.Rule.TheVariants.{ArgumentCount, ArrayShapeOrLabel, NotMutable, ArrayPassedTwice}
 use Rattle.language.specs.declared.signature.Form.{Form}
 use Rattle.language.specs.declared.signature.Form.TheVariants.{SingleWord, FixedArray, MutableArray}
@@ -19,7 +20,7 @@ use Rattle.language.specs.Types.{Scope, variable, same_kind, same_label, when, w
 use Rattle.language.specs.Typing.{parameter_value, is_mutable, same_array, shape_rules, argument_rules, argument_variable, is_immutable, Passed, passed_rules, all_passed_rules, array_name, same_name, clash, clashes, passed, arguments_rules}
 use Rattle.language.specs.WellTyped.{labelled, IsVariable, HasType, of_name, array_of, IsPassed, as_word, as_array, as_mutable_array, array_given, is_shared, SharesNone, ArePassed, none_passed, one_passed}
 use Rattle.typing_laws.proofs.Expressions.{has_type, typed, is_typed}
-use Rattle.typing_laws.proofs.TypeTests.{both, neither, one_kind, same_as_itself}
+use Rattle.typing_laws.proofs.TypeTests.{one_kind, same_as_itself}
 use Rattle.typing_laws.proofs.NoRules.{none_left, none_right, nothing_more, not_when, is_met}
 use Rattle.typing_laws.proofs.Values.{is_suited, suited}
 
@@ -48,14 +49,11 @@ module _ (scope : Scope) where
 
   by_shape : (wanted : ArrayType) (given : ValueType) → shape_rules wanted given ≡ [] → given ≡ Array wanted
   by_shape wanted (Array a) h =
-      let same = both (same_kind wanted.element.kind a.element.kind && (wanted.length == a.length)) (same_label wanted.element.label a.element.label) (is_met (same_array wanted a) ArrayShapeOrLabel h) in
-      let sizes = both (same_kind wanted.element.kind a.element.kind) (wanted.length == a.length) same.0 in
-      let size : a.length ≡ wanted.length = equal wanted.length a.length sizes.1 in
+      let same = and_parts (same_kind wanted.element.kind a.element.kind && (wanted.length == a.length)) (same_label wanted.element.label a.element.label) (is_met (same_array wanted a) ArrayShapeOrLabel h) in
+      let sizes = and_parts (same_kind wanted.element.kind a.element.kind) (wanted.length == a.length) same.0 in
+      let size : a.length ≡ wanted.length = sym (eqb-true wanted.length a.length sizes.1) in
       ap₂ (λ (element : WordType) length. Array (record { element = element; length = length })) (ap₂ labelled (one_kind wanted.element.kind a.element.kind sizes.0) (one_label wanted.element.label a.element.label same.1)) size
     where
-      equal : (m n : ℕ) → (m == n) ≡ true → n ≡ m
-      equal m n h = grind (arith, nat_tests)
-
       one_label : (l m : Label) → same_label l m ≡ true → m ≡ l
       one_label Public Public h = refl
       one_label Secret Secret h = refl
@@ -69,11 +67,7 @@ module _ (scope : Scope) where
 
   mutable_passed : (p : ParameterTree) {e : ExprTree} → p.form ≡ MutableArray → HasType scope e (Array (array_of p)) → is_immutable (argument_variable scope e) ≡ false → IsPassed scope p e
   mutable_passed p form (of_name {text = text} {mutable = mutable} is) h =
-      as_mutable_array form (subst (λ m. IsVariable scope text (Array (array_of p)) m) (changes mutable (ap (λ o. is_immutable (variable o)) (sym is) ∙ h)) is)
-    where
-      changes : (m : Bool) → not m ≡ false → m ≡ true
-      changes true h = refl
-      changes false h = absurd (true≢false h)
+      as_mutable_array form (subst (λ m. IsVariable scope text (Array (array_of p)) m) (not-false mutable (ap (λ o. is_immutable (variable o)) (sym is) ∙ h)) is)
 
   pub is_passed : (p : ParameterTree) (t : ValueType) (e : ExprTree) → HasType scope e t → passed_rules scope (record { parameter = p; given = t; argument = e }) ≡ [] → IsPassed scope p e
   is_passed p t e has h = by p.form refl h
@@ -144,8 +138,8 @@ one_before : (before : List Passed) (p : Passed) (qs : List Passed) → NoneClas
 one_before before p [] h = (tt, tt)
 one_before before p (q ∷ qs) h =
     let more = one_before before p qs h.1 in
-    let here = neither (list_any (clash q) before) (list_any (clash q) (p ∷ [])) (sym (list_any-append (clash q) before (p ∷ [])) ∙ h.0) in
-    ((here.0, more.0), ((neither (clash q p) false here.1).0, more.1))
+    let here = or_parts (list_any (clash q) before) (list_any (clash q) (p ∷ [])) (sym (list_any-append (clash q) before (p ∷ [])) ∙ h.0) in
+    ((here.0, more.0), ((or_parts (clash q p) false here.1).0, more.1))
 
 either_before : (before : List Passed) (p : Passed) (qs : List Passed) → NoneClash before qs → ClashesNone p qs → NoneClash (before ++ p ∷ []) qs
 either_before before p [] h k = tt
@@ -155,7 +149,7 @@ either_before before p (q ∷ qs) h k =
 apart : (before ps : List Passed) → clashes before ps ≡ false → NoneClash before ps × AreApart ps
 apart before [] h = (tt, tt)
 apart before (p ∷ ps) h =
-    let here = neither (list_any (clash p) before) (clashes (before ++ p ∷ []) ps) h in
+    let here = or_parts (list_any (clash p) before) (clashes (before ++ p ∷ []) ps) h in
     let more = apart (before ++ p ∷ []) ps here.1 in
     let split = one_before before p ps more.0 in
     ((here.0, split.0), (split.1, more.1))
@@ -244,12 +238,9 @@ module _ (scope : Scope) where
   pub are_passed : (ps : List ParameterTree) (ts : List ValueType) (es : List ExprTree) → HaveTypes scope es ts → arguments_rules scope ps ts es ≡ [] → ArePassed scope ps es
   are_passed ps ts es have h = by (length es == length ps) refl h
     where
-      same : (a b : ℕ) → (a == b) ≡ true → a ≡ b
-      same a b h = grind (arith, nat_tests)
-
       by : (b : Bool) → (length es == length ps) ≡ b → (if b then all_passed_rules scope (passed ps ts es) ++ when (clashes [] (passed ps ts es)) ArrayPassedTwice else ArgumentCount ∷ []) ≡ [] → ArePassed scope ps es
       by true even h =
-          all_passed (all_fit ps have (same (length es) (length ps) even) (none_left (all_passed_rules scope (passed ps ts es)) (when (clashes [] (passed ps ts es)) ArrayPassedTwice) h))
+          all_passed (all_fit ps have (eqb-true (length es) (length ps) even) (none_left (all_passed_rules scope (passed ps ts es)) (when (clashes [] (passed ps ts es)) ArrayPassedTwice) h))
           (are_apart (passed ps ts es) (not_when (clashes [] (passed ps ts es)) ArrayPassedTwice (none_right (all_passed_rules scope (passed ps ts es)) (when (clashes [] (passed ps ts es)) ArrayPassedTwice) h)))
       by false even h = cc
 
@@ -262,13 +253,10 @@ module _ (scope : Scope) where
   pub passed_rules_none : {ps : List ParameterTree} {es : List ExprTree} → ArePassed scope ps es → NoneViolated ps es
   passed_rules_none {ps} {es} are =
       let k = known are in
-      let even : (length es == length ps) ≡ true = equal (length es) (length ps) (fit_lengths k.fit) in
+      let even : (length es == length ps) ≡ true = eq-eqb (length es) (length ps) (fit_lengths k.fit) in
       record {
         types = k.types;
         have = fit_types k.fit;
         none = ap (λ b. if b then all_passed_rules scope (passed ps k.types es) ++ when (clashes [] (passed ps k.types es)) ArrayPassedTwice else ArgumentCount ∷ []) even
             ∙ nothing_more (all_passed_rules scope (passed ps k.types es)) _ (fit_rules k.fit) (ap (λ b. when b ArrayPassedTwice) (clash_nowhere (passed ps k.types es) k.apart));
       }
-    where
-      equal : (a b : ℕ) → a ≡ b → (a == b) ≡ true
-      equal a b h = grind (arith, nat_tests)

@@ -3,6 +3,7 @@ use Rattle.std.proofs.Common.{◌≡◌, ℕ, ◌^◌, ◌<◌, Bool, true, not,
 use Rattle.std.proofs.lemmas.Bool.Decides.{nat_tests}
 use Rattle.std.proofs.lemmas.Option.{none-some, same_Some}
 use Rattle.std.specs.Option.{option_map}
+use Rattle.std.proofs.lemmas.Bool.{ltb-true}
 use Rattle.word.specs.declared.place.Place.{Place}
 use Rattle.language.specs.declared.rule.Rule.{Rule}
 use Rattle.language.specs.declared.rule.Rule.TheVariants.{UndeclaredName, LiteralOutOfRange}
@@ -52,9 +53,6 @@ pub a_variable : (o : Option Declared) (type : ValueType) → option_map (λ (v 
 a_variable (Some (Variable v)) type h = (v.mutable, ap (λ t. Some (Variable (record { value = t; mutable = v.mutable }))) (same_Some v.value type h))
 a_variable (Some (Procedure c)) type h = absurd (none-some type h)
 a_variable None type h = absurd (none-some type h)
-
-below : (a b : ℕ) → nat_lt a b ≡ true → a < b
-below a b h = grind (arith, nat_tests)
 
 number_small : (value : ℕ) (kind : Kind) → value < 2 ^ bits_of kind → number_rules value kind ≡ []
 number_small value kind h =
@@ -109,7 +107,7 @@ module _ (scope : Scope) where
   pub typed : (e : ExprTree) (type : ValueType) → type_of scope e ≡ Some type → HasType scope e type
   typed (number place value kind) type h =
       let x = met (number_rules value kind) (word kind Public) type h in
-      subst (HasType scope (number place value kind)) x.1 (of_number (below value (2 ^ bits_of kind) (is_met (nat_lt value (2 ^ bits_of kind)) LiteralOutOfRange x.0)))
+      subst (HasType scope (number place value kind)) x.1 (of_number (ltb-true value (2 ^ bits_of kind) (is_met (nat_lt value (2 ^ bits_of kind)) LiteralOutOfRange x.0)))
   typed (truth place value) type h = subst (HasType scope (truth place value)) (same_Some (word Boolean Public) type h) of_truth
   typed (name place text) type h = of_name (a_variable (found scope text) type h).1
   typed (prefix place operator a) type h =

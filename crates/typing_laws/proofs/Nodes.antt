@@ -1,6 +1,7 @@
 -- The rules of each node of an expression, and what it makes, by the rules of inference.
 use Rattle.std.proofs.Common.{◌≡◌, ℕ, ◌<◌, Bool, true, false, not, ◌&&◌, nat_lt, [], ◌++◌, refl, sym, ap, ap₂, ◌∙◌, subst, true≢false, arith}
 use Rattle.std.proofs.lemmas.Bool.Decides.{nat_tests}
+use Rattle.std.proofs.lemmas.Bool.{and_parts, or_parts, ltb-true}
 use Rattle.language.specs.declared.rule.Rule.TheVariants.{WidthsDiffer, WrongKind, LiteralOutOfRange, SecretIndex, SecretDivisionOperand}
 use Rattle.language.specs.declared.signature.Kind.{Kind}
 use Rattle.language.specs.declared.signature.Kind.TheVariants.{Boolean, Uint8, Uint16, Uint32}
@@ -18,7 +19,7 @@ use Rattle.language.specs.ExprTyping.{is_uneven, takes, divides_secret, operatio
 use Rattle.language.specs.Grammatical.{IsNumberKind}
 use Rattle.language.specs.Types.{bits_of, word, joined, is_number, is_numeric, is_bool, is_array, is_narrow, is_hidden, is_secret, widths_differ, are_alike, when}
 use Rattle.language.specs.WellTyped.{labelled, Makes, arithmetic, multiplication, division, shift, equality, order, logic, Takes}
-use Rattle.typing_laws.proofs.TypeTests.{both, neither, a_number, a_bool, by_number, one_width, alike_kinds, a_full_word, a_public, numeric_word, bool_word, AreWords, numeric_words, bool_words, alike_words}
+use Rattle.typing_laws.proofs.TypeTests.{a_number, a_bool, by_number, one_width, alike_kinds, a_full_word, a_public, numeric_word, bool_word, AreWords, numeric_words, bool_words, alike_words}
 use Rattle.typing_laws.proofs.NoRules.{none_left, none_right, not_when, is_met}
 
 -- A sign.
@@ -67,7 +68,7 @@ words_operated operation s t h = words_taken operation s t (is_taken operation s
 
 -- numbers of one width
 even_numbers : (k l : Kind) (m n : Label) → widths_differ (word k m) (word l n) ≡ false → (is_number k && is_number l) ≡ true → IsNumberKind k × (l ≡ k)
-even_numbers k l m n even numbers = (a_number k (both (is_number k) (is_number l) numbers).0, one_width k l m n even numbers)
+even_numbers k l m n even numbers = (a_number k (and_parts (is_number k) (is_number l) numbers).0, one_width k l m n even numbers)
 
 pub makes : (operation : Operation) (k l : Kind) (m n : Label) → operation_rules operation (word k m) (word l n) ≡ [] → Makes operation (labelled k m) (labelled l n) (labelled (operation_kind operation k) (joined m n))
 makes Arithmetic k l m n h =
@@ -81,13 +82,13 @@ makes Multiplication k l m n h =
 makes Division k l m n h =
     let x = is_taken Division (word k m) (word l n) h in
     let numbers = even_numbers k l m n x.even x.kinds in
-    let told = neither (is_secret m) (is_secret n) x.told in
+    let told = or_parts (is_secret m) (is_secret n) x.told in
     subst (λ j. Makes Division (labelled k m) (labelled j n) (labelled k (joined m n))) (sym numbers.1)
     (subst (λ a. Makes Division (labelled k a) (labelled k n) (labelled k (joined a n))) (sym (a_public m told.0))
     (subst (λ b. Makes Division (labelled k Public) (labelled k b) (labelled k b)) (sym (a_public n told.1)) (division numbers.0)))
 makes Shift k l m n h =
     let x = is_taken Shift (word k m) (word l n) h in
-    let numbers = both (is_number k) (is_number l) x.kinds in
+    let numbers = and_parts (is_number k) (is_number l) x.kinds in
     subst (λ j. Makes Shift (labelled k m) (labelled j n) (labelled k (joined m n))) (sym (a_full_word l n x.even numbers.1)) (shift (a_number k numbers.0))
 makes Equality k l m n h =
     let x = is_taken Equality (word k m) (word l n) h in
@@ -98,7 +99,7 @@ makes Order k l m n h =
     subst (λ j. Makes Order (labelled k m) (labelled j n) (labelled Boolean (joined m n))) (sym numbers.1) (order numbers.0)
 makes Logic k l m n h =
     let x = is_taken Logic (word k m) (word l n) h in
-    let bools = both (not (is_number k)) (not (is_number l)) x.kinds in
+    let bools = and_parts (not (is_number k)) (not (is_number l)) x.kinds in
     subst (λ j. Makes Logic (labelled j m) (labelled l n) (labelled Boolean (joined m n))) (sym (a_bool k bools.0))
     (subst (λ j. Makes Logic (labelled Boolean m) (labelled j n) (labelled Boolean (joined m n))) (sym (a_bool l bools.1)) logic)
 
@@ -138,16 +139,13 @@ is_rotated amount type h =
     let numeric = is_met (is_numeric type) WrongKind (none_left wrong outside h) in
     let w = numeric_word type numeric in
     let bounds = within (is_numeric type) (rotates_within amount type) numeric (not_when (is_numeric type && not (rotates_within amount type)) LiteralOutOfRange (none_right wrong outside h)) in
-    let each = both (nat_lt 0 amount) (nat_lt amount (bits_of w.0.kind)) (ap (rotates_within amount) (sym w.1) ∙ bounds) in
-    record { of = w.0; is = w.1; number = w.2; low = below 0 amount each.0; high = below amount (bits_of w.0.kind) each.1 }
+    let each = and_parts (nat_lt 0 amount) (nat_lt amount (bits_of w.0.kind)) (ap (rotates_within amount) (sym w.1) ∙ bounds) in
+    record { of = w.0; is = w.1; number = w.2; low = ltb-true 0 amount each.0; high = ltb-true amount (bits_of w.0.kind) each.1 }
   where
     within : (b c : Bool) → b ≡ true → (b && not c) ≡ false → c ≡ true
     within true true e h = refl
     within true false e h = absurd (true≢false h)
     within false c e h = absurd (true≢false (sym e))
-
-    below : (a b : ℕ) → nat_lt a b ≡ true → a < b
-    below a b h = grind (arith, nat_tests)
 
 pub rotated : (amount : ℕ) (kind : Kind) (label : Label) → IsNumberKind kind → 0 < amount → amount < bits_of kind → rotate_rules amount (word kind label) ≡ []
 rotated amount kind label number low high =
@@ -185,7 +183,7 @@ is_selected c s t h =
     let uneven = when (widths_differ s t) WidthsDiffer in
     let wrong = when (not (is_bool c && are_alike s t)) WrongKind in
     let even = not_when (widths_differ s t) WidthsDiffer (none_left uneven wrong h) in
-    let kinds = both (is_bool c) (are_alike s t) (is_met (is_bool c && are_alike s t) WrongKind (none_right uneven wrong h)) in
+    let kinds = and_parts (is_bool c) (are_alike s t) (is_met (is_bool c && are_alike s t) WrongKind (none_right uneven wrong h)) in
     let chooser = bool_word c kinds.0 in
     let words = alike_words s t kinds.1 in
     let a = words.0 in
@@ -220,7 +218,7 @@ is_element s t h =
     let wrong = when (not (is_array s && is_numeric t)) WrongKind in
     let told = when (is_hidden t) SecretIndex in
     let two = none_left (uneven ++ wrong) told h in
-    let kinds = both (is_array s) (is_numeric t) (is_met (is_array s && is_numeric t) WrongKind (none_right uneven wrong two)) in
+    let kinds = and_parts (is_array s) (is_numeric t) (is_met (is_array s && is_numeric t) WrongKind (none_right uneven wrong two)) in
     let array = an_array s kinds.0 in
     (array.0, array.1, public_index t (not_when (is_narrow t) WidthsDiffer (none_left uneven wrong two)) kinds.1 (not_when (is_hidden t) SecretIndex (none_right (uneven ++ wrong) told h)))
   where

@@ -1,6 +1,7 @@
 -- Statements.
 use Rattle.std.proofs.Common.{◌≡◌, ℕ, Bool, true, false, not, ◌&&◌, ◌||◌, ◌==◌, List, [], ◌∷◌, ◌++◌, length, Option, Some, None, is_some, refl, sym, ap, ap₂, ◌∙◌, subst, true≢false, arith}
 use Rattle.std.proofs.lemmas.Bool.Decides.{nat_tests}
+use Rattle.std.proofs.lemmas.Bool.{and_parts, or_parts, eqb-true}
 use Rattle.word.specs.declared.place.Place.{Place}
 use Rattle.language.specs.declared.rule.Rule.TheVariants.{NameDeclaredTwice, WidthsDiffer, WrongKind, InitialiserCount, SecretBound}
 use Rattle.language.specs.declared.signature.Kind.{Kind}
@@ -11,7 +12,6 @@ use Rattle.language.specs.declared.typing.Declared.{Declared}
 use Rattle.language.specs.declared.typing.Declared.TheVariants.{Variable}
 use Rattle.language.specs.declared.typing.ValueType.{ValueType}
 use Rattle.language.specs.declared.typing.ValueType.TheVariants.{Word, Array, Nothing}
-use Rattle.language.specs.declared.typing.VariableType.{VariableType}
 use Rattle.language.specs.declared.typing.WordType.{WordType}
 use Rattle.language.specs.ExprTyping.{name_type, name_rules, type_of, types_of, expr_violations, exprs_violations, element_rules, element_type}
 use Rattle.language.specs.Tree.{ExprTree, RightTree, StatementTree, declaration, array, assignment, element_assignment, call, conditional, loop, BlockTree, nothing, first, ProcedureTree, written}
@@ -21,7 +21,7 @@ use Rattle.language.specs.WellTyped.{labelled, HasType, Suits, Gives, AllSuit, n
 use Rattle.typing_laws.proofs.Arguments.{HaveTypes, none_typed, one_typed, have_types, all_typed}
 use Rattle.typing_laws.proofs.Calls.{call_known, call_none, right_known, right_none}
 use Rattle.typing_laws.proofs.Expressions.{a_variable, variable_there, has_type, typed, is_typed, name_known, name_typed}
-use Rattle.typing_laws.proofs.TypeTests.{both, neither, bool_word}
+use Rattle.typing_laws.proofs.TypeTests.{bool_word}
 use Rattle.typing_laws.proofs.Nodes.{public_index, is_element}
 use Rattle.typing_laws.proofs.NoRules.{none_left, none_right, nothing_more, no_rules, not_when, is_met}
 use Rattle.typing_laws.proofs.Values.{is_suited, suited, is_changed, changed, is_declared, declared_under}
@@ -47,10 +47,7 @@ module _ (scope : Scope) (wanted : WordType) where
 
 has_count : (size : ℕ) (values : Option (List ExprTree)) → count_rules size values ≡ [] → HasCount size values
 has_count size None h = all_zero
-has_count size (Some values) h = all_given (same (length values) size (is_met (length values == size) InitialiserCount h))
-  where
-    same : (a b : ℕ) → (a == b) ≡ true → a ≡ b
-    same a b h = grind (arith, nat_tests)
+has_count size (Some values) h = all_given (eqb-true (length values) size (is_met (length values == size) InitialiserCount h))
 
 counted : {size : ℕ} {values : Option (List ExprTree)} → HasCount size values → count_rules size values ≡ []
 counted all_zero = refl
@@ -66,15 +63,12 @@ are_bounds low high h =
     let wrong = when (not (is_numeric low && is_numeric high)) WrongKind in
     let told = when (is_hidden low || is_hidden high) SecretBound in
     let two = none_left (uneven ++ wrong) told h in
-    let even = neither (is_narrow low) (is_narrow high) (not_when (is_narrow low || is_narrow high) WidthsDiffer (none_left uneven wrong two)) in
-    let numbers = both (is_numeric low) (is_numeric high) (is_met (is_numeric low && is_numeric high) WrongKind (none_right uneven wrong two)) in
-    let public = neither (is_hidden low) (is_hidden high) (not_when (is_hidden low || is_hidden high) SecretBound (none_right (uneven ++ wrong) told h)) in
+    let even = or_parts (is_narrow low) (is_narrow high) (not_when (is_narrow low || is_narrow high) WidthsDiffer (none_left uneven wrong two)) in
+    let numbers = and_parts (is_numeric low) (is_numeric high) (is_met (is_numeric low && is_numeric high) WrongKind (none_right uneven wrong two)) in
+    let public = or_parts (is_hidden low) (is_hidden high) (not_when (is_hidden low || is_hidden high) SecretBound (none_right (uneven ++ wrong) told h)) in
     (public_index low even.0 numbers.0 public.0, public_index high even.1 numbers.1 public.1)
 
 -- Assignments.
-
-same_value : (v : VariableType) (type : ValueType) → v.value ≡ type → Some (Variable v) ≡ Some (Variable (record { value = type; mutable = v.mutable }))
-same_value v type h = ap (λ t. Some (Variable (record { value = t; mutable = v.mutable }))) h
 
 -- a target that violates no rule is a word, which the value suits
 target_word : (target given : ValueType) → target_rules target given ≡ [] → (wanted w : WordType) × (target ≡ Word wanted) × (given ≡ Word w) × Suits w wanted
@@ -83,9 +77,6 @@ target_word (Array a) given h = cc
 target_word Nothing given h = cc
 
 module _ (earlier : List ProcedureTree) (scope : Scope) (control : Label) where
-  abbrev Right : RightTree → Type 0
-  Right right = right_violations earlier scope control right ≡ []
-
   is_assigned : (place target : Place) (text : List ℕ) (right : RightTree) → statement_violations earlier scope control (assignment place target text right) ≡ [] → IsWellTyped earlier scope control (assignment place target text right)
   is_assigned place target text right h =
       let named = at target (name_rules scope text) in

@@ -1,5 +1,7 @@
 -- What tests on types mean.
 use Rattle.std.proofs.Common.{◌≡◌, Bool, true, false, not, ◌&&◌, ◌||◌, refl, sym, ◌∙◌, true≢false}
+use Rattle.std.proofs.lemmas.Bool.{and_parts}
+use Rattle.std.proofs.Math.Bool.{and-false}
 use Rattle.language.specs.declared.signature.Kind.{Kind}
 use Rattle.language.specs.declared.signature.Kind.TheVariants.{Boolean, Uint8, Uint16, Uint32}
 use Rattle.language.specs.declared.signature.Label.{Label}
@@ -10,14 +12,6 @@ use Rattle.language.specs.declared.typing.WordType.{WordType}
 use Rattle.language.specs.Grammatical.{IsNumberKind}
 use Rattle.language.specs.Types.{word, is_number, is_numeric, is_bool, is_narrow, same_kind, is_secret, widths_differ, are_alike}
 use Rattle.language.specs.WellTyped.{FlowsTo, public_flows, secret_flows}
-
-pub both : (a b : Bool) → (a && b) ≡ true → (a ≡ true) × (b ≡ true)
-both true b h = (refl, h)
-both false b h = absurd (true≢false (sym h))
-
-pub neither : (a b : Bool) → (a || b) ≡ false → (a ≡ false) × (b ≡ false)
-neither false b h = (refl, h)
-neither true b h = absurd (true≢false h)
 
 -- Kinds.
 
@@ -79,7 +73,7 @@ alike_kinds k l m n even alike = by (is_number k && is_number l) refl alike
   where
     by : (b : Bool) → (is_number k && is_number l) ≡ b → (b || (not (is_number k) && not (is_number l))) ≡ true → l ≡ k
     by true e h = one_width k l m n even e
-    by false e h = let bools = both (not (is_number k)) (not (is_number l)) h in a_bool l bools.1 ∙ sym (a_bool k bools.0)
+    by false e h = let bools = and_parts (not (is_number k)) (not (is_number l)) h in a_bool l bools.1 ∙ sym (a_bool k bools.0)
 
 -- a `uint32`
 pub a_full_word : (kind : Kind) (label : Label) → is_narrow (word kind label) ≡ false → is_number kind ≡ true → kind ≡ Uint32
@@ -100,11 +94,7 @@ flows Secret Secret h = secret_flows
 flows Secret Public h = absurd (true≢false h)
 
 pub flowing : {label wanted : Label} → FlowsTo label wanted → (not (is_secret wanted) && is_secret label) ≡ false
-flowing (public_flows {label = wanted}) = not_and (not (is_secret wanted))
-  where
-    not_and : (b : Bool) → (b && false) ≡ false
-    not_and true = refl
-    not_and false = refl
+flowing (public_flows {label = wanted}) = and-false (not (is_secret wanted))
 flowing secret_flows = refl
 
 -- Words.
@@ -125,14 +115,14 @@ AreWords s t = (one other : WordType) × (s ≡ Word one) × (t ≡ Word other)
 
 pub numeric_words : (s t : ValueType) → (is_numeric s && is_numeric t) ≡ true → AreWords s t
 numeric_words s t h =
-    let each = both (is_numeric s) (is_numeric t) h in
+    let each = and_parts (is_numeric s) (is_numeric t) h in
     let one = numeric_word s each.0 in
     let other = numeric_word t each.1 in
     (one.0, other.0, one.1, other.1)
 
 pub bool_words : (s t : ValueType) → (is_bool s && is_bool t) ≡ true → AreWords s t
 bool_words s t h =
-    let each = both (is_bool s) (is_bool t) h in
+    let each = and_parts (is_bool s) (is_bool t) h in
     let one = bool_word s each.0 in
     let other = bool_word t each.1 in
     (one.0, other.0, one.1, other.1)

@@ -13,9 +13,6 @@ use Rattle.language.specs.WellTyped.{FlowsTo, Suits, suits}
 use Rattle.typing_laws.proofs.TypeTests.{alike_kinds, alike_words, flows, flowing}
 use Rattle.typing_laws.proofs.NoRules.{none_left, none_right, nothing_more, not_when, is_met}
 
-same_word : (a b : WordType) → Word a ≡ Word b → a ≡ b
-same_word a b h = cc
-
 -- a value that violates no rule is a word that suits
 pub is_suited : (wanted : WordType) (given : ValueType) → value_rules wanted given ≡ [] → (w : WordType) × (given ≡ Word w) × Suits w wanted
 is_suited wanted given h =
