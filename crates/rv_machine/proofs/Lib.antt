@@ -1,8 +1,11 @@
+pub mod Alone
 pub mod ByteLaws
 pub mod Calls
 pub mod EndingLaws
 pub mod EntryLaws
 pub mod Fresh
+pub mod Halting
+pub mod Locality
 pub mod Pages
 pub mod Pairs
 pub mod PlanLaws
@@ -11,6 +14,7 @@ pub mod Shown
 pub mod SizedNumbers
 pub mod StepLaws
 pub mod Stretch
+pub mod SystemLaws
 pub mod TotalLaws
 pub mod TurnLaws
 pub mod Turns

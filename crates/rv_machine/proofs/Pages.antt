@@ -1,17 +1,17 @@
 -- Bytes of pages, and of ranges.
-use Rattle.std.specs.Prelude.{is_some, slice_get, ◌||◌, max}
-use Rattle.std.specs.List.{list_any}
-use Rattle.std.proofs.Common.{◌≡◌, ◌≢◌, ℕ, zero, suc, ◌+◌, ◌*◌, ◌/◌, ◌%◌, ◌^◌, ◌<◌, ◌≤◌, true, false, cond, List, [], ◌∷◌, ◌++◌, take, get_or, Option, Some, None, refl, sym, ap, ◌∙◌, ⊎_elim, arith}
+use Rattle.std.specs.Prelude.{is_some, slice_get}
+use Rattle.std.proofs.Common.{◌≡◌, ◌≢◌, ℕ, zero, suc, ◌+◌, ◌*◌, ◌/◌, ◌%◌, ◌^◌, ◌<◌, ◌≤◌, true, List, [], ◌∷◌, ◌++◌, take, get_or, Option, Some, None, refl, sym, ap, ◌∙◌, ⊎_elim, arith}
 use Rattle.std.proofs.Math.ListN.{set}
 use Rattle.std.proofs.Math.Path.{fun_ext}
 use Rattle.std.proofs.lemmas.Bool.{cases_eq, cases_lt, le-leb, lt-leb, lt-ltb, le-ltb, false≢true}
 use Rattle.std.proofs.lemmas.Option.{get_or_from_slice_get}
+use Rattle.std.proofs.lemmas.List.{take-set}
 use Rattle.rv_machine.specs.Bytes.{ByteMap, joined, number_at, with_number, zeros}
 use Rattle.rv_machine.specs.Flat.{flat_bytes}
-use Rattle.rv_machine.specs.Paged.{zeros_in, lies_in, first_of, bytes_in}
+use Rattle.rv_machine.specs.Paged.{zeros_in, first_of, bytes_in}
 use Rattle.rv_machine.specs.declared.flat.FlatMemory.{FlatMemory}
 use Rattle.rv_machine.specs.declared.paged.AddressRange.{AddressRange}
-use Rattle.rv_machine.proofs.ByteLaws.{number_at-suc, number_at-zero, number_at_same, with_byte_same, with_byte_other, with_number-suc, with_number_below, with_number_above, is_some-with_number}
+use Rattle.rv_machine.proofs.ByteLaws.{number_at-suc, number_at-zero, number_at_same, with_byte_same, with_byte_other, with_number-suc, with_number_below, with_number_above, is_some-with_number, joined_parts}
 use Rattle.rv_machine.proofs.Stretch.{above}
 
 -- One byte.
@@ -24,10 +24,6 @@ pub number_at-one : (bytes : ByteMap) (a : ℕ) → number_at bytes 1 a ≡ byte
 number_at-one bytes a = number_at-suc bytes 0 a ∙ ap (joined (bytes a)) (number_at-zero bytes (a + 1)) ∙ joined-one (bytes a)
 
 -- Numbers of two parts.
-
-pub joined-none : (o : Option ℕ) → joined o None ≡ None
-joined-none (Some b) = refl
-joined-none None = refl
 
 pub number_at-two : (bytes : ByteMap) (a : ℕ) → number_at bytes 2 a ≡ joined (number_at bytes 1 a) (number_at bytes 1 (a + 1))
 number_at-two bytes a = number_at-suc bytes 1 a ∙ ap (λ o. joined o (number_at bytes 1 (a + 1))) (sym (number_at-one bytes a))
@@ -90,16 +86,10 @@ bytes_in-found (p ∷ pages) (suc i) page a at before there =
     let parts = none_before (flat_bytes p a) (bytes_in (take i pages) a) before in
     ap (λ o. first_of o (bytes_in pages a)) parts.0 ∙ bytes_in-found pages i page a at parts.1 there
 
--- where a number stands, each of its bytes does
-some_parts : (o p : Option ℕ) → is_some (joined o p) ≡ true → (is_some o ≡ true) × (is_some p ≡ true)
-some_parts (Some low) (Some high) h = (refl, refl)
-some_parts (Some low) None h = absurd (false≢true h)
-some_parts None p h = absurd (false≢true h)
-
 pub some_within : (bytes : ByteMap) (n a x : ℕ) → is_some (number_at bytes n a) ≡ true → a ≤ x → x < a + n → is_some (bytes x) ≡ true
 some_within bytes zero a x there low high = absurd (omega arith)
 some_within bytes (suc n) a x there low high =
-    let parts = some_parts (bytes a) (number_at bytes n (a + 1)) (ap is_some (sym (number_at-suc bytes n a)) ∙ there) in
+    let parts = joined_parts (bytes a) (number_at bytes n (a + 1)) (ap is_some (sym (number_at-suc bytes n a)) ∙ there) in
     ⊎_elim (λ (e : x ≡ a). ap (λ y. is_some (bytes y)) e ∙ parts.0) (λ (e : x ≢ a). some_within bytes n (a + 1) x parts.1 (omega arith) (omega arith)) (cases_eq x a)
 
 -- the bytes of a number that is put do not depend on those before
@@ -130,11 +120,6 @@ set-at [] i page new at = cc
 set-at (p ∷ pages) zero page new at = refl
 set-at (p ∷ pages) (suc i) page new at = set-at pages i page new at
 
-set-before : (pages : List FlatMemory) (i : ℕ) (new : FlatMemory) → take i (set pages i new) ≡ take i pages
-set-before [] i new = refl
-set-before (p ∷ pages) zero new = refl
-set-before (p ∷ pages) (suc i) new = ap (λ ps. p ∷ ps) (set-before pages i new)
-
 set-apart : (pages : List FlatMemory) (i : ℕ) (page new : FlatMemory) (x : ℕ) → slice_get pages i ≡ Some page → flat_bytes new x ≡ flat_bytes page x → bytes_in (set pages i new) x ≡ bytes_in pages x
 set-apart [] i page new x at same = cc
 set-apart (p ∷ pages) zero page new x at same =
@@ -149,7 +134,7 @@ module _ (pages : List FlatMemory) (i : ℕ) (page new : FlatMemory) (n a v : �
   inside : (x : ℕ) → a ≤ x → x < a + n → bytes_in (set pages i new) x ≡ with_number (bytes_in pages) n a v x
   inside x low high =
       let there = ap is_some (byte_at x) ∙ is_some-with_number (flat_bytes page) n a v x whole ∙ some_within (flat_bytes page) n a x whole low high in
-      bytes_in-found (set pages i new) i new x (set-at pages i page new at) (ap (λ ps. bytes_in ps x) (set-before pages i new) ∙ first x low high) there
+      bytes_in-found (set pages i new) i new x (set-at pages i page new at) (ap (λ ps. bytes_in ps x) (take-set pages i new) ∙ first x low high) there
       ∙ byte_at x ∙ with_number_within (flat_bytes page) (bytes_in pages) n a v x low high
 
   pub with_number-page : bytes_in (set pages i new) ≡ with_number (bytes_in pages) n a v
@@ -168,24 +153,11 @@ number_at-past pages n a past =
 
 -- Ranges.
 
-pub zeros_in-append : (xs ys : List AddressRange) (a : ℕ) → first_of (zeros_in xs a) (zeros_in ys a) ≡ zeros_in (xs ++ ys) a
-zeros_in-append [] ys a = refl
-zeros_in-append (x ∷ xs) ys a =
-    elim (lies_in a x) as (λ t. first_of (cond (t || list_any (lies_in a) xs) (Some 0) None) (zeros_in ys a) ≡ cond (t || list_any (lies_in a) (xs ++ ys)) (Some 0) None) [ true ↦ refl | false ↦ zeros_in-append xs ys a ]
-
 -- the zeros of one range
 abbrev between : ℕ → ℕ → List AddressRange
 between low high = record { begin = low; end = high } ∷ []
-
-pub zeros_in-empty : (low a : ℕ) → zeros_in (between low low) a ≡ None
-zeros_in-empty low a = ⊎_elim (λ (h : a < low). rw (lt-leb low a h) refl) (λ (h : low ≤ a). rw (le-leb low a h, le-ltb a low h) refl) (cases_lt a low)
 
 -- with a page behind them
 pub zeros_in-grown : (low from n a : ℕ) → low ≤ from → first_of (zeros_in (between low from) a) (zeros from n a) ≡ zeros_in (between low (from + n)) a
 zeros_in-grown low from n a le =
     ⊎_elim (λ (h : a < low). rw (lt-leb low a h, lt-leb from a (omega arith)) refl) (λ (l : low ≤ a). ⊎_elim (λ (h : a < from). rw (le-leb low a l, lt-ltb a from h, lt-ltb a (from + n) (omega arith)) refl) (λ (m : from ≤ a). ⊎_elim (λ (h : a < from + n). rw (le-leb low a l, le-ltb a from m, le-leb from a m, lt-ltb a (from + n) h) refl) (λ (h : from + n ≤ a). rw (le-leb low a l, le-ltb a from m, le-leb from a m, le-ltb a (from + n) h) refl) (cases_lt a (from + n))) (cases_lt a from)) (cases_lt a low)
-
--- up to the range's end, or nowhere where it is empty
-pub zeros_in-ended : (low from end a : ℕ) → low ≤ from → end ≤ from → from ≤ max low end → zeros_in (between low from) a ≡ zeros_in (between low end) a
-zeros_in-ended low from end a le ended within =
-    ⊎_elim (λ (h : a < low). rw (lt-leb low a h) refl) (λ (l : low ≤ a). ⊎_elim (λ (h : end < from). rw (le-leb low a l, le-ltb a from (omega arith), le-ltb a end (omega arith)) refl) (λ (h : from ≤ end). let same : from ≡ end = omega arith in ap (λ e. zeros_in (between low e) a) same) (cases_lt end from)) (cases_lt a low)

@@ -10,14 +10,6 @@ pub first-after : (x : Entry) (one other : List Entry) (place : ℕ)
     → IsFirstDifference one other place → IsFirstDifference (x ∷ one) (x ∷ other) (suc place)
 first-after x one other place first = record { before = ap (λ list. x ∷ list) first.before; there = first.there }
 
--- two turns at two program counters differ at once
-pub pcs-differ : (a b : Observation) (one other : List Observation) → (a.pc ≡ b.pc → ⊥)
-    → IsFirstDifference (entries_of (a ∷ one)) (entries_of (b ∷ other)) 0
-pcs-differ a b one other apart = record { before = refl; there = λ e. apart (inner e) }
-  where
-    inner : Some (program_counter a.pc) ≡ Some (program_counter b.pc) → a.pc ≡ b.pc
-    inner e = cc
-
 not_an_event : (e : Event) (seen : List Observation) → slice_get (entries_of seen) 0 ≡ Some (event e) → ⊥
 not_an_event e [] same = cc
 not_an_event e (o ∷ seen) same = cc

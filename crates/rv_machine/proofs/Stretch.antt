@@ -1,13 +1,10 @@
 -- Numbers in one stretch of bytes.
 use Rattle.std.specs.Prelude.{is_some}
-use Rattle.std.proofs.Common.{◌≡◌, ◌≢◌, ℕ, zero, suc, ◌+◌, ◌-◌, ◌<◌, ◌≤◌, List, length, get_or, Option, Some, None, true, refl, sym, ap, ◌∙◌, ⊎_elim, arith}
-use Rattle.std.proofs.Math.ListN.{set, length-set}
-use Rattle.std.proofs.Math.Path.{fun_ext}
-use Rattle.std.proofs.lemmas.Bool.{cases_eq, cases_lt, le-leb, lt-leb}
-use Rattle.std.proofs.lemmas.List.{get_or-set_same, get_or-set_other}
+use Rattle.std.proofs.Common.{◌≡◌, ℕ, zero, suc, ◌+◌, ◌-◌, ◌<◌, ◌≤◌, List, length, get_or, Option, Some, None, true, refl, ap, ◌∙◌, ⊎_elim, arith}
+use Rattle.std.proofs.lemmas.Bool.{cases_lt, le-leb, lt-leb}
 use Rattle.std.proofs.lemmas.Option.{slice_get-get_or, slice_get_past}
-use Rattle.rv_machine.specs.Bytes.{joined, number_at, with_byte}
-use Rattle.rv_machine.proofs.ByteLaws.{number_at-suc, number_at-zero, with_byte_same, with_byte_other}
+use Rattle.rv_machine.specs.Bytes.{joined, number_at}
+use Rattle.rv_machine.proofs.ByteLaws.{number_at-suc, number_at-zero, joined-none}
 use Rattle.rv_machine.specs.Flat.{bytes_from}
 use Rattle.rv_machine.specs.Sizes.{byte_count}
 use Rattle.rv_machine.specs.declared.memory.Size.{Size}
@@ -35,10 +32,6 @@ module _ (base : ℕ) (items : List ℕ) where
       let at : a - base ≡ k = omega arith in
       rw (le-leb base a (omega arith), at) (slice_get-get_or items k 0 h)
 
-  joined-none : (o : Option ℕ) → joined o None ≡ None
-  joined-none (Some b) = refl
-  joined-none None = refl
-
   -- where a byte lies outside, there is no number
   pub number_outside : (n a : ℕ) → 0 < n → (base ≤ a × (a + n ≤ base + length items) → ⊥) → number_at (bytes_from base items) n a ≡ None
   number_outside zero a some out = absurd (omega arith)
@@ -54,17 +47,3 @@ module _ (base : ℕ) (items : List ℕ) where
       let bytes = bytes_from base items in
       let here = byte_within a (a - base) (omega arith) (omega arith) in
       ap is_some (number_at-suc bytes n a ∙ ap (λ o. joined o (number_at bytes n (a + 1))) here) ∙ some-joined (get_or items (a - base) 0) (number_at bytes n (a + 1)) ∙ number_within n (a + 1) (omega arith) (omega arith)
-
--- where two lists agree, so do their bytes
-same_byte : (base : ℕ) (old new : List ℕ) (x : ℕ) → length new ≡ length old → (base ≤ x → get_or new (x - base) 0 ≡ get_or old (x - base) 0) → bytes_from base new x ≡ bytes_from base old x
-same_byte base old new x len same =
-    ⊎_elim (λ (low : x < base). below base new x low ∙ sym (below base old x low)) (λ (low : base ≤ x). ⊎_elim (λ (high : x < base + length old). byte_within base new x (x - base) (omega arith) (omega arith) ∙ ap Some (same low) ∙ sym (byte_within base old x (x - base) (omega arith) (omega arith))) (λ (high : base + length old ≤ x). above base new x (omega arith) ∙ sym (above base old x high)) (cases_lt x (base + length old))) (cases_lt x base)
-
--- a byte that is written
-pub bytes_from-set : (base : ℕ) (items : List ℕ) (a k b : ℕ) → a ≡ base + k → k < length items → bytes_from base (set items k b) ≡ with_byte (bytes_from base items) a b
-bytes_from-set base items a k b e h =
-    let new = set items k b in
-    let len : length new ≡ length items = simp length-set in
-    let here = λ (x : ℕ) (same : x ≡ a). byte_within base new x k (same ∙ e) (omega arith) ∙ ap Some (get_or-set_same items k b 0 h) ∙ sym (with_byte_same (bytes_from base items) a b x same) in
-    let elsewhere = λ (x : ℕ) (other : x ≢ a). same_byte base items new x len (λ low. get_or-set_other items k (x - base) b 0 (λ same. other (omega arith))) ∙ sym (with_byte_other (bytes_from base items) a b x other) in
-    fun_ext (λ x. ⊎_elim (here x) (elsewhere x) (cases_eq x a))

@@ -1,8 +1,10 @@
+pub mod Apart
 pub mod Bytes
 pub mod Decoded
 pub mod Effects
 pub mod Entries
 pub mod Flat
+pub mod HartRecording
 pub mod Harts
 pub mod Leakage
 pub mod ListRecording
@@ -13,6 +15,8 @@ pub mod Plans
 pub mod Recording
 pub mod Regions
 pub mod Registers
+pub mod RunningHarts
 pub mod SignedWords
 pub mod Sizes
 pub mod Stops
+pub mod System

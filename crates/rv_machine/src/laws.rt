@@ -1,6 +1,6 @@
 // Laws of the machine, which hold of the definitions alone.
 
-ghost use Rattle.std.specs.Prelude.{◌≡◌, ◌≢◌, ◌↔◌, ℕ, ◌+◌, ◌%◌, ◌^◌, ◌≤◌, ◌⊎◌, Bool, true, false, List, ◌∷◌, [], ◌++◌, length, Option, Some, is_some};
+ghost use Rattle.std.specs.Prelude.{◌≡◌, ◌≢◌, ◌↔◌, ℕ, ◌+◌, ◌%◌, ◌^◌, ◌<◌, ◌≤◌, ◌⊎◌, Bool, true, false, List, All, ◌∷◌, [], ◌++◌, length, take, Option, Some, None, is_some, slice_get};
 ghost use Rattle.rv_code.specs.declared.instructions.Instr.{Instr};
 ghost use Rattle.rv_code.specs.declared.operations.UpperOperation.{UpperOperation};
 ghost use Rattle.rv_code.specs.declared.operations.BranchTest.{BranchTest};
@@ -12,7 +12,9 @@ ghost use Rattle.rv_code.specs.declared.operations.DivideOperation.{DivideOperat
 ghost use Rattle.rv_code.specs.declared.operations.LoadOperation.{LoadOperation};
 ghost use Rattle.rv_code.specs.declared.operations.StoreOperation.{StoreOperation};
 ghost use Rattle.rv_machine.specs.declared.observation.Observation.{Observation};
+ghost use Rattle.rv_machine.specs.declared.hart_recording.HartObservation.{HartObservation};
 ghost use Rattle.rv_machine.specs.declared.stops.Stop.{Stop};
+ghost use Rattle.rv_machine.specs.Apart.{AreApart, KeepsInside, IsAsAlone, ShowTheSame};
 ghost use Rattle.rv_machine.specs.Bytes.{ByteMap, number_at, with_number};
 ghost use Rattle.rv_machine.specs.Effects.{sign_extended, upper_value, immediate_value, shift_value, register_value, multiply_value, divide_value, holds, load_size, loaded_value, store_size, address_of, jump_target, branch_target, register_target};
 ghost use Rattle.rv_machine.specs.Entries.{Entry, entries_of, IsFirstDifference};
@@ -21,6 +23,7 @@ ghost use Rattle.rv_machine.specs.Machine.{State, Code, IsAt, Ending, Turn, here
 ghost use Rattle.rv_machine.specs.Recording.{kept};
 ghost use Rattle.rv_machine.specs.Registers.{register};
 ghost use Rattle.rv_machine.specs.Sizes.{byte_count};
+ghost use Rattle.rv_machine.specs.System.{Member, System, state_in, Follows, Makes, turns_of};
 
 use crate::observation::Event;
 use crate::stops::Stop;
@@ -151,6 +154,15 @@ pub fn instructions_turn()
     ensures ebreak { (code : Code) (s : State) → IsAt code s.pc Instr.Ebreak → Halts code 1 s (here s) Stop.Break s }
 {}
 
+/// What a schedule shows and where it ends are one, and every schedule of numbers that harts have has
+/// an end.
+pub fn one_end_of_a_schedule()
+    ensures one { (schedule : List ℕ) (s t u : System) (a b : List HartObservation)
+        → Follows schedule s a t → Follows schedule s b u → (a ≡ b) × (t ≡ u) }
+    ensures end { (schedule : List ℕ) (s : System) → All (λ number. number < length s.members) schedule
+        → (seen : List HartObservation) × (end : System) × Follows schedule s seen end }
+{}
+
 /// What was stored is loaded, and what lies apart from it is as it was.
 pub fn numbers_in_bytes()
     ensures there { (bytes : ByteMap) (n a v : ℕ) → number_at (with_number bytes n a v) n a ≡ Some (v % 256 ^ n) }
@@ -158,4 +170,28 @@ pub fn numbers_in_bytes()
         → number_at (with_number bytes n a v) m x ≡ number_at bytes m x }
     ensures extent { (bytes : ByteMap) (n a v x : ℕ) → is_some (number_at bytes n a) ≡ true
         → is_some (with_number bytes n a v x) ≡ is_some (bytes x) }
+{}
+
+/// Harts over one memory, each with bytes of its own that no other hart reaches. After any schedule each is what it is alone
+/// after as many turns as the schedule names it. Two such systems whose harts alone show the same show one list.
+pub fn harts_are_as_alone()
+    ensures alone { (own : ℕ → ByteMap) (schedule : List ℕ) (s end : System) (list : List HartObservation) (k : ℕ) (m : Member)
+        → AreApart own s → Follows schedule s list end → slice_get s.members k ≡ Some m
+        → IsAsAlone k (turns_of k schedule) (own k) m list end }
+    ensures shown { (own own' : ℕ → ByteMap) (schedule : List ℕ) (s s' end end' : System) (list list' : List HartObservation)
+        → AreApart own s → AreApart own' s'
+        → ((k : ℕ) (m m' : Member) → slice_get s.members k ≡ Some m → slice_get s'.members k ≡ Some m' → ShowTheSame (own k) m (own' k) m')
+        → Follows schedule s list end → Follows schedule s' list' end' → list ≡ list' }
+{}
+
+/// A hart alone whose run stops: it reaches for no other bytes unless that is how it stops, however many turns it makes it has shown a
+/// beginning of the run's list, an observation a turn, and once it has made the run's turns it is where the run stopped.
+pub fn harts_halt()
+    ensures inside { (m : Member) (own : ByteMap) (n : ℕ) (seen : List Observation) (stop : Stop) (t : State)
+        → m.stop ≡ None → Halts m.code n (state_in own m) seen stop t → stop ≢ Stop.AccessFault → KeepsInside own m }
+    ensures shown { (m after : Member) (own bytes : ByteMap) (n k : ℕ) (seen list : List Observation) (stop : Stop) (t : State)
+        → m.stop ≡ None → Halts m.code n (state_in own m) seen stop t → Makes k own m list bytes after → list ≡ take k seen }
+    ensures stopped { (m after : Member) (own bytes : ByteMap) (n k : ℕ) (seen list : List Observation) (stop : Stop) (t : State)
+        → m.stop ≡ None → Halts m.code n (state_in own m) seen stop t → Makes k own m list bytes after → n ≤ k
+        → (after.stop ≡ Some stop) × (bytes ≡ t.bytes) × (list ≡ seen) }
 {}

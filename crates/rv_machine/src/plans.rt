@@ -39,6 +39,17 @@ pub struct Plan {
     pub change: Change,
 }
 
+/// The plan of a turn that shows its program counter alone.
+#[inline(always)]
+fn unseen(change: Change) -> Plan
+    ensures { result ≡ record { event = None; change = change } }
+{
+    Plan {
+        event: None,
+        change,
+    }
+}
+
 /// The plan of a load.
 #[inline(always)]
 fn load_plan<M: Memory>(memory: &M, operation: LoadOperation, rd: Reg, a: u32) -> Plan
@@ -49,16 +60,10 @@ fn load_plan<M: Memory>(memory: &M, operation: LoadOperation, rd: Reg, a: u32) -
 {
     let size = load_size(operation);
     if a % size.bytes() != 0 {
-        return Plan {
-            event: None,
-            change: Change::Stops(Stop::Misaligned),
-        };
+        return unseen(Change::Stops(Stop::Misaligned));
     }
     let Some(value) = memory.load(a, size) else {
-        return Plan {
-            event: None,
-            change: Change::Stops(Stop::AccessFault),
-        };
+        return unseen(Change::Stops(Stop::AccessFault));
     };
     Plan {
         event: Some(Event::Load(a, size)),
@@ -76,16 +81,10 @@ fn store_plan<M: Memory>(memory: &M, operation: StoreOperation, a: u32, value: u
 {
     let size = store_size(operation);
     if a % size.bytes() != 0 {
-        return Plan {
-            event: None,
-            change: Change::Stops(Stop::Misaligned),
-        };
+        return unseen(Change::Stops(Stop::Misaligned));
     }
     if memory.load(a, size).is_none() {
-        return Plan {
-            event: None,
-            change: Change::Stops(Stop::AccessFault),
-        };
+        return unseen(Change::Stops(Stop::AccessFault));
     }
     Plan {
         event: Some(Event::Store(a, size)),
@@ -103,15 +102,9 @@ fn arriving(target: u32, change: Change) -> Plan
     ensures calm { stop_of result.change ≢ Some Stop.RecorderRefused }
 {
     if target % 4 == 0 {
-        Plan {
-            event: None,
-            change,
-        }
+        unseen(change)
     } else {
-        Plan {
-            event: None,
-            change: Change::Stops(Stop::Misaligned),
-        }
+        unseen(Change::Stops(Stop::Misaligned))
     }
 }
 
@@ -124,30 +117,18 @@ fn effect_plan<M: Memory>(hart: &Hart, effect: Effect, memory: &M) -> Plan
     ensures calm { stop_of result.change ≢ Some Stop.RecorderRefused }
 {
     match effect {
-        Effect::Computes(rd, value) => Plan {
-            event: None,
-            change: Change::Writes(rd, value),
-        },
+        Effect::Computes(rd, value) => unseen(Change::Writes(rd, value)),
         Effect::Divides(rd, a, b, value) => Plan {
             event: Some(Event::Div(a, b)),
             change: Change::Writes(rd, value),
         },
         Effect::Jumps(rd, target) => arriving(target, Change::Links(rd, target)),
         Effect::Branches(target) => arriving(target, Change::Goes(target)),
-        Effect::Passes => Plan {
-            event: None,
-            change: Change::Goes(hart.next()),
-        },
+        Effect::Passes => unseen(Change::Goes(hart.next())),
         Effect::Loads(operation, rd, a) => load_plan(memory, operation, rd, a),
         Effect::Stores(operation, a, value) => store_plan(memory, operation, a, value),
-        Effect::Calls => Plan {
-            event: None,
-            change: Change::Stops(Stop::Ecall),
-        },
-        Effect::Breaks => Plan {
-            event: None,
-            change: Change::Stops(Stop::Break),
-        },
+        Effect::Calls => unseen(Change::Stops(Stop::Ecall)),
+        Effect::Breaks => unseen(Change::Stops(Stop::Break)),
     }
 }
 
@@ -162,9 +143,6 @@ pub(crate) fn plan_of<M: Memory>(hart: &Hart, word: &CodeWord, memory: &M) -> Pl
 {
     match word {
         CodeWord::Instruction(instr) => effect_plan(hart, effect_of(hart, instr), memory),
-        CodeWord::Other(_) => Plan {
-            event: None,
-            change: Change::Stops(Stop::Illegal),
-        },
+        CodeWord::Other(_) => unseen(Change::Stops(Stop::Illegal)),
     }
 }

@@ -2,6 +2,8 @@
 use Rattle.std.proofs.Common.{None, sym, ap, ◌∙◌}
 use Rattle.rv_machine.specs.Harts.{state_of, pc_of, regs_of}
 use Rattle.rv_machine.specs.Machine.{ending_of, goes_on, observed, moved_to}
+use Rattle.rv_machine.specs.declared.plans.Plan.{Plan}
+use Rattle.rv_machine.specs.Plans.{ends_as}
 use Rattle.rv_machine.proofs.EndingLaws.{ending_of-Computes, ending_of-Divides, ending_of-Passes, ending_of-Calls, ending_of-Breaks}
 use Rattle.rv_machine.proofs.PlanLaws.{jump_ends, branch_ends}
 use Rattle.rv_machine.proofs.plans.effect_plan.Goals as goal
@@ -9,7 +11,7 @@ use Rattle.rv_machine.proofs.plans.effect_plan.Goals as goal
 pub returns-in-Computes-clause-ends : goal.returns-in-Computes-clause-ends
 returns-in-Computes-clause-ends g c =
     let s = state_of c.args.hart.now (g.M.Memory.bytes c.args.memory.now) in
-    sym (ap (λ e. ending_of e s) c.in-Computes.is ∙ ending_of-Computes c.in-Computes.rd c.in-Computes.value s)
+    ap (λ (p : Plan). ends_as p.event p.change s) c.unseen.ensures ∙ sym (ap (λ e. ending_of e s) c.in-Computes.is ∙ ending_of-Computes c.in-Computes.rd c.in-Computes.value s)
 
 pub returns-in-Divides-clause-ends : goal.returns-in-Divides-clause-ends
 returns-in-Divides-clause-ends g c =
@@ -29,7 +31,7 @@ returns-in-Branches-clause-ends g c =
 pub returns-in-Passes-clause-ends : goal.returns-in-Passes-clause-ends
 returns-in-Passes-clause-ends g c =
     let s = state_of c.args.hart.now (g.M.Memory.bytes c.args.memory.now) in
-    ap (λ p. goes_on (observed s None) (moved_to s p)) c.next.ensures ∙ sym (ap (λ e. ending_of e s) c.in-Passes.is ∙ ending_of-Passes s)
+    ap (λ (p : Plan). ends_as p.event p.change s) c.unseen-in-Passes.ensures ∙ ap (λ p. goes_on (observed s None) (moved_to s p)) c.next.ensures ∙ sym (ap (λ e. ending_of e s) c.in-Passes.is ∙ ending_of-Passes s)
 
 pub returns-in-Loads-clause-ends : goal.returns-in-Loads-clause-ends
 returns-in-Loads-clause-ends g c =
@@ -44,9 +46,9 @@ returns-in-Stores-clause-ends g c =
 pub returns-in-Calls-clause-ends : goal.returns-in-Calls-clause-ends
 returns-in-Calls-clause-ends g c =
     let s = state_of c.args.hart.now (g.M.Memory.bytes c.args.memory.now) in
-    sym (ap (λ e. ending_of e s) c.in-Calls.is ∙ ending_of-Calls s)
+    ap (λ (p : Plan). ends_as p.event p.change s) c.unseen-in-Calls.ensures ∙ sym (ap (λ e. ending_of e s) c.in-Calls.is ∙ ending_of-Calls s)
 
 pub returns-in-Breaks-clause-ends : goal.returns-in-Breaks-clause-ends
 returns-in-Breaks-clause-ends g c =
     let s = state_of c.args.hart.now (g.M.Memory.bytes c.args.memory.now) in
-    sym (ap (λ e. ending_of e s) c.in-Breaks.is ∙ ending_of-Breaks s)
+    ap (λ (p : Plan). ends_as p.event p.change s) c.unseen-in-Breaks.ensures ∙ sym (ap (λ e. ending_of e s) c.in-Breaks.is ∙ ending_of-Breaks s)

@@ -3,6 +3,8 @@ use Rattle.std.proofs.Common.{◌≡◌, ◌%◌, Some, sym, ap, ◌∙◌}
 use Rattle.rv_machine.specs.declared.observation.Event.TheVariants.{Load}
 use Rattle.rv_machine.specs.Machine.{State, goes_on, observed, with_value}
 use Rattle.rv_machine.specs.Sizes.{byte_count}
+use Rattle.rv_machine.specs.declared.plans.Plan.{Plan}
+use Rattle.rv_machine.specs.Plans.{ends_as}
 use Rattle.rv_machine.proofs.EndingLaws.{load_misaligned, load_outside, load_done}
 use Rattle.rv_machine.proofs.plans.load_plan.Goals as goal
 
@@ -11,14 +13,14 @@ returns-then-a-bytes-ne0-clause-ends g c = λ pc regs.
     let s : State = record { pc = pc; regs = regs; bytes = g.M.Memory.bytes c.args.memory.now } in
     let n = c.load_size-size.result in
     let odd = λ (h : c.args.a % byte_count n ≡ 0). c.if-a-bytes-ne0.true (ap (λ k. c.args.a % k) c.bytes.ensures ∙ h) in
-    sym (load_misaligned c.args.operation c.args.rd c.args.a s n c.load_size-size.ensures odd)
+    ap (λ (p : Plan). ends_as p.event p.change s) c.unseen.ensures ∙ sym (load_misaligned c.args.operation c.args.rd c.args.a s n c.load_size-size.ensures odd)
 
 pub returns-in_default-clause-ends : goal.returns-in_default-clause-ends
 returns-in_default-clause-ends g c = λ pc regs.
     let s : State = record { pc = pc; regs = regs; bytes = g.M.Memory.bytes c.args.memory.now } in
     let n = c.load_size-size.result in
     let even = ap (λ k. c.args.a % k) (sym c.bytes.ensures) ∙ c.if-a-bytes-ne0.false in
-    sym (load_outside c.args.operation c.args.rd c.args.a s n c.load_size-size.ensures even (sym c.load.ensures.number ∙ c.in_default.is))
+    ap (λ (p : Plan). ends_as p.event p.change s) c.unseen-in_default.ensures ∙ sym (load_outside c.args.operation c.args.rd c.args.a s n c.load_size-size.ensures even (sym c.load.ensures.number ∙ c.in_default.is))
 
 pub returns-clause-ends : goal.returns-clause-ends
 returns-clause-ends g c = λ pc regs.

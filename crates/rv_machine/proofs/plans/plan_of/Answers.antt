@@ -1,10 +1,12 @@
 -- A turn is an instruction's, or that of a word that is none.
-use Rattle.std.proofs.Common.{Some, ap, subst, ◌∙◌}
+use Rattle.std.proofs.Common.{Some, sym, ap, subst, ◌∙◌}
 use Rattle.rv_machine.specs.declared.code.CodeWord.TheVariants.{Instruction, Other}
 use Rattle.rv_machine.specs.Decoded.{spelled, IsDecoded}
 use Rattle.rv_machine.specs.Effects.{effect_of}
 use Rattle.rv_machine.specs.Harts.{state_of}
-use Rattle.rv_machine.specs.Machine.{ending_of, no_instruction, executes}
+use Rattle.rv_machine.specs.Machine.{ending_of, Turn, no_instruction, executes}
+use Rattle.rv_machine.specs.Plans.{ends_as}
+use Rattle.rv_machine.specs.declared.plans.Plan.{Plan}
 use Rattle.rv_machine.proofs.plans.plan_of.Goals as goal
 
 pub returns-in-Instruction-clause-turn : goal.returns-in-Instruction-clause-turn
@@ -17,5 +19,7 @@ returns-in-Instruction-clause-turn g c = λ code even there decoded.
 
 pub returns-in-Other-clause-turn : goal.returns-in-Other-clause-turn
 returns-in-Other-clause-turn g c = λ code even there decoded.
+    let s = state_of c.args.hart.now (g.M.Memory.bytes c.args.memory.now) in
     let none : IsDecoded (Other c.in-Other.field-0) = subst IsDecoded c.in-Other.is decoded in
-    no_instruction even (there ∙ ap (λ w. Some (spelled w)) c.in-Other.is) none
+    let illegal = no_instruction even (there ∙ ap (λ w. Some (spelled w)) c.in-Other.is) none in
+    subst (λ (p : Plan). Turn code s (ends_as p.event p.change s)) (sym c.unseen.ensures) illegal

@@ -2,6 +2,8 @@
 use Rattle.std.proofs.Common.{◌≡◌, ◌%◌, is_some, sym, ap, ◌∙◌}
 use Rattle.rv_machine.specs.Machine.{State}
 use Rattle.rv_machine.specs.Sizes.{byte_count}
+use Rattle.rv_machine.specs.declared.plans.Plan.{Plan}
+use Rattle.rv_machine.specs.Plans.{ends_as}
 use Rattle.rv_machine.proofs.EndingLaws.{store_misaligned, store_outside, store_done}
 use Rattle.rv_machine.proofs.plans.store_plan.Goals as goal
 
@@ -10,7 +12,7 @@ returns-then-a-bytes-ne0-clause-ends g c = λ pc regs.
     let s : State = record { pc = pc; regs = regs; bytes = g.M.Memory.bytes c.args.memory.now } in
     let n = c.store_size-size.result in
     let odd = λ (h : c.args.a % byte_count n ≡ 0). c.if-a-bytes-ne0.true (ap (λ k. c.args.a % k) c.bytes.ensures ∙ h) in
-    sym (store_misaligned c.args.operation c.args.a c.args.value s n c.store_size-size.ensures odd)
+    ap (λ (p : Plan). ends_as p.event p.change s) c.unseen.ensures ∙ sym (store_misaligned c.args.operation c.args.a c.args.value s n c.store_size-size.ensures odd)
 
 pub returns-then-is_none-clause-ends : goal.returns-then-is_none-clause-ends
 returns-then-is_none-clause-ends g c = λ pc regs.
@@ -18,7 +20,7 @@ returns-then-is_none-clause-ends g c = λ pc regs.
     let n = c.store_size-size.result in
     let even = ap (λ k. c.args.a % k) (sym c.bytes.ensures) ∙ c.if-a-bytes-ne0.false in
     let none = ap is_some (sym c.load.ensures.number) ∙ c.if-is_none.ensures in
-    sym (store_outside c.args.operation c.args.a c.args.value s n c.store_size-size.ensures even none)
+    ap (λ (p : Plan). ends_as p.event p.change s) c.unseen-then-is_none.ensures ∙ sym (store_outside c.args.operation c.args.a c.args.value s n c.store_size-size.ensures even none)
 
 pub returns-clause-ends : goal.returns-clause-ends
 returns-clause-ends g c = λ pc regs.

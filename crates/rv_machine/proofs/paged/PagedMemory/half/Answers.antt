@@ -3,6 +3,7 @@ use Rattle.std.proofs.Common.{◌≡◌, ◌+◌, ◌^◌, ◌<◌, ◌≤◌, S
 use Rattle.std.proofs.lemmas.Bool.{cases_lt}
 use Rattle.rv_machine.specs.Bytes.{joined, number_at}
 use Rattle.rv_machine.specs.Paged.{paged_bytes}
+use Rattle.rv_machine.proofs.ByteLaws.{joined-none}
 use Rattle.rv_machine.proofs.Pages as pages
 use Rattle.rv_machine.proofs.paged.PagedMemory.half.Goals as goal
 
@@ -21,14 +22,14 @@ returns-in_err-checked_add-clause-number c =
     let bytes = paged_bytes c.args.self.now in
     let past : 2 ^ 32 ≤ c.args.a + 1 = ⊎_elim (λ (h : c.args.a + 1 < 2 ^ 32). absurd (c.in_err-checked_add.ensures h)) (λ (h : 2 ^ 32 ≤ c.args.a + 1). h) (cases_lt (c.args.a + 1) (2 ^ 32)) in
     let none = pages.number_at-past c.args.self.now.pages.items 0 (c.args.a + 1) past in
-    c.from_residual-in_err-checked_add.ensures ∙ sym (pages.number_at-two bytes c.args.a ∙ ap (joined (number_at bytes 1 c.args.a)) none ∙ pages.joined-none (number_at bytes 1 c.args.a))
+    c.from_residual-in_err-checked_add.ensures ∙ sym (pages.number_at-two bytes c.args.a ∙ ap (joined (number_at bytes 1 c.args.a)) none ∙ joined-none (number_at bytes 1 c.args.a))
 
 pub returns-in_err-high-clause-number : goal.returns-in_err-high-clause-number
 returns-in_err-high-clause-number c =
     let bytes = paged_bytes c.args.self.now in
     let next : c.in_ok-checked_add.field-0 ≡ c.args.a + 1 = omega (arith, c.in_ok-checked_add.ensures) in
     let none : number_at bytes 1 (c.args.a + 1) ≡ None = ap (number_at bytes 1) (sym next) ∙ sym c.in_err-high.ensures.number in
-    c.from_residual-in_err-high.ensures ∙ sym (pages.number_at-two bytes c.args.a ∙ ap (joined (number_at bytes 1 c.args.a)) none ∙ pages.joined-none (number_at bytes 1 c.args.a))
+    c.from_residual-in_err-high.ensures ∙ sym (pages.number_at-two bytes c.args.a ∙ ap (joined (number_at bytes 1 c.args.a)) none ∙ joined-none (number_at bytes 1 c.args.a))
 
 pub returns-clause-number : goal.returns-clause-number
 returns-clause-number c =
