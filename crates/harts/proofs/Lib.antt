@@ -1,0 +1,7 @@
+mod EndLemmas
+mod EveryScheduleLemmas
+mod FrameLemmas
+pub mod Numbering
+pub mod RefusalLemmas
+pub mod SharedFrames
+mod SystemLemmas

@@ -1,0 +1,43 @@
+-- Refusals, by the place where the check has come to.
+use Rattle.std.proofs.Common.{◌≢◌, ℕ, ◌<◌, ◌≤◌, List, length, take, get_or, All, Ok, Err, Result, IfErr, lt-ltb, le-ltb, refl}
+use Rattle.std.specs.Prelude.{Bool}
+use Rattle.std.proofs.lemmas.Option.{slice_get-get_or}
+use Rattle.rv_machine.specs.declared.hart_recording.HartObservation.{HartObservation}
+use Rattle.harts.specs.Refused.{most_turns, RefusesSchedule, of_entry, Refuses}
+use Rattle.harts.specs.RunHarts.{RunsHarts, refused, out_of_memory}
+use Rattle.harts.specs.SideBySide.{Job}
+use Rattle.harts.specs.declared.fault.HartsFault.{HartsFault}
+use Rattle.harts.specs.declared.fault.HartsFault.TheVariants.{Schedule, Argument, Memory}
+use Rattle.harts.specs.declared.fault.HartsRule.TheVariants.{NoSuchHart, TooManyTurns}
+
+module _ (harts : ℕ) (schedule : List ℕ) (at : ℕ) (inside : at < length schedule) (before : All (λ number. number < harts) (take at schedule)) (near : at ≤ most_turns) where
+  pub no_such_hart : harts ≤ get_or schedule at 0 → RefusesSchedule harts schedule (Schedule NoSuchHart at)
+  no_such_hart above =
+      of_entry (record {
+        number = get_or schedule at 0;
+        there = slice_get-get_or schedule at 0 inside;
+        broken = rw (le-ltb (get_or schedule at 0) harts above) refl;
+        before = before;
+        near = near;
+      })
+
+  pub too_many_turns : get_or schedule at 0 < harts → most_turns ≤ at → RefusesSchedule harts schedule (Schedule TooManyTurns at)
+  too_many_turns named far =
+      of_entry (record {
+        number = get_or schedule at 0;
+        there = slice_get-get_or schedule at 0 inside;
+        broken = rw (lt-ltb (get_or schedule at 0) harts named, le-ltb at most_turns far) refl;
+        before = before;
+        near = near;
+      })
+
+-- what the check before the run refuses is refused, and it may want memory
+pub refused_before : (jobs : List Job) (schedule : List ℕ) (keeps : Bool) (list : List HartObservation) (fault : HartsFault) → (fault ≢ Memory → Refuses jobs schedule fault) → RunsHarts jobs schedule keeps list (Err fault) list
+refused_before jobs schedule keeps list (Schedule rule at) because = refused (because (λ e. cc))
+refused_before jobs schedule keeps list (Argument hart rule index) because = refused (because (λ e. cc))
+refused_before jobs schedule keeps list Memory because = out_of_memory
+
+-- each fault that is answered, for another reason
+pub if_err_so : {A : Type 0} (P Q : HartsFault → Type 0) → ((fault : HartsFault) → P fault → Q fault) → (r : Result A HartsFault) → IfErr r P → IfErr r Q
+if_err_so P Q so (Ok x) holds = tt
+if_err_so P Q so (Err fault) holds = so fault holds

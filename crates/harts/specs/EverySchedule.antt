@@ -1,0 +1,50 @@
+-- What is promised of the images of accepted texts side by side, under any schedule.
+use Rattle.std.specs.Prelude.{◌≡◌, ℕ, ◌+◌, ◌<◌, ◌≤◌, List, [], ◌∷◌, Some, All, slice_get}
+use Rattle.arguments.specs.Agreement.{Agree}
+use Rattle.arguments.specs.Within.{AreWithin}
+use Rattle.codegen.specs.Bases.{IsInside}
+use Rattle.codegen.specs.Loaded.{params_of, results_in}
+use Rattle.harts.specs.SideBySide.{frame_base_of, Job, loaded_alone, member_of}
+use Rattle.hepurita.specs.Built.{IsBuilt}
+use Rattle.hepurita.specs.Compiled.{Means}
+use Rattle.image.specs.Reading.{Spells}
+use Rattle.language.specs.Tree.{ProgramTree}
+use Rattle.rv_machine.specs.Bytes.{ByteMap}
+use Rattle.rv_machine.specs.System.{Member, System, Makes, of_hart, turns_of}
+use Rattle.rv_machine.specs.declared.hart_recording.HartObservation.{HartObservation}
+use Rattle.rv_machine.specs.declared.observation.Observation.{Observation}
+use Rattle.rv_machine.specs.declared.stops.Stop.TheVariants.{Ecall}
+
+-- the image of an accepted text, with arguments within its parameter types
+pub record IsFromText (job : Job) : Type 0 where
+  pub text : List ℕ
+  pub bytes : List ℕ
+  pub built : IsBuilt text bytes
+  pub spelled : Spells bytes job.image
+  pub within : AreWithin (params_of job.image) job.args
+
+-- what the hart of this number has come to under a schedule, and has shown, is what it comes to alone in as many turns as the
+-- schedule names it: its program counter, its registers, its stop and the bytes of its frame. It stays inside its frame, and once it was
+-- given as many turns as its image states, it has stopped with what its program means
+pub record IsAlone (program : ProgramTree) (k : ℕ) (job : Job) (schedule : List ℕ) (list : List HartObservation) (end : System) : Type 0 where
+  pub bytes : ByteMap
+  pub member : Member
+  pub seen : List Observation
+  pub makes : Makes (turns_of k schedule) (loaded_alone k job).bytes (member_of k job) seen bytes member
+  pub there : slice_get end.members k ≡ Some member
+  pub frame : (a : ℕ) → frame_base_of k ≤ a → a < frame_base_of k + job.image.frame_bytes → end.bytes a ≡ bytes a
+  pub shown : of_hart k list ≡ seen
+  pub within_frame : All (λ (o : Observation). IsInside (frame_base_of k) job.image.frame_bytes o.event) seen
+  pub finished : job.image.max_steps ≤ turns_of k schedule → (member.stop ≡ Some Ecall) × Means program job.args (results_in (frame_base_of k) job.image end.bytes)
+
+-- two jobs of one image that an observer is allowed to tell apart by nothing
+pub record JobsAgree (one other : Job) : Type 0 where
+  pub image : one.image ≡ other.image
+  pub args : Agree (params_of one.image) one.args other.args
+
+-- job by job
+abbrev pub AllAgree : List Job → List Job → Type 0
+AllAgree [] [] = Unit {0}
+AllAgree [] (b ∷ other) = ⊥
+AllAgree (a ∷ one) [] = ⊥
+AllAgree (a ∷ one) (b ∷ other) = JobsAgree a b × AllAgree one other

@@ -1,0 +1,45 @@
+// What is promised of the images of accepted texts side by side.
+
+ghost use Rattle.std.specs.Prelude.{◌≡◌, ℕ, ◌≤◌, Bool, List, length, Some, Ok, slice_get};
+ghost use Rattle.std.specs.List.{AllByRecursion};
+ghost use Rattle.harts.specs.EverySchedule.{AllAgree, IsAlone, IsFromText};
+ghost use Rattle.harts.specs.RunHarts.{RunsHarts};
+ghost use Rattle.harts.specs.SideBySide.{Job, system_of};
+ghost use Rattle.harts.specs.declared.ends.HartEnd.{HartEnd};
+ghost use Rattle.hepurita.specs.Bases.{most_images};
+ghost use Rattle.hepurita.specs.Compiled.{Means};
+ghost use Rattle.language.specs.Results.{Results};
+ghost use Rattle.rv_machine.specs.Bytes.{ByteMap};
+ghost use Rattle.rv_machine.specs.System.{Member, System, Follows, Makes, turns_of};
+ghost use Rattle.rv_machine.specs.declared.hart_recording.HartObservation.{HartObservation};
+ghost use Rattle.rv_machine.specs.declared.observation.Observation.{Observation};
+
+use rv_machine::Stop;
+
+/// Every schedule: images of accepted texts side by side on one memory, on arguments within their parameter types, their turns
+/// interleaved as a schedule says. Each hart is what it is alone after as many turns, and alone there is one such state. Where
+/// each hart's arguments are equal where they are public, an observer sees one and the same list; so one who chooses the
+/// schedule by what was seen learns no more.
+pub fn every_schedule()
+    ensures alone { (jobs : List Job) (schedule : List ℕ) (list : List HartObservation) (end : System) (k : ℕ) (job : Job) (from : IsFromText job)
+        → length jobs ≤ most_images → AllByRecursion IsFromText jobs → Follows schedule (system_of jobs) list end
+        → slice_get jobs k ≡ Some job → IsAlone from.built.program k job schedule list end }
+    ensures one_alone { (n : ℕ) (own bytes bytes' : ByteMap) (m after after' : Member) (seen seen' : List Observation)
+        → Makes n own m seen bytes after → Makes n own m seen' bytes' after' → (seen ≡ seen') × (bytes ≡ bytes') × (after ≡ after') }
+    ensures equal_leakage { (one other : List Job) (schedule : List ℕ) (list list' : List HartObservation) (end end' : System)
+        → length one ≤ most_images → AllByRecursion IsFromText one → AllAgree one other
+        → Follows schedule (system_of one) list end → Follows schedule (system_of other) list' end' → list ≡ list' }
+{}
+
+/// What `run_harts` answers and records of images of accepted texts, on arguments within their parameter types: a hart that the
+/// schedule gave as many turns as its image states has stopped with the outcome that its text means. Where each hart's arguments are equal
+/// where they are public, one and the same list is recorded.
+pub fn harts_do_what_texts_mean()
+    ensures ended { (jobs : List Job) (schedule : List ℕ) (keeps : Bool) (list list' : List HartObservation) (ends : List HartEnd) (k : ℕ) (job : Job) (from : IsFromText job)
+        → AllByRecursion IsFromText jobs → RunsHarts jobs schedule keeps list (Ok ends) list'
+        → slice_get jobs k ≡ Some job → job.image.max_steps ≤ turns_of k schedule
+        → (results : Results) × Means from.built.program job.args results × (slice_get ends k ≡ Some (record { stop = Some Stop.Ecall; outcome = Some results })) }
+    ensures recorded { (one other : List Job) (schedule : List ℕ) (keeps : Bool) (list after after' : List HartObservation) (ends ends' : List HartEnd)
+        → AllByRecursion IsFromText one → AllAgree one other
+        → RunsHarts one schedule keeps list (Ok ends) after → RunsHarts other schedule keeps list (Ok ends') after' → after ≡ after' }
+{}
