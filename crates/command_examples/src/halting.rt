@@ -7,12 +7,12 @@ use streams::ByteSink;
 const TEXT: &[u8] = b"export public uint32 f() { return 1; }";
 
 /// An image with no parameter and no result, whose code calls the environment at its second word.
-const PLAIN_IMAGE: [u8; 35] = [
+pub const PLAIN_IMAGE: [u8; 35] = [
     0x46, 0x41, 0x43, 0x49, 1, 0, 1, 0, 0, 0, 0, 0, 0, 0, 0, 2, 0, 0, 0, 0, 0, 0, 0, 2, 0, 0, 0,
     0x93, 0, 0x10, 0, 0x73, 0, 0, 0,
 ];
 
-const SLOW: Motion = Motion {
+pub const SLOW: Motion = Motion {
     slow: true,
     good_reads: None,
     good_writes: None,

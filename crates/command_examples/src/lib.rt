@@ -9,4 +9,6 @@ mod listings;
 #[cfg(test)]
 mod memory_files;
 #[cfg(test)]
+mod side_by_side;
+#[cfg(test)]
 mod slow_streams;

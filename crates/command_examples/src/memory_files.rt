@@ -21,11 +21,15 @@ pub const FAST: Motion = Motion {
     good_writes: None,
 };
 
-/// Files in memory. Each can be read, with the same bytes, and each can be written.
+/// The path of a file that says which harts run.
+pub const PLAN: &str = "plan";
+
+/// Files in memory. Each can be read, all but that of harts with the same bytes, and each can be written.
 #[derive(Drop)]
 pub struct MemoryFiles {
     alloc: Global,
     bytes: Vec<u8>,
+    plan: Vec<u8>,
     motion: Motion,
     pub created: u64,
     pub written: ByteSink,
@@ -33,10 +37,21 @@ pub struct MemoryFiles {
 
 impl MemoryFiles {
     pub fn new(rt: &(impl Abort + AllocGlobal), bytes: &[u8], motion: Motion) -> Self {
+        MemoryFiles::with_plan(rt, b"", bytes, motion)
+    }
+
+    /// With a file of harts, too.
+    pub fn with_plan(
+        rt: &(impl Abort + AllocGlobal),
+        plan: &[u8],
+        bytes: &[u8],
+        motion: Motion,
+    ) -> Self {
         let alloc = rt.alloc();
         MemoryFiles {
             alloc,
             bytes: Vec::from_slice(alloc, bytes).expect(rt, "memory for a file"),
+            plan: Vec::from_slice(alloc, plan).expect(rt, "memory for a file of harts"),
             motion,
             created: 0,
             written: ByteSink::new(alloc),
@@ -49,8 +64,13 @@ impl Files for MemoryFiles {
 
     type Sink = SlowSink;
 
-    fn open(&mut self, _path: &str) -> Result<Self::Source, SourceFault> {
-        match Vec::from_slice(self.alloc, self.bytes.as_slice()) {
+    fn open(&mut self, path: &str) -> Result<Self::Source, SourceFault> {
+        let bytes = if path == PLAN {
+            self.plan.as_slice()
+        } else {
+            self.bytes.as_slice()
+        };
+        match Vec::from_slice(self.alloc, bytes) {
             Ok(bytes) => Ok(SlowSource::new(
                 ByteSource::new(bytes),
                 self.motion.slow,

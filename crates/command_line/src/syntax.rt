@@ -16,7 +16,8 @@ pub fn factc<'a>(alloc: Global) -> Result<Command<'a>, AllocError> {
         .subcommand(run_command(alloc)?)?
         .subcommand(leak_command(alloc)?)?
         .subcommand(pair_command(alloc)?)?
-        .subcommand(list_command(alloc)?)
+        .subcommand(list_command(alloc)?)?
+        .subcommand(harts_command(alloc)?)
 }
 
 fn check_command<'a>(alloc: Global) -> Result<Command<'a>, AllocError> {
@@ -84,6 +85,19 @@ fn list_command<'a>(alloc: Global) -> Result<Command<'a>, AllocError> {
     Command::new(alloc, "list")
         .about("Lists the code of an image: each word with its address and its instruction")
         .arg(path(alloc, "IMAGE", "An image that `build` wrote"))
+}
+
+fn harts_command<'a>(alloc: Global) -> Result<Command<'a>, AllocError> {
+    Command::new(alloc, "harts")
+        .about(
+            "Runs several images side by side on one memory, and lists what an observer sees of each",
+        )
+        .arg(path(
+            alloc,
+            "FILE",
+            "Lines `hart IMAGE ARG..`, one for each image, then `turns K N` for N turns of hart K, from 0, and \
+             `round N` for N times one turn of each",
+        ))
 }
 
 fn path<'a>(alloc: Global, name: &'a str, help: &'a str) -> Arg<'a> {

@@ -31,6 +31,9 @@ pub enum Request<'a> {
     List {
         image: &'a str,
     },
+    Harts {
+        file: &'a str,
+    },
 }
 
 /// Why the words ask for no command, with the text that is to be printed.
@@ -93,6 +96,9 @@ fn asked<'a>(alloc: Global, words: &'a [&'a str]) -> Result<Request<'a>, Error> 
         }),
         Some(("list", list)) => Ok(Request::List {
             image: text_of(list, "IMAGE"),
+        }),
+        Some(("harts", harts)) => Ok(Request::Harts {
+            file: text_of(harts, "FILE"),
         }),
         _ => Err(command.error(ErrorKind::MissingSubcommand, "a command is required")?),
     }

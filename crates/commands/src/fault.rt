@@ -1,3 +1,6 @@
+use arguments::ArgumentFault;
+use harts::HartsFault;
+use harts_file::PlanFault;
 use hepurita::RunFault;
 use image::ImageFault;
 use language::{Refusal, Rule};
@@ -24,6 +27,8 @@ pub enum Fault<'a> {
     Image(ImageFault),
     Run(RunFault),
     Eval(EvalFault),
+    Plan(PlanFault),
+    Harts(HartsFault),
     File(FileFault<'a>),
 }
 
@@ -52,6 +57,14 @@ impl Fault<'_> {
             → self.now ≡ Fault.Eval (EvalFault.NoMeaning place) → result ≡ 1 }
         ensures eval_budget { self.now ≡ Fault.Eval EvalFault.Budget → result ≡ 1 }
         ensures eval_memory { self.now ≡ Fault.Eval EvalFault.Memory → result ≡ 4 }
+        ensures line { (rule : _) (line : _)
+            → self.now ≡ Fault.Plan (PlanFault.Line rule line) → result ≡ 1 }
+        ensures plan_memory { self.now ≡ Fault.Plan PlanFault.Memory → result ≡ 4 }
+        ensures schedule { (rule : _) (at : _)
+            → self.now ≡ Fault.Harts (HartsFault.Schedule rule at) → result ≡ 1 }
+        ensures hart_argument { (hart : _) (rule : _) (index : _)
+            → self.now ≡ Fault.Harts (HartsFault.Argument hart rule index) → result ≡ 1 }
+        ensures harts_memory { self.now ≡ Fault.Harts HartsFault.Memory → result ≡ 4 }
         ensures file { (fault : _) → self.now ≡ Fault.File fault → result ≡ 3 }
     {
         match self {
@@ -71,6 +84,11 @@ impl Fault<'_> {
             Fault::Eval(EvalFault::Argument(_)) => 1,
             Fault::Eval(EvalFault::NoMeaning(_)) => 1,
             Fault::Eval(EvalFault::Budget) => 1,
+            Fault::Plan(PlanFault::Line { .. }) => 1,
+            Fault::Plan(PlanFault::Memory) => 4,
+            Fault::Harts(HartsFault::Schedule { .. }) => 1,
+            Fault::Harts(HartsFault::Argument { .. }) => 1,
+            Fault::Harts(HartsFault::Memory) => 4,
             Fault::File(_) => 3,
         }
     }
@@ -85,8 +103,26 @@ impl fmt::Display for Fault<'_> {
             Fault::Run(RunFault::Stopped(stop)) => write!(f, "stopped: {stop:?}"),
             Fault::Run(fault) => write!(f, "refused: {fault}"),
             Fault::Eval(fault) => write!(f, "refused: {fault}"),
+            Fault::Plan(fault) => write!(f, "refused: {fault}"),
+            Fault::Harts(fault) => write_harts_fault(f, fault),
             Fault::File(fault) => write!(f, "file: {fault}"),
         }
+    }
+}
+
+/// Writes why harts were not run, which the reader of their file leaves to want of memory.
+fn write_harts_fault<W: fmt::Write>(f: &mut fmt::Formatter<W>, fault: &HartsFault) -> fmt::Result {
+    match *fault {
+        HartsFault::Schedule { rule, at } => {
+            let code = rule.code();
+            let name = rule.name();
+            write!(f, "refused: {code} at turn {at}: {name}")
+        }
+        HartsFault::Argument { rule, index, .. } => {
+            let fault = ArgumentFault { rule, index };
+            write!(f, "refused: {fault}")
+        }
+        HartsFault::Memory => f.write_str("refused: M1: memory"),
     }
 }
 
@@ -111,6 +147,18 @@ impl From<RunFault> for Fault<'_> {
 impl From<EvalFault> for Fault<'_> {
     fn from(fault: EvalFault) -> Self {
         Fault::Eval(fault)
+    }
+}
+
+impl From<PlanFault> for Fault<'_> {
+    fn from(fault: PlanFault) -> Self {
+        Fault::Plan(fault)
+    }
+}
+
+impl From<HartsFault> for Fault<'_> {
+    fn from(fault: HartsFault) -> Self {
+        Fault::Harts(fault)
     }
 }
 

@@ -8,6 +8,7 @@ mod fault;
 mod files;
 mod outcome;
 mod performing;
+mod side_by_side;
 
 pub use fault::{Fault, FileFault};
 pub use files::Files;

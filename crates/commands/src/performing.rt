@@ -3,6 +3,7 @@ ghost use Rattle.std.specs.Prelude.{◌≡◌, ◌≤◌, IfOk, OnOk};
 use crate::fault::{Fault, FileFault};
 use crate::files::Files;
 use crate::outcome;
+use crate::side_by_side::{run_side_by_side, whole_text};
 use arguments::ArgumentRule;
 use command_line::{NoRequest, Request, parse};
 use hepurita::{RunFault, execute, judge, pair, read_args};
@@ -22,9 +23,9 @@ const STANDARD_OUTPUT: &str = "-";
 const EVALUATION_BUDGET: u64 = 1 << 32;
 
 /// The exit status of what is done, and that of a run that is listed and stops otherwise than by ECALL.
-const DONE: u8 = 0;
+pub const DONE: u8 = 0;
 
-const STOPPED: u8 = 5;
+pub const STOPPED: u8 = 5;
 
 const OUT_OF_MEMORY: &str = "refused: M1: memory\n";
 
@@ -42,10 +43,13 @@ pub fn command<'a, F: Files, O: Sink, E: Sink>(
     ensures calm { result ≡ 0 → O.failures out.new ≡ O.failures out.old }
 {
     match parse(alloc, words) {
-        Ok(request) => match perform(alloc, request, files, out) {
-            Ok(status) => status,
-            Err(fault) => report(alloc, &fault, err),
-        },
+        Ok(request) => {
+            let mut text = String::new(alloc);
+            match perform(alloc, request, files, &mut text, out) {
+                Ok(status) => status,
+                Err(fault) => report(alloc, &fault, err),
+            }
+        }
         Err(said) => explain(alloc, said, out, err),
     }
 }
@@ -87,11 +91,12 @@ fn explain<O: Sink, E: Sink>(alloc: Global, said: NoRequest, out: &mut O, err: &
 }
 
 /// Does what is asked for, and answers the exit status. Only a run that is listed, and stops otherwise
-/// than by ECALL, has another one than 0.
+/// than by ECALL, has another one than 0. A file of harts is read into `text`, since a fault names paths that stand in it.
 fn perform<'a, F: Files, O: Sink>(
     alloc: Global,
     request: Request<'a>,
     files: &mut F,
+    text: &'a mut String,
     out: &mut O,
 ) -> Result<u8, Fault<'a>>
     ensures known { IfOk result (λ status. status ≤ 5) }
@@ -122,11 +127,16 @@ fn perform<'a, F: Files, O: Sink>(
             let lines = list_image(alloc, image, files)?;
             print(out, lines.as_slice())?;
         }
+        Request::Harts { file } => {
+            *text = whole_text(alloc, file, files)?;
+            return run_side_by_side(alloc, text.as_str(), files, out);
+        }
     }
     Ok(DONE)
 }
 
-fn print<O: Sink>(out: &mut O, bytes: &[u8]) -> Result<(), Fault<'static>>
+/// Prints bytes to standard output.
+pub fn print<O: Sink>(out: &mut O, bytes: &[u8]) -> Result<(), Fault<'static>>
     ensures { OnOk result (O.failures out.new ≡ O.failures out.old) }
 {
     match put_all(out, bytes) {
@@ -303,13 +313,18 @@ fn counted_on(fault: RunFault, before: usize) -> RunFault {
     }
 }
 
-fn image_of<'a, F: Files>(alloc: Global, path: &'a str, files: &mut F) -> Result<Image, Fault<'a>> {
+/// The image of a file.
+pub fn image_of<'a, F: Files>(
+    alloc: Global,
+    path: &'a str,
+    files: &mut F,
+) -> Result<Image, Fault<'a>> {
     let bytes = read_file(alloc, path, LONGEST_IMAGE + 1, files)?;
     Ok(image::read(alloc, bytes.as_slice())?)
 }
 
 /// The bytes of a file, to their end or to the limit.
-fn read_file<'a, F: Files>(
+pub fn read_file<'a, F: Files>(
     alloc: Global,
     path: &'a str,
     limit: usize,

@@ -14,4 +14,5 @@ mod words;
 pub use fault::LeakFault;
 pub use laws::leaks_agree;
 pub use leaking::leak;
+pub use lines::{Lines, lines_of, stop_line};
 pub use words::list;

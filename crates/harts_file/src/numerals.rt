@@ -1,0 +1,14 @@
+// Decimal numbers of any length.
+
+/// The number that decimal digits spell. One past the greatest `u64` is given as that.
+pub fn decimal(text: &str) -> Option<u64> {
+    if text.is_empty() {
+        return None;
+    }
+    let mut number = 0u64;
+    for byte in text.as_bytes() {
+        let digit = char::from(*byte).to_digit(10)?;
+        number = number.saturating_mul(10).saturating_add(u64::from(digit));
+    }
+    Some(number)
+}
