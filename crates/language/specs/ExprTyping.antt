@@ -3,7 +3,7 @@
 use Rattle.std.specs.Prelude.{ℕ, Bool, false, not, ◌&&◌, ◌||◌, ◌^◌, nat_lt, List, [], ◌∷◌, ◌++◌, Option, None, Some, is_some}
 use Rattle.std.specs.Option.{option_map}
 use Rattle.language.specs.declared.rule.Rule.{Rule}
-use Rattle.language.specs.declared.rule.Rule.TheVariants.{UndeclaredName, WidthsDiffer, WrongKind, LiteralOutOfRange, SecretIndex, SecretDivisionOperand}
+use Rattle.language.specs.declared.rule.Rule.TheVariants.{UndeclaredName, WidthsDiffer, WrongKind, LiteralOutOfRange, SecretIndex, SecretDivisionOperand, SecretMultiplicationOperand}
 use Rattle.language.specs.declared.signature.Kind.{Kind}
 use Rattle.language.specs.declared.signature.Kind.TheVariants.{Boolean}
 use Rattle.language.specs.declared.signature.Label.TheVariants.{Public}
@@ -16,6 +16,8 @@ use Rattle.language.specs.declared.typing.Operation.TheVariants.{Arithmetic, Mul
 use Rattle.language.specs.declared.typing.ValueType.{ValueType}
 use Rattle.language.specs.declared.typing.VariableType.{VariableType}
 use Rattle.language.specs.declared.typing.Violation.{Violation}
+use Rattle.word.specs.declared.profile.Profile.{Profile}
+use Rattle.word.specs.declared.profile.Profile.TheVariants.{P1, P2}
 use Rattle.language.specs.Tree.{ExprTree, number, truth, name, prefix, binary, rotate, convert, select, element}
 use Rattle.language.specs.Types.{Scope, found, variable, bits_of, word, joined, is_numeric, is_bool, is_array, is_narrow, is_hidden, kind_of, label_of, widths_differ, are_alike, when, at, unless, of_one, of_two, of_three, with_type}
 
@@ -70,12 +72,24 @@ divides_secret Equality a b = false
 divides_secret Order a b = false
 divides_secret Logic a b = false
 
+-- a product of something secret, where the observer sees the operands of multiplications
+abbrev pub multiplies_secret : Profile → Operation → ValueType → ValueType → Bool
+multiplies_secret P1 operation a b = false
+multiplies_secret P2 Arithmetic a b = false
+multiplies_secret P2 Multiplication a b = is_hidden a || is_hidden b
+multiplies_secret P2 Division a b = false
+multiplies_secret P2 Shift a b = false
+multiplies_secret P2 Equality a b = false
+multiplies_secret P2 Order a b = false
+multiplies_secret P2 Logic a b = false
+
 -- the rules of a node between two operands
-abbrev pub operation_rules : Operation → ValueType → ValueType → List Rule
-operation_rules operation a b =
+abbrev pub operation_rules : Profile → Operation → ValueType → ValueType → List Rule
+operation_rules profile operation a b =
     when (is_uneven operation a b) WidthsDiffer
     ++ when (not (takes operation a b)) WrongKind
     ++ when (divides_secret operation a b) SecretDivisionOperand
+    ++ when (multiplies_secret profile operation a b) SecretMultiplicationOperand
 
 -- the kind of what it gives
 abbrev pub operation_kind : Operation → Kind → Kind
@@ -87,12 +101,12 @@ operation_kind Equality kind = Boolean
 operation_kind Order kind = Boolean
 operation_kind Logic kind = Boolean
 
-abbrev pub binary_rules : BinaryOperator → ValueType → ValueType → List Rule
-binary_rules operator a b = operation_rules (operation_of operator) a b
+abbrev pub binary_rules : Profile → BinaryOperator → ValueType → ValueType → List Rule
+binary_rules profile operator a b = operation_rules profile (operation_of operator) a b
 
-abbrev pub binary_type : BinaryOperator → ValueType → ValueType → Option ValueType
-binary_type operator a b =
-    unless (binary_rules operator a b) (word (operation_kind (operation_of operator) (kind_of a)) (joined (label_of a) (label_of b)))
+abbrev pub binary_type : Profile → BinaryOperator → ValueType → ValueType → Option ValueType
+binary_type profile operator a b =
+    unless (binary_rules profile operator a b) (word (operation_kind (operation_of operator) (kind_of a)) (joined (label_of a) (label_of b)))
 
 -- `!` wants a bool, `~` and `-` want a number
 abbrev pub prefix_rules : PrefixOperator → ValueType → List Rule
@@ -163,7 +177,7 @@ type_of scope (name place text) = name_type scope text
 type_of scope (prefix place operator operand) =
     of_one None (prefix_type operator) (type_of scope operand)
 type_of scope (binary place operator left right) =
-    of_two None (binary_type operator) (type_of scope left) (type_of scope right)
+    of_two None (binary_type scope.profile operator) (type_of scope left) (type_of scope right)
 type_of scope (rotate place operand amount) =
     of_one None (rotate_type amount) (type_of scope operand)
 type_of scope (convert place kind operand) =
@@ -187,7 +201,7 @@ expr_violations scope (prefix place operator operand) =
     expr_violations scope operand ++ at place (of_one [] (prefix_rules operator) (type_of scope operand))
 expr_violations scope (binary place operator left right) =
     expr_violations scope left ++ expr_violations scope right
-    ++ at place (of_two [] (binary_rules operator) (type_of scope left) (type_of scope right))
+    ++ at place (of_two [] (binary_rules scope.profile operator) (type_of scope left) (type_of scope right))
 expr_violations scope (rotate place operand amount) =
     expr_violations scope operand ++ at place (of_one [] (rotate_rules amount) (type_of scope operand))
 expr_violations scope (convert place kind operand) =

@@ -49,6 +49,11 @@ divides Divide = true
 divides Remainder = true
 divides _ = false
 
+-- a product
+abbrev pub multiplies : BinaryOperator → Bool
+multiplies Multiply = true
+multiplies _ = false
+
 abbrev pub binary_word : BinaryOperator → Word → Word → Word
 binary_word operator a b = record {
   kind = operation_kind (operation_of operator) a.kind;

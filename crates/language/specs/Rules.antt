@@ -4,7 +4,7 @@ use Rattle.word.specs.Places.{place_text}
 use Rattle.word.specs.declared.place.Place.{Place}
 use Rattle.language.specs.declared.rule.TheConstants.{ROWS}
 use Rattle.language.specs.declared.rule.Rule.{Rule}
-use Rattle.language.specs.declared.rule.Rule.TheVariants.{UnknownCharacter, BadNumber, UnexpectedToken, Nesting, TextTooLong, UndeclaredName, NameDeclaredTwice, ProcedureNotDeclaredEarlier, NotExactlyOneExport, WidthsDiffer, WrongKind, LiteralOutOfRange, ArgumentCount, ArrayShapeOrLabel, NotMutable, ReturnMismatch, ArrayPassedTwice, InitialiserCount, SecretToPublic, PublicAssignedUnderSecretControl, SecretIndex, SecretBound, SecretDivisionOperand, CallAssignsPublicUnderSecretControl, InlinedSize, DeclaredBytes, IndexOutOfRange, DivisorMayBeZero, TooMuchWork, OutOfMemory}
+use Rattle.language.specs.declared.rule.Rule.TheVariants.{UnknownCharacter, BadNumber, UnexpectedToken, Nesting, TextTooLong, UndeclaredName, NameDeclaredTwice, ProcedureNotDeclaredEarlier, NotExactlyOneExport, WidthsDiffer, WrongKind, LiteralOutOfRange, ArgumentCount, ArrayShapeOrLabel, NotMutable, ReturnMismatch, ArrayPassedTwice, InitialiserCount, SecretToPublic, PublicAssignedUnderSecretControl, SecretIndex, SecretBound, SecretDivisionOperand, CallAssignsPublicUnderSecretControl, SecretMultiplicationOperand, InlinedSize, DeclaredBytes, IndexOutOfRange, DivisorMayBeZero, TooMuchWork, OutOfMemory}
 
 -- the rule's number in the order of their declaration
 abbrev pub rank_of : Rule → ℕ
@@ -32,12 +32,13 @@ rank_of SecretIndex = 20
 rank_of SecretBound = 21
 rank_of SecretDivisionOperand = 22
 rank_of CallAssignsPublicUnderSecretControl = 23
-rank_of InlinedSize = 24
-rank_of DeclaredBytes = 25
-rank_of IndexOutOfRange = 26
-rank_of DivisorMayBeZero = 27
-rank_of TooMuchWork = 28
-rank_of OutOfMemory = 29
+rank_of SecretMultiplicationOperand = 24
+rank_of InlinedSize = 25
+rank_of DeclaredBytes = 26
+rank_of IndexOutOfRange = 27
+rank_of DivisorMayBeZero = 28
+rank_of TooMuchWork = 29
+rank_of OutOfMemory = 30
 
 -- its short code
 abbrev pub code_of : Rule → List ℕ

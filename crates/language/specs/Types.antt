@@ -3,6 +3,7 @@ use Rattle.std.specs.Prelude.{ℕ, Bool, true, false, not, ◌&&◌, ◌||◌, �
 use Rattle.std.specs.Str.{bytes_eq}
 use Rattle.std.specs.Map.{lookup}
 use Rattle.word.specs.declared.place.Place.{Place}
+use Rattle.word.specs.declared.profile.Profile.{Profile}
 use Rattle.language.specs.declared.rule.Rule.{Rule}
 use Rattle.language.specs.declared.signature.Kind.{Kind}
 use Rattle.language.specs.declared.signature.Kind.TheVariants.{Boolean, Uint8, Uint16, Uint32}
@@ -18,17 +19,26 @@ use Rattle.language.specs.declared.typing.Violation.{Violation}
 
 -- Scopes.
 
--- the names that may be used at a point, the earliest first
-abbrev pub Scope : Type 0
-Scope = List (List ℕ × Declared)
+-- the observer from whom secrets are kept, and the names that may be used at a point, the earliest first
+pub record Scope : Type 0 where
+  pub profile : Profile
+  pub names : List (List ℕ × Declared)
+
+-- where nothing is declared
+abbrev pub empty : Profile → Scope
+empty profile = record { profile = profile; names = [] }
 
 -- what a name stands for
 abbrev pub found : Scope → List ℕ → Option Declared
-found scope text = lookup (bytes_eq text) scope
+found scope text = lookup (bytes_eq text) scope.names
 
--- the scope after a declaration: of two declarations of a name the first keeps it
+-- the names after a declaration: of two declarations of a name the first keeps it
+abbrev pub with_name : List (List ℕ × Declared) → List ℕ → Declared → List (List ℕ × Declared)
+with_name names text what = if is_some (lookup (bytes_eq text) names) then names else names ++ (text, what) ∷ []
+
+-- the scope after a declaration
 abbrev pub declared : Scope → List ℕ → Declared → Scope
-declared scope text what = if is_some (found scope text) then scope else scope ++ (text, what) ∷ []
+declared scope text what = record { profile = scope.profile; names = with_name scope.names text what }
 
 -- the variable that a name stands for
 abbrev pub variable : Option Declared → Option VariableType

@@ -3,6 +3,7 @@ use Rattle.std.specs.Prelude.{ℕ, Bool, true, false, not, ◌&&◌, ◌||◌, �
 use Rattle.std.specs.List.{list_any, slice_get}
 use Rattle.std.specs.Str.{bytes_eq}
 use Rattle.word.specs.declared.place.Place.{Place}
+use Rattle.word.specs.declared.profile.Profile.{Profile}
 use Rattle.word.specs.Places.{origin}
 use Rattle.language.specs.declared.rule.Rule.{Rule}
 use Rattle.language.specs.declared.rule.Rule.TheVariants.{NameDeclaredTwice, ProcedureNotDeclaredEarlier, NotExactlyOneExport, WidthsDiffer, WrongKind, ArgumentCount, ArrayShapeOrLabel, NotMutable, ReturnMismatch, ArrayPassedTwice, InitialiserCount, SecretToPublic, PublicAssignedUnderSecretControl, SecretBound, CallAssignsPublicUnderSecretControl}
@@ -23,7 +24,7 @@ use Rattle.language.specs.declared.typing.Violation.{Violation}
 use Rattle.language.specs.declared.typing.WordType.{WordType}
 use Rattle.language.specs.ExprTyping.{name_type, name_rules, type_of, types_of, expr_violations, exprs_violations, element_rules, element_type}
 use Rattle.language.specs.Tree.{ExprTree, name, CallTree, RightTree, called, computed, StatementTree, declaration, array, assignment, element_assignment, call, conditional, loop, BlockTree, nothing, first, ParameterTree, ReturnTree, ProcedureTree, ProgramTree, written}
-use Rattle.language.specs.Types.{Scope, found, declared, variable, callee, same_kind, same_label, is_secret, joined, word, is_numeric, is_bool, is_array, is_narrow, is_hidden, kind_of, label_of, widths_differ, are_alike, when, at, unless, of_one, of_two, of_all}
+use Rattle.language.specs.Types.{Scope, empty, found, declared, variable, callee, same_kind, same_label, is_secret, joined, word, is_numeric, is_bool, is_array, is_narrow, is_hidden, kind_of, label_of, widths_differ, are_alike, when, at, unless, of_one, of_two, of_all}
 
 -- Values put where a type is wanted.
 
@@ -426,8 +427,8 @@ abbrev pub export_violations : List Place → List Violation
 export_violations [] = at origin (NotExactlyOneExport ∷ [])
 export_violations (place ∷ places) = too_many places
 
--- all the rules that a program violates
-abbrev pub violations : ProgramTree → List Violation
-violations program =
+-- all the rules that a program violates, where this is the observer
+abbrev pub violations : Profile → ProgramTree → List Violation
+violations profile program =
     export_violations (exports program.procedures)
-    ++ procedures_violations [] [] program.procedures
+    ++ procedures_violations [] (empty profile) program.procedures

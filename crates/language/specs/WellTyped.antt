@@ -3,6 +3,8 @@
 use Rattle.std.specs.Prelude.{◌≡◌, ℕ, ◌^◌, ◌<◌, ◌&&◌, ◌||◌, Bool, true, false, List, [], ◌∷◌, ◌++◌, length, Option, Some, None}
 use Rattle.std.specs.List.{slice_get}
 use Rattle.word.specs.declared.place.Place.{Place}
+use Rattle.word.specs.declared.profile.Profile.{Profile}
+use Rattle.word.specs.declared.profile.Profile.TheVariants.{P1, P2}
 use Rattle.language.specs.declared.signature.Form.{Form}
 use Rattle.language.specs.declared.signature.Form.TheVariants.{SingleWord, FixedArray, MutableArray}
 use Rattle.language.specs.declared.signature.Kind.{Kind}
@@ -23,7 +25,7 @@ use Rattle.language.specs.declared.typing.WordType.{WordType}
 use Rattle.language.specs.ExprTyping.{operation_of}
 use Rattle.language.specs.Grammatical.{IsNumberKind}
 use Rattle.language.specs.Tree.{ExprTree, number, truth, name, prefix, binary, rotate, convert, select, element, CallTree, RightTree, called, computed, StatementTree, declaration, array, assignment, element_assignment, call, conditional, loop, BlockTree, nothing, first, ParameterTree, ReturnTree, ProcedureTree, ProgramTree, written}
-use Rattle.language.specs.Types.{Scope, found, declared, bits_of, joined, word}
+use Rattle.language.specs.Types.{Scope, empty, found, declared, bits_of, joined, word}
 use Rattle.language.specs.Typing.{same_name, is_mutable, result_value, counter_as, parameter_as, scope_after, scope_after_all, with_procedure, body_scope, exports}
 
 -- Types.
@@ -49,27 +51,33 @@ pub data Suits : WordType → WordType → Type 0 where
 
 -- Operators.
 
+-- the operands of a multiplication may have these labels: they are public where the observer sees them
+pub data MayBeMultiplied : Profile → Label → Label → Type 0 where
+  unseen : {l m : Label} → MayBeMultiplied P1 l m
+  both_public : MayBeMultiplied P2 Public Public
+
 -- what an operation makes of two words
-pub data Makes : Operation → WordType → WordType → WordType → Type 0 where
+pub data Makes (profile : Profile) : Operation → WordType → WordType → WordType → Type 0 where
   arithmetic : {kind : Kind} {l m : Label}
       → IsNumberKind kind
-      → Makes Arithmetic (labelled kind l) (labelled kind m) (labelled kind (joined l m))
+      → Makes profile Arithmetic (labelled kind l) (labelled kind m) (labelled kind (joined l m))
   multiplication : {kind : Kind} {l m : Label}
       → IsNumberKind kind
-      → Makes Multiplication (labelled kind l) (labelled kind m) (labelled kind (joined l m))
+      → MayBeMultiplied profile l m
+      → Makes profile Multiplication (labelled kind l) (labelled kind m) (labelled kind (joined l m))
   division : {kind : Kind}
       → IsNumberKind kind
-      → Makes Division (labelled kind Public) (labelled kind Public) (labelled kind Public)
+      → Makes profile Division (labelled kind Public) (labelled kind Public) (labelled kind Public)
   shift : {kind : Kind} {l m : Label}
       → IsNumberKind kind
-      → Makes Shift (labelled kind l) (labelled Uint32 m) (labelled kind (joined l m))
+      → Makes profile Shift (labelled kind l) (labelled Uint32 m) (labelled kind (joined l m))
   equality : {kind : Kind} {l m : Label}
-      → Makes Equality (labelled kind l) (labelled kind m) (labelled Boolean (joined l m))
+      → Makes profile Equality (labelled kind l) (labelled kind m) (labelled Boolean (joined l m))
   order : {kind : Kind} {l m : Label}
       → IsNumberKind kind
-      → Makes Order (labelled kind l) (labelled kind m) (labelled Boolean (joined l m))
+      → Makes profile Order (labelled kind l) (labelled kind m) (labelled Boolean (joined l m))
   logic : {l m : Label}
-      → Makes Logic (labelled Boolean l) (labelled Boolean m) (labelled Boolean (joined l m))
+      → Makes profile Logic (labelled Boolean l) (labelled Boolean m) (labelled Boolean (joined l m))
 
 -- `!` takes a bool, `~` and `-` take a number
 abbrev pub Takes : PrefixOperator → Kind → Type 0
@@ -96,7 +104,7 @@ pub data HasType (scope : Scope) : ExprTree → ValueType → Type 0 where
   of_binary : {place : Place} {operator : BinaryOperator} {left right : ExprTree} {one other whole : WordType}
       → HasType scope left (Word one)
       → HasType scope right (Word other)
-      → Makes (operation_of operator) one other whole
+      → Makes scope.profile (operation_of operator) one other whole
       → HasType scope (binary place operator left right) (Word whole)
   of_rotation : {place : Place} {operand : ExprTree} {amount : ℕ} {kind : Kind} {label : Label}
       → HasType scope operand (word kind label)
@@ -287,8 +295,8 @@ pub data AreProcedures : List ProcedureTree → Scope → List ProcedureTree →
       → AreProcedures (earlier ++ p ∷ []) (with_procedure scope (length earlier) p) ps
       → AreProcedures earlier scope (p ∷ ps)
 
--- a program: one procedure is exported, and all are well typed
-pub record IsTypedProgram (program : ProgramTree) : Type 0 where
+-- a program, for an observer: one procedure is exported, and all are well typed
+pub record IsTypedProgram (profile : Profile) (program : ProgramTree) : Type 0 where
   pub export : Place
   pub exported : exports program.procedures ≡ export ∷ []
-  pub procedures : AreProcedures [] [] program.procedures
+  pub procedures : AreProcedures [] (empty profile) program.procedures

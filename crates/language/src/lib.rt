@@ -26,4 +26,4 @@ pub use typing::{
     ArrayType, Callee, Declared, Operation, ValueType, VariableType, Violation, WordType,
 };
 pub use values::{Arg, Args, Numbers, Outcome};
-pub use word::Place;
+pub use word::{Place, Profile};

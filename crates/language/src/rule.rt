@@ -4,7 +4,7 @@ ghost use Rattle.language.specs.Rules.{code_of, name_of, rank_of};
 use std::fmt;
 
 /// Why a text is refused. Rules on names, types and labels (from `UndeclaredName` to
-/// `CallAssignsPublicUnderSecretControl`) stand in the order in which they are asked at one place.
+/// `SecretMultiplicationOperand`) stand in the order in which they are asked at one place.
 #[derive(Clone, Copy, Debug, PartialEq, Eq)]
 pub enum Rule {
     UnknownCharacter,
@@ -31,6 +31,7 @@ pub enum Rule {
     SecretBound,
     SecretDivisionOperand,
     CallAssignsPublicUnderSecretControl,
+    SecretMultiplicationOperand,
     InlinedSize,
     DeclaredBytes,
     IndexOutOfRange,
@@ -40,7 +41,7 @@ pub enum Rule {
 }
 
 /// Each rule's short code, and what it says in a few words, in the order of the rules.
-const ROWS: [(&str, &str); 30] = [
+const ROWS: [(&str, &str); 31] = [
     ("X1", "unknown character"),
     ("X2", "bad number"),
     ("X3", "unexpected token"),
@@ -65,6 +66,7 @@ const ROWS: [(&str, &str); 30] = [
     ("L4", "secret bound"),
     ("L5", "secret division operand"),
     ("L6", "call assigns public under secret control"),
+    ("L7", "secret multiplication operand"),
     ("S1", "inlined size"),
     ("S2", "declared bytes"),
     ("I1", "index out of range"),

@@ -1,4 +1,4 @@
-// Words of 8, 16 and 32 bits, and what the language's operators make of them; and places in texts.
+// Words of 8, 16 and 32 bits, and what the language's operators make of them; places in texts; and for which observer code is made.
 //
 // It promises that each operator gives what its formula on whole numbers gives (`specs/Operators.antt`),
 // for all operands, and that `select` with a condition's mask takes the one word where the condition
@@ -13,6 +13,7 @@ pub mod conditions;
 pub mod laws;
 pub mod masks;
 pub mod place;
+pub mod profile;
 pub mod width;
 
 pub use arithmetic::{add, convert, divide, multiply, negate, remainder, subtract, wrap};
@@ -21,4 +22,5 @@ pub use comparisons::{at_least, at_most, equal, greater, less, unequal};
 pub use conditions::{both, either, from_bool, not};
 pub use masks::{mask_of, select};
 pub use place::Place;
+pub use profile::Profile;
 pub use width::Width;
