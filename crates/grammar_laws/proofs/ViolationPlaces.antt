@@ -2,6 +2,7 @@
 use Rattle.std.proofs.Common.{◌≡◌, ℕ, ◌+◌, List, [], ◌∷◌, ◌++◌, ◌||◌, length, Option, None, Some, is_some, nat_lt, refl, arith}
 use Rattle.word.specs.Places.{origin}
 use Rattle.word.specs.declared.place.Place.{Place}
+use Rattle.word.specs.declared.profile.Profile.{Profile}
 use Rattle.language.specs.declared.rule.Rule.{Rule}
 use Rattle.language.specs.declared.rule.Rule.TheVariants.{InlinedSize, DeclaredBytes, NameDeclaredTwice, NotExactlyOneExport}
 use Rattle.language.specs.declared.signature.Label.{Label}
@@ -12,7 +13,7 @@ use Rattle.language.specs.declared.typing.WordType.{WordType}
 use Rattle.language.specs.ExprTyping.{binary_rules, convert_rules, element_rules, element_type, expr_violations, exprs_violations, name_rules, name_type, number_rules, prefix_rules, rotate_rules, select_rules, type_of, types_of}
 use Rattle.language.specs.Size.{bodies_of, declared_bytes, extents_of, nodes_of, size_violations}
 use Rattle.language.specs.Tree.{ExprTree, number, truth, name, prefix, binary, rotate, convert, select, element, CallTree, RightTree, called, computed, StatementTree, declaration, array, assignment, element_assignment, call, conditional, loop, BlockTree, nothing, first, ParameterTree, ReturnTree, ProcedureTree, ProgramTree, written}
-use Rattle.language.specs.Types.{Scope, at, declared, found, of_all, of_one, of_three, of_two, variable, when}
+use Rattle.language.specs.Types.{Scope, at, declared, empty, found, of_all, of_one, of_three, of_two, variable, when}
 use Rattle.language.specs.Typing.{array_rules, assignment_rules, block_violations, body_scope, bounds_rules, call_rules, call_violations, condition_rules, control_under, counter_as, declaration_rules, element_assignment_rules, export_place, export_violations, exports, parameter_as, parameter_violations, procedure_rules, procedure_violations, procedures_violations, return_rules, return_violations, right_type, right_violations, scope_after, scope_after_all, statement_violations, too_many, violations, with_procedure}
 use Rattle.grammar_laws.proofs.Light.{AreLight, none, more, both}
 use Rattle.grammar_laws.specs.Heads.{in_block, in_call, in_expr, in_exprs, in_export, in_parameters, in_procedure, in_procedures, in_program, in_return, in_right, in_statement, in_values}
@@ -34,7 +35,7 @@ module _ (w : Place → ℕ) where
       both (expr scope operand (omega (arith, h))) (at_place place (omega (arith, h)) (of_one [] (prefix_rules operator) (type_of scope operand)))
   expr scope (binary place operator left right) h =
       both (both (expr scope left (omega (arith, h))) (expr scope right (omega (arith, h))))
-      (at_place place (omega (arith, h)) (of_two [] (binary_rules operator) (type_of scope left) (type_of scope right)))
+      (at_place place (omega (arith, h)) (of_two [] (binary_rules scope.profile operator) (type_of scope left) (type_of scope right)))
   expr scope (rotate place operand amount) h =
       both (expr scope operand (omega (arith, h))) (at_place place (omega (arith, h)) (of_one [] (rotate_rules amount) (type_of scope operand)))
   expr scope (convert place kind operand) h =
@@ -135,9 +136,9 @@ module _ (w : Place → ℕ) where
   one_export [] at_origin h = at_place origin at_origin (NotExactlyOneExport ∷ [])
   one_export (place ∷ places) at_origin h = further places (omega (arith, h))
 
-  pub violations_light : (program : ProgramTree) → in_program w program ≡ 0 → w origin ≡ 0 → AreAtLight (violations program)
-  violations_light program h at_origin =
-      both (one_export (exports program.procedures) at_origin (exports_light program.procedures h)) (procedures [] [] program.procedures h)
+  pub violations_light : (profile : Profile) (program : ProgramTree) → in_program w program ≡ 0 → w origin ≡ 0 → AreAtLight (violations profile program)
+  violations_light profile program h at_origin =
+      both (one_export (exports program.procedures) at_origin (exports_light program.procedures h)) (procedures [] (empty profile) program.procedures h)
 
   pub sizes_light : (before : List ProcedureTree) (p : ProcedureTree) → in_procedure w p ≡ 0 → AreAtLight (size_violations before p)
   sizes_light before p h =

@@ -6,9 +6,11 @@ use Rattle.std.specs.Option.{option_map}
 use Rattle.std.proofs.lemmas.List.{get_or-map, length-map, take-map}
 use Rattle.std.proofs.lemmas.Option.{slice_get-map, slice_get_read, slice_get_within}
 use Rattle.word.specs.declared.place.Place.{Place}
+use Rattle.word.specs.declared.profile.Profile.{Profile}
 use Rattle.language.specs.declared.tree.Procedure.{Procedure}
 use Rattle.language.specs.Signature.{exported}
 use Rattle.language.specs.Tree.{ProcedureTree, ProgramTree, procedure_tree}
+use Rattle.language.specs.Types.{empty}
 use Rattle.language.specs.Typing.{exports, export_place, export_violations, procedures_violations, violations}
 use Rattle.language.specs.declared.typing.Violation.{Violation}
 use Rattle.labels.specs.Exports.{export_index}
@@ -28,9 +30,9 @@ no_places before (p ∷ ps) none = by p.export _ none (no_places (before ++ p �
     by None rest is after = after is
     by (Some place) rest is after = cc
 
-pub has_export : (program : ProgramTree) → length (violations program) ≡ 0 → exported [] program.procedures ≡ None → ⊥
-has_export program typed none =
-    let both = length-append (export_violations (exports program.procedures)) (procedures_violations [] [] program.procedures) in
+pub has_export : (profile : Profile) (program : ProgramTree) → length (violations profile program) ≡ 0 → exported [] program.procedures ≡ None → ⊥
+has_export profile program typed none =
+    let both = length-append (export_violations (exports program.procedures)) (procedures_violations [] (empty profile) program.procedures) in
     let missing = ap (λ (places : List Place). length (export_violations places)) (no_places [] program.procedures none) in
     absurd (omega (arith, typed, both, missing))
 
@@ -104,15 +106,15 @@ parts_of P items index p inside is all =
 
 -- ---- what `check` has of a program after both looks at its procedures
 
-module _ (items slice : List Procedure) (same : slice ≡ items) where
+module _ (profile : Profile) (items slice : List Procedure) (same : slice ≡ items) where
   abbrev trees : List ProcedureTree
   trees = map procedure_tree items
 
   -- the first violation
-  pub seen_over : (a b : Option Violation) → a ≡ fold sooner None (export_violations (exports (map procedure_tree slice))) → b ≡ fold sooner a (procedures_violations [] [] (map procedure_tree slice)) → b ≡ fold sooner None (violations (record { procedures = trees }))
+  pub seen_over : (a b : Option Violation) → a ≡ fold sooner None (export_violations (exports (map procedure_tree slice))) → b ≡ fold sooner a (procedures_violations [] (empty profile) (map procedure_tree slice)) → b ≡ fold sooner None (violations profile (record { procedures = trees }))
   seen_over a b h k =
-      kept_over a b (export_violations (exports (map procedure_tree slice))) (procedures_violations [] [] (map procedure_tree slice)) h k
-      ∙ ap (λ (l : List Procedure). fold sooner None (violations (record { procedures = map procedure_tree l }))) same
+      kept_over a b (export_violations (exports (map procedure_tree slice))) (procedures_violations [] (empty profile) (map procedure_tree slice)) h k
+      ∙ ap (λ (l : List Procedure). fold sooner None (violations profile (record { procedures = map procedure_tree l }))) same
 
   indexed : (index : Option ℕ) → index ≡ export_index (exported [] (map procedure_tree slice)) → export_index (exported [] trees) ≡ index
   indexed index h = sym (h ∙ ap (λ (l : List Procedure). export_index (exported [] (map procedure_tree l))) same)
@@ -125,5 +127,5 @@ module _ (items slice : List Procedure) (same : slice ≡ items) where
       let many = length-map items procedure_tree in
       (at, omega (arith, inside, many))
 
-  pub one_exported : (found : Option ℕ) → found ≡ export_index (exported [] (map procedure_tree slice)) → found ≡ None → length (violations (record { procedures = trees })) ≡ 0 → ⊥
-  one_exported found h is typed = has_export (record { procedures = trees }) typed (no_index (exported [] trees) (indexed found h ∙ is))
+  pub one_exported : (found : Option ℕ) → found ≡ export_index (exported [] (map procedure_tree slice)) → found ≡ None → length (violations profile (record { procedures = trees })) ≡ 0 → ⊥
+  one_exported found h is typed = has_export profile (record { procedures = trees }) typed (no_index (exported [] trees) (indexed found h ∙ is))

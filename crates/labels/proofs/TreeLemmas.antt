@@ -1,6 +1,6 @@
 -- The trees of conditionals and loops, by the lists of their statements; and their names are gone after them.
 use Rattle.std.proofs.lemmas.List.Sums.{fold-append}
-use Rattle.std.proofs.Common.{◌≡◌, Bool, Option, Result, Ok, Err, OnOk, fold, true, false, ◌||◌, List, [], ◌∷◌, ◌++◌, Vec, Global, length, take, is_some, refl, sym, ap, ap₂, ◌∙◌}
+use Rattle.std.proofs.Common.{◌≡◌, ℕ, Bool, Option, Result, Ok, Err, OnOk, fold, true, false, ◌||◌, List, [], ◌∷◌, ◌++◌, Vec, Global, length, is_some, cond, refl, sym, ap, ap₂, ◌∙◌}
 use Rattle.std.proofs.lemmas.List.{append_assoc, append-nil}
 use Rattle.std.proofs.Math.Seq.{take-append_seam}
 use Rattle.word.specs.declared.place.Place.{Place}
@@ -17,61 +17,87 @@ use Rattle.language.specs.declared.typing.ValueType.{ValueType}
 use Rattle.language.specs.ExprTyping.{expr_violations, type_of}
 use Rattle.language.specs.Types.{Scope, at, declared, found, of_one, of_two, when}
 use Rattle.language.specs.Typing.{block_assigns, block_violations, bounds_rules, condition_rules, control_under, counter_as, declared_array, declared_as, parameter_as, scope_after, scope_after_all, statement_assigns, statement_violations, with_parameters}
+use Rattle.labels.specs.Shortened.{shortened}
 use Rattle.labels.specs.Sooner.{sooner}
 
--- a declaration only appends
-pub declared_more : (scope : Scope) (text : List _) (what : Declared) → (more : Scope) × (declared scope text what ≡ scope ++ more)
-declared_more scope text what = by (is_some (found scope text)) refl
-  where
-    by : (b : Bool) → is_some (found scope text) ≡ b → (more : Scope) × (declared scope text what ≡ scope ++ more)
-    by true is = rw is ([], sym (append-nil scope))
-    by false is = rw is ((text, what) ∷ [], refl)
+-- names, and what they stand for
+abbrev Names : Type 0
+Names = List (List ℕ × Declared)
 
-after_more : (scope : Scope) (s : StatementTree) → (more : Scope) × (scope_after scope s ≡ scope ++ more)
+-- a scope with other names, and with more
+abbrev pub with_names : Scope → Names → Scope
+with_names scope names = record { profile = scope.profile; names = names }
+
+abbrev pub extended : Scope → Names → Scope
+extended scope more = with_names scope (scope.names ++ more)
+
+extended_none : (scope : Scope) → scope ≡ extended scope []
+extended_none scope = ap (with_names scope) (sym (append-nil scope.names))
+
+extended_twice : (scope : Scope) (one other : Names) → extended (extended scope one) other ≡ extended scope (one ++ other)
+extended_twice scope one other = ap (with_names scope) (append_assoc scope.names one other)
+
+-- its earliest names are those that it had
+shortened_extended : (scope : Scope) (more : Names) → shortened (length scope.names) (extended scope more) ≡ scope
+shortened_extended scope more = ap (with_names scope) (take-append_seam scope.names more)
+
+-- a declaration only appends
+pub declared_more : (scope : Scope) (text : List ℕ) (what : Declared) → (more : Names) × (declared scope text what ≡ extended scope more)
+declared_more scope text what = by (is_some (found scope text))
+  where
+    by : (b : Bool) → (more : Names) × (with_names scope (cond b scope.names (scope.names ++ (text, what) ∷ [])) ≡ extended scope more)
+    by true = ([], extended_none scope)
+    by false = ((text, what) ∷ [], refl)
+
+after_more : (scope : Scope) (s : StatementTree) → (more : Names) × (scope_after scope s ≡ extended scope more)
 after_more scope (declaration place label mutable kind text right) = declared_more scope text (declared_as label mutable kind)
 after_more scope (array place label mutable kind size text values) = declared_more scope text (declared_array label mutable kind size)
-after_more scope (assignment place target text right) = ([], sym (append-nil scope))
-after_more scope (element_assignment place bracket target text index right) = ([], sym (append-nil scope))
-after_more scope (call c) = ([], sym (append-nil scope))
-after_more scope (conditional place condition accepted otherwise) = ([], sym (append-nil scope))
-after_more scope (loop place counter text low high body) = ([], sym (append-nil scope))
+after_more scope (assignment place target text right) = ([], extended_none scope)
+after_more scope (element_assignment place bracket target text index right) = ([], extended_none scope)
+after_more scope (call c) = ([], extended_none scope)
+after_more scope (conditional place condition accepted otherwise) = ([], extended_none scope)
+after_more scope (loop place counter text low high body) = ([], extended_none scope)
 
-pub all_more : (b : BlockTree) (scope : Scope) → (more : Scope) × (scope_after_all scope b ≡ scope ++ more)
-all_more nothing scope = ([], sym (append-nil scope))
+-- more names after more names
+one_after : (scope : Scope) (one other : Names) {middle whole : Scope} → whole ≡ extended middle other → middle ≡ extended scope one → whole ≡ extended scope (one ++ other)
+one_after scope one other later here = later ∙ ap (λ (front : Scope). extended front other) here ∙ extended_twice scope one other
+
+pub all_more : (b : BlockTree) (scope : Scope) → (more : Names) × (scope_after_all scope b ≡ extended scope more)
+all_more nothing scope = ([], extended_none scope)
 all_more (first s rest) scope =
     let one = after_more scope s in
     let others = all_more rest (scope_after scope s) in
-    (one.0 ++ others.0, others.1 ∙ ap (λ front. front ++ others.0) one.1 ∙ append_assoc scope one.0 others.0)
+    (one.0 ++ others.0, one_after scope one.0 others.0 others.1 one.1)
 
 -- the names before a block are the earliest of those after it
-pub scope_before : (scope : Scope) (b : BlockTree) → take (length scope) (scope_after_all scope b) ≡ scope
+pub scope_before : (scope : Scope) (b : BlockTree) → shortened (length scope.names) (scope_after_all scope b) ≡ scope
 scope_before scope b =
     let after = all_more b scope in
-    ap (take (length scope)) after.1 ∙ take-append_seam scope after.0
+    ap (shortened (length scope.names)) after.1 ∙ shortened_extended scope after.0
 
 -- so are those before a loop
-pub scope_before_turns : (scope : Scope) (text : List _) (what : Declared) (b : BlockTree) → take (length scope) (scope_after_all (declared scope text what) b) ≡ scope
+pub scope_before_turns : (scope : Scope) (text : List ℕ) (what : Declared) (b : BlockTree) → shortened (length scope.names) (scope_after_all (declared scope text what) b) ≡ scope
 scope_before_turns scope text what b =
     let one = declared_more scope text what in
     let others = all_more b (declared scope text what) in
-    ap (take (length scope)) (others.1 ∙ ap (λ front. front ++ others.0) one.1 ∙ append_assoc scope one.0 others.0)
-    ∙ take-append_seam scope (one.0 ++ others.0)
+    ap (shortened (length scope.names)) (one_after scope one.0 others.0 others.1 one.1)
+    ∙ shortened_extended scope (one.0 ++ others.0)
 
 -- parameters only append too
-parameters_more : (ps : List ParameterTree) (scope : Scope) → (more : Scope) × (with_parameters scope ps ≡ scope ++ more)
-parameters_more [] scope = ([], sym (append-nil scope))
+parameters_more : (ps : List ParameterTree) (scope : Scope) → (more : Names) × (with_parameters scope ps ≡ extended scope more)
+parameters_more [] scope = ([], extended_none scope)
 parameters_more (p ∷ ps) scope =
     let one = declared_more scope p.name (parameter_as p) in
     let others = parameters_more ps (declared scope p.name (parameter_as p)) in
-    (one.0 ++ others.0, others.1 ∙ ap (λ front. front ++ others.0) one.1 ∙ append_assoc scope one.0 others.0)
+    (one.0 ++ others.0, one_after scope one.0 others.0 others.1 one.1)
 
 -- so the names before the parameters are the earliest of those after the body
-pub scope_before_body : (scope : Scope) (ps : List ParameterTree) (b : BlockTree) → take (length scope) (scope_after_all (with_parameters scope ps) b) ≡ scope
+pub scope_before_body : (scope : Scope) (ps : List ParameterTree) (b : BlockTree) → shortened (length scope.names) (scope_after_all (with_parameters scope ps) b) ≡ scope
 scope_before_body scope ps b =
     let one = parameters_more ps scope in
     let others = all_more b (with_parameters scope ps) in
-    ap (take (length scope)) (others.1 ∙ ap (λ front. front ++ others.0) one.1 ∙ append_assoc scope one.0 others.0)
-    ∙ take-append_seam scope (one.0 ++ others.0)
+    ap (shortened (length scope.names)) (one_after scope one.0 others.0 others.1 one.1)
+    ∙ shortened_extended scope (one.0 ++ others.0)
 
 -- whether a conditional or a loop may assign to something public, by the lists of its statements
 pub conditional_assigns : (scope : Scope) (statement : Statement) (place : Place) (condition : Expr) (accepted otherwise : Vec Statement Global) (ones others : List Statement) → statement ≡ If place condition accepted otherwise → ones ≡ accepted.items → others ≡ otherwise.items →

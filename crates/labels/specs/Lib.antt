@@ -1,3 +1,4 @@
 pub mod Sooner
 pub mod Written
 pub mod Exports
+pub mod Shortened

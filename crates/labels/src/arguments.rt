@@ -6,12 +6,10 @@ ghost use Rattle.labels.specs.Sooner.{sooner};
 
 use crate::first::First;
 use crate::kinds::{is_mutable, variable};
+use crate::scope::Scope;
 use crate::types::{is_array, word};
 use crate::values::note_argument;
-use language::{
-    ArrayType, Declared, Expr, Form, Parameter, Place, Rule, ValueType, VariableType, WordType,
-};
-use names::Names;
+use language::{ArrayType, Expr, Form, Parameter, Place, Rule, ValueType, VariableType, WordType};
 
 /// What a parameter is.
 pub fn parameter_value(parameter: &Parameter<'_>) -> ValueType
@@ -30,7 +28,7 @@ pub fn parameter_value(parameter: &Parameter<'_>) -> ValueType
 }
 
 /// The variable that an argument is the bare name of.
-fn argument_variable(names: &Names<'_, Declared>, argument: &Expr<'_>) -> Option<VariableType>
+fn argument_variable(names: &Scope<'_>, argument: &Expr<'_>) -> Option<VariableType>
     ensures { result ≡ argument_variable names.now (expr_tree argument.now) }
 {
     match argument {
@@ -52,7 +50,7 @@ fn is_immutable(variable: Option<VariableType>) -> bool
 /// Notes what an argument violates beside its parameter, and says whether it violates nothing.
 fn note_passed(
     first: &mut First,
-    names: &Names<'_, Declared>,
+    names: &Scope<'_>,
     place: Place,
     parameter: &Parameter<'_>,
     given: ValueType,
@@ -71,7 +69,7 @@ fn note_passed(
 /// nothing.
 pub fn note_all_passed(
     first: &mut First,
-    names: &Names<'_, Declared>,
+    names: &Scope<'_>,
     place: Place,
     parameters: &[Parameter<'_>],
     types: &[ValueType],

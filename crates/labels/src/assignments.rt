@@ -10,13 +10,12 @@ use crate::expressions::{expression, name};
 use crate::first::First;
 use crate::kinds::variable;
 use crate::nodes::element;
+use crate::scope::Scope;
 use crate::types::{kind_of, label_of};
 use crate::values::{note_control, note_value};
 use language::{
-    Assignment, Declared, ElementAssignment, Label, Place, Procedure, Rule, ValueType,
-    VariableType, WordType,
+    Assignment, ElementAssignment, Label, Place, Procedure, Rule, ValueType, VariableType, WordType,
 };
-use names::Names;
 use std::alloc::{AllocError, Global};
 
 /// Notes what a value violates that is put into a target. An array as a whole is none.
@@ -67,7 +66,7 @@ fn note_assignment(
 pub fn assignment(
     alloc: Global,
     first: &mut First,
-    names: &Names<'_, Declared>,
+    names: &Scope<'_>,
     earlier: &[Procedure<'_>],
     control: Label,
     assignment: &Assignment<'_>,
@@ -107,7 +106,7 @@ fn note_element_assignment(
 pub fn element_assignment(
     alloc: Global,
     first: &mut First,
-    names: &Names<'_, Declared>,
+    names: &Scope<'_>,
     earlier: &[Procedure<'_>],
     control: Label,
     assignment: &ElementAssignment<'_>,

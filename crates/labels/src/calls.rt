@@ -11,10 +11,8 @@ use crate::clashes::arrays_clash;
 use crate::expressions::expressions;
 use crate::first::First;
 use crate::kinds::{callee, is_secret};
-use language::{
-    Call, Callee, Declared, Label, Parameter, Place, Procedure, Rule, ValueType, WordType,
-};
-use names::Names;
+use crate::scope::Scope;
+use language::{Call, Callee, Label, Parameter, Place, Procedure, Rule, ValueType, WordType};
 use std::alloc::{AllocError, Global};
 
 /// What a procedure gives.
@@ -31,7 +29,7 @@ fn result_value(of: Option<WordType>) -> ValueType
 fn note_arguments(
     alloc: Global,
     first: &mut First,
-    names: &Names<'_, Declared>,
+    names: &Scope<'_>,
     parameters: &[Parameter<'_>],
     types: &[ValueType],
     call: &Call<'_>,
@@ -87,7 +85,7 @@ fn given(met: bool, wanted: Option<WordType>) -> Option<ValueType>
 pub fn call(
     alloc: Global,
     first: &mut First,
-    names: &Names<'_, Declared>,
+    names: &Scope<'_>,
     earlier: &[Procedure<'_>],
     control: Label,
     call: &Call<'_>,

@@ -1,28 +1,32 @@
 ghost use Rattle.std.specs.Prelude.{◌≡◌, ◌<◌, None, Some, [], fold, length, map, IsOk, IfOk, IfErr, OnOk};
 ghost use Rattle.std.specs.List.{AllByRecursion};
 ghost use Rattle.word.specs.Places.{origin};
+ghost use Rattle.word.specs.declared.profile.Profile.TheVariants.{P1};
 ghost use Rattle.language.specs.declared.rule.Rule.TheVariants.{NotExactlyOneExport};
 ghost use Rattle.language.specs.FirstViolation.{IsRefusedFor};
 ghost use Rattle.language.specs.Grammatical.{IsGrammatical};
 ghost use Rattle.language.specs.Signature.{exported};
 ghost use Rattle.language.specs.Tree.{procedure_tree, program_tree};
+ghost use Rattle.language.specs.Types.{empty};
 ghost use Rattle.language.specs.Typing.{export_violations, exports, procedures_violations, violations};
 ghost use Rattle.labels.specs.Exports.{export_index};
 ghost use Rattle.labels.specs.Sooner.{sooner};
 
 use crate::first::First;
 use crate::procedures::procedure;
-use language::{Place, Procedure, Program, Refusal, Rule, Violation};
-use names::Names;
+use crate::scope::Scope;
+use language::{Place, Procedure, Profile, Program, Refusal, Rule, Violation};
 use std::alloc::{AllocError, Global};
 
-/// A program that violates no rule on names, types and labels, so one of its procedures is exported.
+/// A program that violates no rule on names, types and labels, where this is the observer; so one of
+/// its procedures is exported.
 #[derive(Drop)]
 pub struct Checked<'p, 'a> {
     program: &'p Program<'a>,
+    profile: Profile,
     /// How many procedures stand before the exported one.
     export: usize,
-    pub ghost well_typed: { length (violations (program_tree program.now)) ≡ 0 },
+    pub ghost well_typed: { length (violations profile (program_tree program.now)) ≡ 0 },
     pub ghost inside: { export < length program.now },
     pub ghost exported: { export_index (exported [] (program_tree program.now).procedures) ≡ Some export },
 }
@@ -31,9 +35,16 @@ impl<'p, 'a> Checked<'p, 'a> {
     /// The program.
     pub fn program(&self) -> &'p Program<'a>
         ensures program { result ≡ self.now.program }
-        ensures well_typed { length (violations (program_tree result.now)) ≡ 0 }
+        ensures well_typed { length (violations self.now.profile (program_tree result.now)) ≡ 0 }
     {
         self.program
+    }
+
+    /// The observer.
+    pub fn profile(&self) -> Profile
+        ensures { result ≡ self.now.profile }
+    {
+        self.profile
     }
 
     /// The exported procedure, and those before it.
@@ -63,39 +74,60 @@ fn note_exports(first: &mut First, procedures: &[Procedure<'_>]) -> Option<usize
     export
 }
 
-/// Notes what the procedures violate.
+/// Notes what the procedures violate, where this is the observer.
 fn note_procedures(
     alloc: Global,
     first: &mut First,
+    profile: Profile,
     procedures: &[Procedure<'_>],
 ) -> Result<(), AllocError>
-    ensures first { OnOk result (first.new.seen ≡ fold sooner first.old.seen (procedures_violations [] [] (map procedure_tree procedures.now))) }
+    ensures first { OnOk result (first.new.seen ≡ fold sooner first.old.seen (procedures_violations [] (empty profile) (map procedure_tree procedures.now))) }
     ensures memory { procedures.now ≡ [] → IsOk result }
 {
-    let mut names = Names::new(alloc);
+    let mut names = Scope::new(alloc, profile);
     for (index, it) in procedures.iter().enumerate() {
         procedure(alloc, first, &mut names, &procedures[..index], it)?;
     }
     Ok(())
 }
 
-/// The program, where it is well typed; else its first violation. Memory is asked for the names of
-/// procedures and of what they declare, so not for an empty program.
-pub fn check<'p, 'a>(alloc: Global, program: &'p Program<'a>) -> Result<Checked<'p, 'a>, Refusal>
+/// The program, where it is well typed for an observer; else its first violation. Memory is asked for
+/// the names of procedures and of what they declare, so not for an empty program.
+pub fn check_as<'p, 'a>(
+    alloc: Global,
+    program: &'p Program<'a>,
+    profile: Profile,
+) -> Result<Checked<'p, 'a>, Refusal>
     ensures program { IfOk result (λ checked. checked.program.now ≡ program.now) }
-    ensures well_typed { IfOk result (λ _. length (violations (program_tree program.now)) ≡ 0) }
+    ensures profile { IfOk result (λ checked. checked.profile ≡ profile) }
+    ensures well_typed { IfOk result (λ _. length (violations profile (program_tree program.now)) ≡ 0) }
     ensures empty { program.now ≡ [] → IfErr result (λ refusal. (refusal.rule ≡ NotExactlyOneExport) × (refusal.place ≡ Some origin)) }
-    ensures refused { IfErr result (λ refusal. IsRefusedFor (violations (program_tree program.now)) refusal.rule refusal.place) }
+    ensures refused { IfErr result (λ refusal. IsRefusedFor (violations profile (program_tree program.now)) refusal.rule refusal.place) }
 {
     let mut first = First { seen: None };
     let procedures = program.procedures();
     let export = note_exports(&mut first, procedures);
-    note_procedures(alloc, &mut first, procedures)?;
+    note_procedures(alloc, &mut first, profile, procedures)?;
     if let Some(violation) = first.seen {
         return Err(Refusal::at(violation.rule, violation.place));
     }
     match export {
-        Some(export) => Ok(Checked { program, export }),
+        Some(export) => Ok(Checked {
+            program,
+            profile,
+            export,
+        }),
         None => unreachable!(),
     }
+}
+
+/// The same, for the observer who sees nothing of multiplications.
+pub fn check<'p, 'a>(alloc: Global, program: &'p Program<'a>) -> Result<Checked<'p, 'a>, Refusal>
+    ensures program { IfOk result (λ checked. checked.program.now ≡ program.now) }
+    ensures profile { IfOk result (λ checked. checked.profile ≡ P1) }
+    ensures well_typed { IfOk result (λ _. length (violations P1 (program_tree program.now)) ≡ 0) }
+    ensures empty { program.now ≡ [] → IfErr result (λ refusal. (refusal.rule ≡ NotExactlyOneExport) × (refusal.place ≡ Some origin)) }
+    ensures refused { IfErr result (λ refusal. IsRefusedFor (violations P1 (program_tree program.now)) refusal.rule refusal.place) }
+{
+    check_as(alloc, program, Profile::P1)
 }

@@ -11,20 +11,20 @@ ghost use Rattle.labels.specs.Written.{values_tree};
 use crate::calls::call;
 use crate::expressions::{expression, expressions};
 use crate::first::First;
+use crate::scope::Scope;
 use crate::types::word;
 use crate::values::{note_control, note_value};
 use language::{
     ArrayDeclaration, ArrayType, Declaration, Declared, Expr, Label, Place, Procedure, RightSide,
     Rule, ValueType, VariableType, WordType,
 };
-use names::Names;
 use std::alloc::{AllocError, Global};
 
 /// Notes what a right side violates, and gives its type where it is well typed.
 pub fn right_side(
     alloc: Global,
     first: &mut First,
-    names: &Names<'_, Declared>,
+    names: &Scope<'_>,
     earlier: &[Procedure<'_>],
     control: Label,
     right: &RightSide<'_>,
@@ -75,7 +75,7 @@ fn note_declaration(
 pub fn declaration<'a>(
     alloc: Global,
     first: &mut First,
-    names: &mut Names<'a, Declared>,
+    names: &mut Scope<'a>,
     earlier: &[Procedure<'a>],
     control: Label,
     declaration: &Declaration<'a>,
@@ -138,7 +138,7 @@ fn note_array(
 fn written(
     alloc: Global,
     first: &mut First,
-    names: &Names<'_, Declared>,
+    names: &Scope<'_>,
     values: &Option<Vec<Expr<'_>>>,
 ) -> Result<Option<Vec<ValueType>>, AllocError>
     ensures typed { IfOk result (λ types. option_map (λ given. given.items) types ≡ types_of names.now (written (values_tree values.now))) }
@@ -154,7 +154,7 @@ fn written(
 pub fn array<'a>(
     alloc: Global,
     first: &mut First,
-    names: &mut Names<'a, Declared>,
+    names: &mut Scope<'a>,
     control: Label,
     array: &ArrayDeclaration<'a>,
 ) -> Result<(), AllocError>

@@ -3,8 +3,8 @@ ghost use Rattle.language.specs.Tree.{block_tree, call_tree, parameter_tree, pro
 ghost use Rattle.language.specs.Typing.{assigns_public, block_assigns, calls_one, is_public_mutable, may_assign, parameters_assign, right_assigns, statement_assigns};
 
 use crate::kinds::{callee, is_mutable, is_secret};
-use language::{Call, Callee, Declared, Label, Parameter, Procedure, RightSide, Statement};
-use names::Names;
+use crate::scope::Scope;
+use language::{Call, Callee, Label, Parameter, Procedure, RightSide, Statement};
 
 /// Whether it is public and may be assigned to.
 fn is_public_mutable(label: Label, mutable: bool) -> bool
@@ -24,14 +24,14 @@ fn may_assign(callee: Option<Callee>) -> bool
 }
 
 /// Whether the call may assign to something public.
-fn call_assigns(names: &Names<'_, Declared>, call: &Call<'_>) -> bool
+fn call_assigns(names: &Scope<'_>, call: &Call<'_>) -> bool
     ensures { result ≡ calls_one names.now (call_tree call.now) }
 {
     may_assign(callee(names.find(call.name)))
 }
 
 /// Whether a right side may assign to something public.
-fn right_assigns(names: &Names<'_, Declared>, right: &RightSide<'_>) -> bool
+fn right_assigns(names: &Scope<'_>, right: &RightSide<'_>) -> bool
     ensures { result ≡ right_assigns names.now (right_tree right.now) }
 {
     match right {
@@ -43,7 +43,7 @@ fn right_assigns(names: &Names<'_, Declared>, right: &RightSide<'_>) -> bool
 /// Whether a statement declares a public name with `mut`, or calls a procedure that may assign to
 /// something public.
 #[cycle(effect)]
-fn statement_assigns(names: &Names<'_, Declared>, statement: &Statement<'_>) -> bool
+fn statement_assigns(names: &Scope<'_>, statement: &Statement<'_>) -> bool
     ensures { result ≡ statement_assigns names.now (statement_tree statement.now) }
 {
     match statement {
@@ -63,7 +63,7 @@ fn statement_assigns(names: &Names<'_, Declared>, statement: &Statement<'_>) -> 
 
 /// Whether one of these statements does.
 #[cycle(effect)]
-fn block_assigns(names: &Names<'_, Declared>, statements: &[Statement<'_>]) -> bool
+fn block_assigns(names: &Scope<'_>, statements: &[Statement<'_>]) -> bool
     ensures { result ≡ block_assigns names.now (block_tree statements.now) }
 {
     for one in statements {
@@ -88,7 +88,7 @@ fn parameters_assign(parameters: &[Parameter<'_>]) -> bool
 
 /// Whether a call of the procedure may assign to something public. The names are those of the
 /// earlier procedures.
-pub fn assigns_public(names: &Names<'_, Declared>, procedure: &Procedure<'_>) -> bool
+pub fn assigns_public(names: &Scope<'_>, procedure: &Procedure<'_>) -> bool
     ensures { result ≡ assigns_public names.now (procedure_tree procedure.now) }
 {
     parameters_assign(procedure.parameters.as_slice())

@@ -9,9 +9,9 @@ ghost use Rattle.labels.specs.Sooner.{sooner};
 use crate::first::First;
 use crate::kinds::variable;
 use crate::nodes::{binary, choice, convert, element, number, prefix, rotate};
+use crate::scope::Scope;
 use crate::types::word;
-use language::{Declared, Expr, Kind, Label, Place, Rule, ValueType, VariableType};
-use names::Names;
+use language::{Expr, Kind, Label, Place, Rule, ValueType, VariableType};
 use std::alloc::{AllocError, Global};
 
 /// The type of a variable, where there is one.
@@ -25,12 +25,7 @@ fn value_of(variable: Option<VariableType>) -> Option<ValueType>
 }
 
 /// Notes a name that is no variable's, and gives the type of the variable.
-pub fn name(
-    first: &mut First,
-    names: &Names<'_, Declared>,
-    place: Place,
-    text: &str,
-) -> Option<ValueType>
+pub fn name(first: &mut First, names: &Scope<'_>, place: Place, text: &str) -> Option<ValueType>
     ensures typed { result ≡ name_type names.now text.now }
     ensures first { first.new.seen ≡ fold sooner first.old.seen (at place (name_rules names.now text.now)) }
 {
@@ -40,11 +35,7 @@ pub fn name(
 }
 
 /// Notes what an expression's nodes violate, and gives its type where it is well typed.
-pub fn expression(
-    first: &mut First,
-    names: &Names<'_, Declared>,
-    expr: &Expr<'_>,
-) -> Option<ValueType>
+pub fn expression(first: &mut First, names: &Scope<'_>, expr: &Expr<'_>) -> Option<ValueType>
     ensures typed { result ≡ type_of names.now (expr_tree expr.now) }
     ensures first { first.new.seen ≡ fold sooner first.old.seen (expr_violations names.now (expr_tree expr.now)) }
 {
@@ -59,7 +50,7 @@ pub fn expression(
         Expr::Binary(place, operator, left, right) => {
             let left = expression(first, names, left);
             let right = expression(first, names, right);
-            binary(first, *place, *operator, left, right)
+            binary(first, names.profile(), *place, *operator, left, right)
         }
         Expr::Rotate(place, operand, amount) => {
             let operand = expression(first, names, operand);
@@ -87,7 +78,7 @@ pub fn expression(
 pub fn expressions(
     alloc: Global,
     first: &mut First,
-    names: &Names<'_, Declared>,
+    names: &Scope<'_>,
     exprs: &[Expr<'_>],
 ) -> Result<Option<Vec<ValueType>>, AllocError>
     ensures count { IfOk result (λ types. IfSome types (λ given. length given.items ≡ length exprs.now)) }

@@ -1,5 +1,5 @@
-// Names, types and labels: accepts exactly the well-typed programs, and otherwise names the first
-// violation. It stands on the definitions of typing in `language`.
+// Names, types and labels: accepts exactly the programs that are well typed for an observer, and
+// otherwise names the first violation. It stands on the definitions of typing in `language`.
 #![tactic(auto)]
 
 mod arguments;
@@ -15,9 +15,10 @@ mod kinds;
 mod nodes;
 mod operations;
 mod procedures;
+mod scope;
 mod statements;
 mod types;
 mod values;
 
-pub use checker::{Checked, check};
+pub use checker::{Checked, check, check_as};
 pub use first::First;

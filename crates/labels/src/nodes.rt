@@ -6,12 +6,12 @@ ghost use Rattle.labels.specs.Sooner.{sooner};
 
 use crate::first::First;
 use crate::kinds::{bits, join};
-use crate::operations::{divides_secret, is_uneven, takes};
+use crate::operations::{divides_secret, is_uneven, multiplies_secret, takes};
 use crate::types::{
     are_alike, is_array, is_bool, is_hidden, is_narrow, is_numeric, kind_of, label_of,
     widths_differ, word,
 };
-use language::{BinaryOperator, Kind, Label, Place, PrefixOperator, Rule, ValueType};
+use language::{BinaryOperator, Kind, Label, Place, PrefixOperator, Profile, Rule, ValueType};
 
 /// Whether a number is one of its kind.
 fn is_within(value: u32, kind: Kind) -> bool
@@ -56,16 +56,17 @@ pub fn prefix(
     fits.then_some(operand)
 }
 
-/// An operator between two operands.
+/// An operator between two operands, for an observer.
 pub fn binary(
     first: &mut First,
+    profile: Profile,
     place: Place,
     operator: BinaryOperator,
     left: Option<ValueType>,
     right: Option<ValueType>,
 ) -> Option<ValueType>
-    ensures typed { result ≡ of_two None (binary_type operator) left right }
-    ensures first { first.new.seen ≡ fold sooner first.old.seen (at place (of_two [] (binary_rules operator) left right)) }
+    ensures typed { result ≡ of_two None (binary_type profile operator) left right }
+    ensures first { first.new.seen ≡ fold sooner first.old.seen (at place (of_two [] (binary_rules profile operator) left right)) }
 {
     let (Some(left), Some(right)) = (left, right) else {
         return None;
@@ -74,10 +75,12 @@ pub fn binary(
     let uneven = is_uneven(operation, left, right);
     let wrong = !takes(operation, left, right);
     let told = divides_secret(operation, left, right);
+    let shown = multiplies_secret(profile, operation, left, right);
     first.note_if(uneven, place, Rule::WidthsDiffer);
     first.note_if(wrong, place, Rule::WrongKind);
     first.note_if(told, place, Rule::SecretDivisionOperand);
-    if uneven || wrong || told {
+    first.note_if(shown, place, Rule::SecretMultiplicationOperand);
+    if uneven || wrong || told || shown {
         return None;
     }
     let kind = operation.result_kind(kind_of(left));

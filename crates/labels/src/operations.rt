@@ -1,8 +1,8 @@
 ghost use Rattle.std.specs.Prelude.{◌≡◌};
-ghost use Rattle.language.specs.ExprTyping.{divides_secret, is_uneven, takes};
+ghost use Rattle.language.specs.ExprTyping.{divides_secret, is_uneven, multiplies_secret, takes};
 
 use crate::types::{are_alike, is_bool, is_hidden, is_narrow, is_numeric, widths_differ};
-use language::{Operation, ValueType};
+use language::{Operation, Profile, ValueType};
 
 /// Whether the operands' widths do not go together.
 pub fn is_uneven(operation: Operation, left: ValueType, right: ValueType) -> bool
@@ -46,5 +46,29 @@ pub fn divides_secret(operation: Operation, left: ValueType, right: ValueType) -
         Operation::Equality => false,
         Operation::Order => false,
         Operation::Logic => false,
+    }
+}
+
+/// Whether it is a product of something secret, where the observer sees the operands of
+/// multiplications.
+pub fn multiplies_secret(
+    profile: Profile,
+    operation: Operation,
+    left: ValueType,
+    right: ValueType,
+) -> bool
+    ensures { result ≡ multiplies_secret profile operation left right }
+{
+    match profile {
+        Profile::P1 => false,
+        Profile::P2 => match operation {
+            Operation::Multiplication => is_hidden(left) || is_hidden(right),
+            Operation::Arithmetic => false,
+            Operation::Division => false,
+            Operation::Shift => false,
+            Operation::Equality => false,
+            Operation::Order => false,
+            Operation::Logic => false,
+        },
     }
 }

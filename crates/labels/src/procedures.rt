@@ -10,19 +10,19 @@ use crate::effects::assigns_public;
 use crate::expressions::expression;
 use crate::first::First;
 use crate::kinds::is_mutable;
+use crate::scope::Scope;
 use crate::statements::statements;
 use crate::values::note_value;
 use language::{
     Callee, Declared, Label, Parameter, Place, Procedure, Return, Rule, ValueType, VariableType,
     WordType,
 };
-use names::Names;
 use std::alloc::{AllocError, Global};
 
 /// Declares the parameters, and notes the names that are taken.
 fn parameters<'a>(
     first: &mut First,
-    names: &mut Names<'a, Declared>,
+    names: &mut Scope<'a>,
     parameters: &[Parameter<'a>],
 ) -> Result<(), AllocError>
     ensures names { OnOk result (names.new ≡ with_parameters names.old (map parameter_tree parameters.now)) }
@@ -57,7 +57,7 @@ fn note_return(first: &mut First, place: Place, wanted: Option<WordType>, given:
 /// The `return` of a procedure with this type of result.
 fn returned(
     first: &mut First,
-    names: &Names<'_, Declared>,
+    names: &Scope<'_>,
     wanted: Option<WordType>,
     returned: &Option<Return<'_>>,
 )
@@ -83,7 +83,7 @@ fn note_procedure(first: &mut First, taken: bool, procedure: &Procedure<'_>)
 pub fn procedure<'a>(
     alloc: Global,
     first: &mut First,
-    names: &mut Names<'a, Declared>,
+    names: &mut Scope<'a>,
     earlier: &[Procedure<'a>],
     procedure: &Procedure<'a>,
 ) -> Result<(), AllocError>

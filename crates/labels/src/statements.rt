@@ -11,11 +11,11 @@ use crate::declarations::{array, declaration};
 use crate::expressions::expression;
 use crate::first::First;
 use crate::kinds::join;
+use crate::scope::Scope;
 use crate::types::{is_bool, is_hidden, is_narrow, is_numeric, label_of, word};
 use language::{
     Counter, Declared, Kind, Label, Place, Procedure, Rule, Statement, ValueType, VariableType,
 };
-use names::Names;
 use std::alloc::{AllocError, Global};
 
 /// Notes what a condition of this type violates.
@@ -57,7 +57,7 @@ fn note_bounds(first: &mut First, place: Place, low: Option<ValueType>, high: Op
 fn statement<'a>(
     alloc: Global,
     first: &mut First,
-    names: &mut Names<'a, Declared>,
+    names: &mut Scope<'a>,
     earlier: &[Procedure<'a>],
     control: Label,
     statement: &Statement<'a>,
@@ -105,7 +105,7 @@ fn statement<'a>(
 fn arm<'a>(
     alloc: Global,
     first: &mut First,
-    names: &mut Names<'a, Declared>,
+    names: &mut Scope<'a>,
     earlier: &[Procedure<'a>],
     control: Label,
     arm: &[Statement<'a>],
@@ -124,7 +124,7 @@ fn arm<'a>(
 fn turns<'a>(
     alloc: Global,
     first: &mut First,
-    names: &mut Names<'a, Declared>,
+    names: &mut Scope<'a>,
     earlier: &[Procedure<'a>],
     control: Label,
     counter: &Counter<'a>,
@@ -152,7 +152,7 @@ fn turns<'a>(
 pub fn statements<'a>(
     alloc: Global,
     first: &mut First,
-    names: &mut Names<'a, Declared>,
+    names: &mut Scope<'a>,
     earlier: &[Procedure<'a>],
     control: Label,
     statements: &[Statement<'a>],

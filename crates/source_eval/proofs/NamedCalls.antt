@@ -4,6 +4,7 @@ use Rattle.std.proofs.lemmas.Option.{none-some, same_Some, slice_get_within}
 use Rattle.std.specs.Map.{lookup}
 use Rattle.std.specs.Str.{bytes_eq}
 use Rattle.word.specs.declared.place.Place.{Place}
+use Rattle.word.specs.declared.profile.Profile.{Profile}
 use Rattle.language.specs.declared.signature.Label.{Label}
 use Rattle.language.specs.declared.typing.Callee.{Callee}
 use Rattle.language.specs.declared.typing.Declared.{Declared}
@@ -24,25 +25,25 @@ IsThere {A} o = (a : A) × (o ≡ Some a)
 
 -- What a name stands for after a declaration.
 
-lookup-last : (test : List ℕ → Bool) (scope : Scope) (name : List ℕ) (what d : Declared) → lookup test (scope ++ (name, what) ∷ []) ≡ Some d → (lookup test scope ≡ Some d) ⊎ ((test name ≡ true) × (what ≡ d))
+lookup-last : (test : List ℕ → Bool) (names : List (List ℕ × Declared)) (name : List ℕ) (what d : Declared) → lookup test (names ++ (name, what) ∷ []) ≡ Some d → (lookup test names ≡ Some d) ⊎ ((test name ≡ true) × (what ≡ d))
 lookup-last test [] name what d = by_test (test name) refl
   where
     by_test : (b : Bool) → test name ≡ b → cond b (Some what) None ≡ Some d → (None ≡ Some d) ⊎ ((test name ≡ true) × (what ≡ d))
     by_test true e is = inr (e, same_Some what d is)
     by_test false e is = inl is
-lookup-last test (x ∷ scope) name what d = by_test (lookup-last test scope name what d) (test x.0)
+lookup-last test (x ∷ names) name what d = by_test (lookup-last test names name what d) (test x.0)
   where
-    by_test : (lookup test (scope ++ (name, what) ∷ []) ≡ Some d → (lookup test scope ≡ Some d) ⊎ ((test name ≡ true) × (what ≡ d))) → (b : Bool)
-        → cond b (Some x.1) (lookup test (scope ++ (name, what) ∷ [])) ≡ Some d → (cond b (Some x.1) (lookup test scope) ≡ Some d) ⊎ ((test name ≡ true) × (what ≡ d))
+    by_test : (lookup test (names ++ (name, what) ∷ []) ≡ Some d → (lookup test names ≡ Some d) ⊎ ((test name ≡ true) × (what ≡ d))) → (b : Bool)
+        → cond b (Some x.1) (lookup test (names ++ (name, what) ∷ [])) ≡ Some d → (cond b (Some x.1) (lookup test names) ≡ Some d) ⊎ ((test name ≡ true) × (what ≡ d))
     by_test later true is = inl is
     by_test later false is = later is
 
 found-after : (scope : Scope) (name : List ℕ) (what : Declared) (text : List ℕ) (d : Declared) → found (declared scope name what) text ≡ Some d → (found scope text ≡ Some d) ⊎ ((bytes_eq text name ≡ true) × (what ≡ d))
 found-after scope name what text d = by_scope (is_some (found scope name))
   where
-    by_scope : (taken : Bool) → found (if taken then scope else scope ++ (name, what) ∷ []) text ≡ Some d → (found scope text ≡ Some d) ⊎ ((bytes_eq text name ≡ true) × (what ≡ d))
+    by_scope : (taken : Bool) → lookup (bytes_eq text) (if taken then scope.names else scope.names ++ (name, what) ∷ []) ≡ Some d → (found scope text ≡ Some d) ⊎ ((bytes_eq text name ≡ true) × (what ≡ d))
     by_scope true is = inl is
-    by_scope false is = lookup-last (bytes_eq text) scope name what d is
+    by_scope false is = lookup-last (bytes_eq text) scope.names name what d is
 
 -- Procedures and their names.
 
@@ -164,8 +165,8 @@ first-exported before (p ∷ ps) place places is = by_export p.export is (first-
     by_export (Some here) h later = ((before, p), refl)
     by_export None h later = later h
 
-pub one-exported : (program : ProgramTree) → IsTypedProgram program → IsThere (exported [] program.procedures)
+pub one-exported : {profile : Profile} (program : ProgramTree) → IsTypedProgram profile program → IsThere (exported [] program.procedures)
 one-exported program typed = first-exported [] program.procedures typed.export [] typed.exported
 
-pub all-call-earlier : (program : ProgramTree) → IsTypedProgram program → CallEarlier [] program.procedures
+pub all-call-earlier : {profile : Profile} (program : ProgramTree) → IsTypedProgram profile program → CallEarlier [] program.procedures
 all-call-earlier program typed = calls-earlier (λ text c is. absurd (none-some (Procedure c) is)) typed.procedures

@@ -7,16 +7,17 @@ use Rattle.language.specs.Meaning.{Ending, Gives}
 use Rattle.language.specs.Results.{Results}
 use Rattle.language.specs.Tree.{ProgramTree}
 use Rattle.language.specs.Typing.{violations}
+use Rattle.word.specs.declared.profile.Profile.{Profile}
 use Rattle.source_eval.proofs.EndsHad.{program-had}
 use Rattle.source_eval.proofs.NamedCalls.{one-exported, all-call-earlier}
 use Rattle.source_eval.proofs.WorkedOut.{worked-out}
 use Rattle.typing_laws.proofs.Programs.{programs}
 
-pub end-had : (program : ProgramTree) (args : List Arg) → length (violations program) ≡ 0 → Gives program args (program_run program args).ends
-end-had program args none =
-    let typed = (programs program).0 (nil_from_length (violations program) none) in
+pub end-had : (profile : Profile) (program : ProgramTree) (args : List Arg) → length (violations profile program) ≡ 0 → Gives program args (program_run program args).ends
+end-had profile program args none =
+    let typed = (programs profile program).0 (nil_from_length (violations profile program) none) in
     let export = one-exported program typed in
     program-had program args export.0 export.1 (all-call-earlier program typed)
 
-pub exactly-one : (program : ProgramTree) (args : List Arg) → length (violations program) ≡ 0 → (ending : Ending Results) × Gives program args ending × ((other : Ending Results) → Gives program args other → other ≡ ending)
-exactly-one program args none = ((program_run program args).ends, end-had program args none, λ other d. sym (worked-out program args other d))
+pub exactly-one : (profile : Profile) (program : ProgramTree) (args : List Arg) → length (violations profile program) ≡ 0 → (ending : Ending Results) × Gives program args ending × ((other : Ending Results) → Gives program args other → other ≡ ending)
+exactly-one profile program args none = ((program_run program args).ends, end-had profile program args none, λ other d. sym (worked-out program args other d))

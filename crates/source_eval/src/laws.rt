@@ -9,18 +9,19 @@ ghost use Rattle.language.specs.Signature.{exported};
 ghost use Rattle.language.specs.Size.{bodies_of, extents_of};
 ghost use Rattle.language.specs.Tree.{ProcedureTree, ProgramTree};
 ghost use Rattle.language.specs.Typing.{violations};
+ghost use Rattle.word.specs.declared.profile.Profile.{Profile};
 
 /// Whatever end the rules give a program, it is the one that is worked out.
 pub fn meaning_is_worked_out()
     ensures { (program : ProgramTree) (args : List Arg) (ending : Ending Results) → Gives program args ending → (program_run program args).ends ≡ ending }
 {}
 
-/// A program that violates no rule comes to an end on any arguments, and to one alone: the one that is worked out.
+/// A program that violates no rule, for an observer, comes to an end on any arguments, and to one alone: the one that is worked out.
 /// The arguments need not be within its parameter types, since each look-up has an answer: a name that holds no word
 /// reads as 0, and an element of what is no array is a fault.
 pub fn meaning_can_be_had()
-    ensures derivable { (program : ProgramTree) (args : List Arg) → length (violations program) ≡ 0 → Gives program args (program_run program args).ends }
-    ensures exactly_one { (program : ProgramTree) (args : List Arg) → length (violations program) ≡ 0
+    ensures derivable { (profile : Profile) (program : ProgramTree) (args : List Arg) → length (violations profile program) ≡ 0 → Gives program args (program_run program args).ends }
+    ensures exactly_one { (profile : Profile) (program : ProgramTree) (args : List Arg) → length (violations profile program) ≡ 0
         → (ending : Ending Results) × Gives program args ending × ((other : Ending Results) → Gives program args other → other ≡ ending) }
 {}
 

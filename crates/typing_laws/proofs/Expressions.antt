@@ -68,14 +68,14 @@ module _ (scope : Scope) where
       let w = taken_by_sign operator s x.0 in
       subst (HasType scope (prefix place operator a)) (sym w.1 ∙ x.1) (of_prefix {kind = w.0.kind} {label = w.0.label} (subst (HasType scope a) w.1 has) w.2)
 
-  operated : (place : Place) (operator : BinaryOperator) (a b : ExprTree) (s t type : ValueType) → HasType scope a s → HasType scope b t → binary_type operator s t ≡ Some type → HasType scope (binary place operator a b) type
+  operated : (place : Place) (operator : BinaryOperator) (a b : ExprTree) (s t type : ValueType) → HasType scope a s → HasType scope b t → binary_type scope.profile operator s t ≡ Some type → HasType scope (binary place operator a b) type
   operated place operator a b s t type has other h =
       let whole : ValueType → ValueType → ValueType = λ s t. word (operation_kind (operation_of operator) (kind_of s)) (joined (label_of s) (label_of t)) in
-      let x = met (binary_rules operator s t) (whole s t) type h in
-      let w = words_operated (operation_of operator) s t x.0 in
+      let x = met (binary_rules scope.profile operator s t) (whole s t) type h in
+      let w = words_operated scope.profile (operation_of operator) s t x.0 in
       subst (HasType scope (binary place operator a b)) (sym (ap₂ whole w.2 w.3) ∙ x.1)
       (of_binary {one = w.0} {other = w.1} (subst (HasType scope a) w.2 has) (subst (HasType scope b) w.3 other)
-      (makes (operation_of operator) w.0.kind w.1.kind w.0.label w.1.label (ap₂ (operation_rules (operation_of operator)) (sym w.2) (sym w.3) ∙ x.0)))
+      (makes scope.profile (operation_of operator) w.0.kind w.1.kind w.0.label w.1.label (ap₂ (operation_rules scope.profile (operation_of operator)) (sym w.2) (sym w.3) ∙ x.0)))
 
   turned : (place : Place) (a : ExprTree) (amount : ℕ) (s type : ValueType) → HasType scope a s → rotate_type amount s ≡ Some type → HasType scope (rotate place a amount) type
   turned place a amount s type has h =
@@ -114,7 +114,7 @@ module _ (scope : Scope) where
       let x = of_part (type_of scope a) (prefix_type operator) type h in
       signed place operator a x.0 type (typed a x.0 x.1) x.2
   typed (binary place operator a b) type h =
-      let x = of_parts (type_of scope a) (type_of scope b) (binary_type operator) type h in
+      let x = of_parts (type_of scope a) (type_of scope b) (binary_type scope.profile operator) type h in
       operated place operator a b x.0 x.1 type (typed a x.0 x.2) (typed b x.1 x.3) x.4
   typed (rotate place a amount) type h =
       let x = of_part (type_of scope a) (rotate_type amount) type h in
@@ -166,9 +166,9 @@ module _ (scope : Scope) where
   has_type (binary place operator a b) h =
       let va = expr_violations scope a in
       let vb = expr_violations scope b in
-      let own = at place (of_two [] (binary_rules operator) (type_of scope a) (type_of scope b)) in
+      let own = at place (of_two [] (binary_rules scope.profile operator) (type_of scope a) (type_of scope b)) in
       let parts = none_left (va ++ vb) own h in
-      two_typed place (binary_rules operator) (λ s t. word (operation_kind (operation_of operator) (kind_of s)) (joined (label_of s) (label_of t))) (type_of scope a) (type_of scope b)
+      two_typed place (binary_rules scope.profile operator) (λ s t. word (operation_kind (operation_of operator) (kind_of s)) (joined (label_of s) (label_of t))) (type_of scope a) (type_of scope b)
       (has_type a (none_left va vb parts)) (has_type b (none_right va vb parts)) (none_right (va ++ vb) own h)
   has_type (rotate place a amount) h =
       let va = expr_violations scope a in
@@ -225,12 +225,12 @@ module _ (scope : Scope) where
   is_typed (of_binary {place = place} {operator = operator} {left = a} {right = b} {one = one} {other = other} {whole = whole} has more makes) =
       let x = is_typed has in
       let y = is_typed more in
-      let m = made makes in
+      let m = made scope.profile makes in
       record {
         none = nothing_more (expr_violations scope a ++ expr_violations scope b) _ (nothing_more (expr_violations scope a) (expr_violations scope b) x.none y.none)
-            (ap₂ (λ o p. at place (of_two [] (binary_rules operator) o p)) x.is y.is ∙ ap (at place) m.none);
-        is = ap₂ (of_two None (binary_type operator)) x.is y.is
-            ∙ has_met (binary_rules operator (Word one) (Word other)) (word (operation_kind (operation_of operator) one.kind) (joined one.label other.label)) m.none
+            (ap₂ (λ o p. at place (of_two [] (binary_rules scope.profile operator) o p)) x.is y.is ∙ ap (at place) m.none);
+        is = ap₂ (of_two None (binary_type scope.profile operator)) x.is y.is
+            ∙ has_met (binary_rules scope.profile operator (Word one) (Word other)) (word (operation_kind (operation_of operator) one.kind) (joined one.label other.label)) m.none
             ∙ ap (λ w. Some (Word w)) m.whole_is;
       }
   is_typed (of_rotation {place = place} {operand = a} {amount = amount} {kind = kind} {label = label} has numeric low high) =

@@ -2,7 +2,9 @@
 use Rattle.std.proofs.Common.{◌≡◌, ℕ, ◌<◌, Bool, true, false, not, ◌&&◌, nat_lt, [], ◌++◌, refl, sym, ap, ap₂, ◌∙◌, subst, true≢false, arith}
 use Rattle.std.proofs.lemmas.Bool.Decides.{nat_tests}
 use Rattle.std.proofs.lemmas.Bool.{and_parts, or_parts, ltb-true}
-use Rattle.language.specs.declared.rule.Rule.TheVariants.{WidthsDiffer, WrongKind, LiteralOutOfRange, SecretIndex, SecretDivisionOperand}
+use Rattle.word.specs.declared.profile.Profile.{Profile}
+use Rattle.word.specs.declared.profile.Profile.TheVariants.{P1, P2}
+use Rattle.language.specs.declared.rule.Rule.TheVariants.{WidthsDiffer, WrongKind, LiteralOutOfRange, SecretIndex, SecretDivisionOperand, SecretMultiplicationOperand}
 use Rattle.language.specs.declared.signature.Kind.{Kind}
 use Rattle.language.specs.declared.signature.Kind.TheVariants.{Boolean, Uint8, Uint16, Uint32}
 use Rattle.language.specs.declared.signature.Label.{Label}
@@ -15,10 +17,10 @@ use Rattle.language.specs.declared.typing.Operation.TheVariants.{Arithmetic, Mul
 use Rattle.language.specs.declared.typing.ValueType.{ValueType}
 use Rattle.language.specs.declared.typing.ValueType.TheVariants.{Word, Array, Nothing}
 use Rattle.language.specs.declared.typing.WordType.{WordType}
-use Rattle.language.specs.ExprTyping.{is_uneven, takes, divides_secret, operation_rules, operation_kind, prefix_rules, rotates_within, rotate_rules, convert_rules, select_rules, element_rules}
+use Rattle.language.specs.ExprTyping.{is_uneven, takes, divides_secret, multiplies_secret, operation_rules, operation_kind, prefix_rules, rotates_within, rotate_rules, convert_rules, select_rules, element_rules}
 use Rattle.language.specs.Grammatical.{IsNumberKind}
 use Rattle.language.specs.Types.{bits_of, word, joined, is_number, is_numeric, is_bool, is_array, is_narrow, is_hidden, is_secret, widths_differ, are_alike, when}
-use Rattle.language.specs.WellTyped.{labelled, Makes, arithmetic, multiplication, division, shift, equality, order, logic, Takes}
+use Rattle.language.specs.WellTyped.{labelled, MayBeMultiplied, unseen, both_public, Makes, arithmetic, multiplication, division, shift, equality, order, logic, Takes}
 use Rattle.typing_laws.proofs.TypeTests.{a_number, a_bool, by_number, one_width, alike_kinds, a_full_word, a_public, numeric_word, bool_word, AreWords, numeric_words, bool_words, alike_words}
 use Rattle.typing_laws.proofs.NoRules.{none_left, none_right, not_when, is_met}
 
@@ -46,82 +48,157 @@ words_taken Order s t h = numeric_words s t h
 words_taken Logic s t h = bool_words s t h
 
 -- what the rules ask
-record IsTaken (operation : Operation) (s t : ValueType) : Type 0 where
+record IsTaken (profile : Profile) (operation : Operation) (s t : ValueType) : Type 0 where
   even : is_uneven operation s t ≡ false
   kinds : takes operation s t ≡ true
   told : divides_secret operation s t ≡ false
+  shown : multiplies_secret profile operation s t ≡ false
 
-is_taken : (operation : Operation) (s t : ValueType) → operation_rules operation s t ≡ [] → IsTaken operation s t
-is_taken operation s t h =
+is_taken : (profile : Profile) (operation : Operation) (s t : ValueType) → operation_rules profile operation s t ≡ [] → IsTaken profile operation s t
+is_taken profile operation s t h =
     let uneven = when (is_uneven operation s t) WidthsDiffer in
     let wrong = when (not (takes operation s t)) WrongKind in
     let told = when (divides_secret operation s t) SecretDivisionOperand in
-    let two = none_left (uneven ++ wrong) told h in
+    let shown = when (multiplies_secret profile operation s t) SecretMultiplicationOperand in
+    let three = none_left (uneven ++ wrong ++ told) shown h in
+    let two = none_left (uneven ++ wrong) told three in
     record {
       even = not_when (is_uneven operation s t) WidthsDiffer (none_left uneven wrong two);
       kinds = is_met (takes operation s t) WrongKind (none_right uneven wrong two);
-      told = not_when (divides_secret operation s t) SecretDivisionOperand (none_right (uneven ++ wrong) told h);
+      told = not_when (divides_secret operation s t) SecretDivisionOperand (none_right (uneven ++ wrong) told three);
+      shown = not_when (multiplies_secret profile operation s t) SecretMultiplicationOperand (none_right (uneven ++ wrong ++ told) shown h);
     }
 
-pub words_operated : (operation : Operation) (s t : ValueType) → operation_rules operation s t ≡ [] → AreWords s t
-words_operated operation s t h = words_taken operation s t (is_taken operation s t h).kinds
+pub words_operated : (profile : Profile) (operation : Operation) (s t : ValueType) → operation_rules profile operation s t ≡ [] → AreWords s t
+words_operated profile operation s t h = words_taken operation s t (is_taken profile operation s t h).kinds
 
 -- numbers of one width
 even_numbers : (k l : Kind) (m n : Label) → widths_differ (word k m) (word l n) ≡ false → (is_number k && is_number l) ≡ true → IsNumberKind k × (l ≡ k)
 even_numbers k l m n even numbers = (a_number k (and_parts (is_number k) (is_number l) numbers).0, one_width k l m n even numbers)
 
-pub makes : (operation : Operation) (k l : Kind) (m n : Label) → operation_rules operation (word k m) (word l n) ≡ [] → Makes operation (labelled k m) (labelled l n) (labelled (operation_kind operation k) (joined m n))
-makes Arithmetic k l m n h =
-    let x = is_taken Arithmetic (word k m) (word l n) h in
+-- operands that may be multiplied
+may_be_multiplied : (profile : Profile) (k l : Kind) (m n : Label) → multiplies_secret profile Multiplication (word k m) (word l n) ≡ false → MayBeMultiplied profile m n
+may_be_multiplied P1 k l m n h = unseen
+may_be_multiplied P2 k l m n h =
+    let shown = or_parts (is_secret m) (is_secret n) h in
+    subst (λ a. MayBeMultiplied P2 a n) (sym (a_public m shown.0)) (subst (λ b. MayBeMultiplied P2 Public b) (sym (a_public n shown.1)) both_public)
+
+pub makes : (profile : Profile) (operation : Operation) (k l : Kind) (m n : Label) → operation_rules profile operation (word k m) (word l n) ≡ [] → Makes profile operation (labelled k m) (labelled l n) (labelled (operation_kind operation k) (joined m n))
+makes profile Arithmetic k l m n h =
+    let x = is_taken profile Arithmetic (word k m) (word l n) h in
     let numbers = even_numbers k l m n x.even x.kinds in
-    subst (λ j. Makes Arithmetic (labelled k m) (labelled j n) (labelled k (joined m n))) (sym numbers.1) (arithmetic numbers.0)
-makes Multiplication k l m n h =
-    let x = is_taken Multiplication (word k m) (word l n) h in
+    subst (λ j. Makes profile Arithmetic (labelled k m) (labelled j n) (labelled k (joined m n))) (sym numbers.1) (arithmetic numbers.0)
+makes profile Multiplication k l m n h =
+    let x = is_taken profile Multiplication (word k m) (word l n) h in
     let numbers = even_numbers k l m n x.even x.kinds in
-    subst (λ j. Makes Multiplication (labelled k m) (labelled j n) (labelled k (joined m n))) (sym numbers.1) (multiplication numbers.0)
-makes Division k l m n h =
-    let x = is_taken Division (word k m) (word l n) h in
+    subst (λ j. Makes profile Multiplication (labelled k m) (labelled j n) (labelled k (joined m n))) (sym numbers.1) (multiplication numbers.0 (may_be_multiplied profile k l m n x.shown))
+makes profile Division k l m n h =
+    let x = is_taken profile Division (word k m) (word l n) h in
     let numbers = even_numbers k l m n x.even x.kinds in
     let told = or_parts (is_secret m) (is_secret n) x.told in
-    subst (λ j. Makes Division (labelled k m) (labelled j n) (labelled k (joined m n))) (sym numbers.1)
-    (subst (λ a. Makes Division (labelled k a) (labelled k n) (labelled k (joined a n))) (sym (a_public m told.0))
-    (subst (λ b. Makes Division (labelled k Public) (labelled k b) (labelled k b)) (sym (a_public n told.1)) (division numbers.0)))
-makes Shift k l m n h =
-    let x = is_taken Shift (word k m) (word l n) h in
+    subst (λ j. Makes profile Division (labelled k m) (labelled j n) (labelled k (joined m n))) (sym numbers.1)
+    (subst (λ a. Makes profile Division (labelled k a) (labelled k n) (labelled k (joined a n))) (sym (a_public m told.0))
+    (subst (λ b. Makes profile Division (labelled k Public) (labelled k b) (labelled k b)) (sym (a_public n told.1)) (division numbers.0)))
+makes profile Shift k l m n h =
+    let x = is_taken profile Shift (word k m) (word l n) h in
     let numbers = and_parts (is_number k) (is_number l) x.kinds in
-    subst (λ j. Makes Shift (labelled k m) (labelled j n) (labelled k (joined m n))) (sym (a_full_word l n x.even numbers.1)) (shift (a_number k numbers.0))
-makes Equality k l m n h =
-    let x = is_taken Equality (word k m) (word l n) h in
-    subst (λ j. Makes Equality (labelled k m) (labelled j n) (labelled Boolean (joined m n))) (sym (alike_kinds k l m n x.even x.kinds)) equality
-makes Order k l m n h =
-    let x = is_taken Order (word k m) (word l n) h in
+    subst (λ j. Makes profile Shift (labelled k m) (labelled j n) (labelled k (joined m n))) (sym (a_full_word l n x.even numbers.1)) (shift (a_number k numbers.0))
+makes profile Equality k l m n h =
+    let x = is_taken profile Equality (word k m) (word l n) h in
+    subst (λ j. Makes profile Equality (labelled k m) (labelled j n) (labelled Boolean (joined m n))) (sym (alike_kinds k l m n x.even x.kinds)) equality
+makes profile Order k l m n h =
+    let x = is_taken profile Order (word k m) (word l n) h in
     let numbers = even_numbers k l m n x.even x.kinds in
-    subst (λ j. Makes Order (labelled k m) (labelled j n) (labelled Boolean (joined m n))) (sym numbers.1) (order numbers.0)
-makes Logic k l m n h =
-    let x = is_taken Logic (word k m) (word l n) h in
+    subst (λ j. Makes profile Order (labelled k m) (labelled j n) (labelled Boolean (joined m n))) (sym numbers.1) (order numbers.0)
+makes profile Logic k l m n h =
+    let x = is_taken profile Logic (word k m) (word l n) h in
     let bools = and_parts (not (is_number k)) (not (is_number l)) x.kinds in
-    subst (λ j. Makes Logic (labelled j m) (labelled l n) (labelled Boolean (joined m n))) (sym (a_bool k bools.0))
-    (subst (λ j. Makes Logic (labelled Boolean m) (labelled j n) (labelled Boolean (joined m n))) (sym (a_bool l bools.1)) logic)
+    subst (λ j. Makes profile Logic (labelled j m) (labelled l n) (labelled Boolean (joined m n))) (sym (a_bool k bools.0))
+    (subst (λ j. Makes profile Logic (labelled Boolean m) (labelled j n) (labelled Boolean (joined m n))) (sym (a_bool l bools.1)) logic)
 
 -- no rule is violated, and this is what is made
-pub record IsMade (operation : Operation) (one other whole : WordType) : Type 0 where
-  pub none : operation_rules operation (Word one) (Word other) ≡ []
+pub record IsMade (profile : Profile) (operation : Operation) (one other whole : WordType) : Type 0 where
+  pub none : operation_rules profile operation (Word one) (Word other) ≡ []
   pub whole_is : labelled (operation_kind operation one.kind) (joined one.label other.label) ≡ whole
 
-pub made : {operation : Operation} {one other whole : WordType} → Makes operation one other whole → IsMade operation one other whole
-made (arithmetic {kind = k} {l = l} {m = m} h) = record { none = by_number (λ j. operation_rules Arithmetic (word j l) (word j m) ≡ []) refl refl refl k h; whole_is = refl }
-made (multiplication {kind = k} {l = l} {m = m} h) = record { none = by_number (λ j. operation_rules Multiplication (word j l) (word j m) ≡ []) refl refl refl k h; whole_is = refl }
-made (division {kind = k} h) = record { none = by_number (λ j. operation_rules Division (word j Public) (word j Public) ≡ []) refl refl refl k h; whole_is = refl }
-made (shift {kind = k} {l = l} {m = m} h) = record { none = by_number (λ j. operation_rules Shift (word j l) (word Uint32 m) ≡ []) refl refl refl k h; whole_is = refl }
-made (equality {kind = k} {l = l} {m = m}) = record { none = alike k l m; whole_is = refl }
-  where
-    alike : (k : Kind) (l m : Label) → operation_rules Equality (word k l) (word k m) ≡ []
-    alike Boolean l m = refl
-    alike Uint8 l m = refl
-    alike Uint16 l m = refl
-    alike Uint32 l m = refl
-made (order {kind = k} {l = l} {m = m} h) = record { none = by_number (λ j. operation_rules Order (word j l) (word j m) ≡ []) refl refl refl k h; whole_is = refl }
-made (logic {l = l} {m = m}) = record { none = refl; whole_is = refl }
+-- with nothing secret multiplied the rules are those of either observer
+none_for : (profile : Profile) (operation : Operation) (s t : ValueType) → multiplies_secret profile operation s t ≡ false → operation_rules P1 operation s t ≡ [] → operation_rules profile operation s t ≡ []
+none_for profile operation s t shown none =
+    ap (λ b. when (is_uneven operation s t) WidthsDiffer ++ when (not (takes operation s t)) WrongKind ++ when (divides_secret operation s t) SecretDivisionOperand ++ when b SecretMultiplicationOperand) shown ∙ none
+
+-- the operations that are no multiplication
+abbrev IsOther : Operation → Type 0
+IsOther operation = (profile : Profile) (s t : ValueType) → multiplies_secret profile operation s t ≡ false
+
+other_arithmetic : IsOther Arithmetic
+other_arithmetic P1 s t = refl
+other_arithmetic P2 s t = refl
+
+other_division : IsOther Division
+other_division P1 s t = refl
+other_division P2 s t = refl
+
+other_shift : IsOther Shift
+other_shift P1 s t = refl
+other_shift P2 s t = refl
+
+other_equality : IsOther Equality
+other_equality P1 s t = refl
+other_equality P2 s t = refl
+
+other_order : IsOther Order
+other_order P1 s t = refl
+other_order P2 s t = refl
+
+other_logic : IsOther Logic
+other_logic P1 s t = refl
+other_logic P2 s t = refl
+
+multiplied : {profile : Profile} {l m : Label} (k : Kind) → MayBeMultiplied profile l m → multiplies_secret profile Multiplication (word k l) (word k m) ≡ false
+multiplied k unseen = refl
+multiplied k both_public = refl
+
+alike_equal : (k : Kind) (l m : Label) → operation_rules P1 Equality (word k l) (word k m) ≡ []
+alike_equal Boolean l m = refl
+alike_equal Uint8 l m = refl
+alike_equal Uint16 l m = refl
+alike_equal Uint32 l m = refl
+
+module _ (profile : Profile) where
+  pub made : {operation : Operation} {one other whole : WordType} → Makes profile operation one other whole → IsMade profile operation one other whole
+  made (arithmetic {kind = k} {l = l} {m = m} h) = record {
+    none = none_for profile Arithmetic (word k l) (word k m) (other_arithmetic profile (word k l) (word k m))
+        (by_number (λ j. operation_rules P1 Arithmetic (word j l) (word j m) ≡ []) refl refl refl k h);
+    whole_is = refl;
+  }
+  made (multiplication {kind = k} {l = l} {m = m} h may) = record {
+    none = none_for profile Multiplication (word k l) (word k m) (multiplied k may)
+        (by_number (λ j. operation_rules P1 Multiplication (word j l) (word j m) ≡ []) refl refl refl k h);
+    whole_is = refl;
+  }
+  made (division {kind = k} h) = record {
+    none = none_for profile Division (word k Public) (word k Public) (other_division profile (word k Public) (word k Public))
+        (by_number (λ j. operation_rules P1 Division (word j Public) (word j Public) ≡ []) refl refl refl k h);
+    whole_is = refl;
+  }
+  made (shift {kind = k} {l = l} {m = m} h) = record {
+    none = none_for profile Shift (word k l) (word Uint32 m) (other_shift profile (word k l) (word Uint32 m))
+        (by_number (λ j. operation_rules P1 Shift (word j l) (word Uint32 m) ≡ []) refl refl refl k h);
+    whole_is = refl;
+  }
+  made (equality {kind = k} {l = l} {m = m}) = record {
+    none = none_for profile Equality (word k l) (word k m) (other_equality profile (word k l) (word k m)) (alike_equal k l m);
+    whole_is = refl;
+  }
+  made (order {kind = k} {l = l} {m = m} h) = record {
+    none = none_for profile Order (word k l) (word k m) (other_order profile (word k l) (word k m))
+        (by_number (λ j. operation_rules P1 Order (word j l) (word j m) ≡ []) refl refl refl k h);
+    whole_is = refl;
+  }
+  made (logic {l = l} {m = m}) = record {
+    none = none_for profile Logic (word Boolean l) (word Boolean m) (other_logic profile (word Boolean l) (word Boolean m)) refl;
+    whole_is = refl;
+  }
 
 -- A rotation.
 

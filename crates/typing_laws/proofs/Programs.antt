@@ -8,7 +8,7 @@ use Rattle.language.specs.declared.typing.ValueType.TheVariants.{Word}
 use Rattle.language.specs.declared.typing.WordType.{WordType}
 use Rattle.language.specs.ExprTyping.{type_of, expr_violations}
 use Rattle.language.specs.Tree.{ParameterTree, ReturnTree, ProcedureTree}
-use Rattle.language.specs.Types.{Scope, found, declared, at, when, of_one}
+use Rattle.language.specs.Types.{Scope, empty, found, declared, at, when, of_one}
 use Rattle.language.specs.Typing.{value_rules, parameter_as, parameter_violations, return_rules, return_violations, with_procedure, body_scope, scope_after_all, block_violations, procedure_violations, procedures_violations, exports, too_many, export_violations}
 use Rattle.language.specs.WellTyped.{HasType, AreNew, no_parameter, one_is_new, Returns, nothing_returned, value_returned, IsProcedure, AreProcedures, no_procedure, one_procedure}
 use Rattle.typing_laws.specs.ByRules.{BlocksByRules, ProgramsByRules}
@@ -117,11 +117,11 @@ pub blocks : BlocksByRules
 blocks earlier scope control block = (block_typed block earlier scope control, block_none)
 
 pub programs : ProgramsByRules
-programs program = (
+programs profile program = (
   λ h.
       let exported = export_violations (exports program.procedures) in
-      let all = procedures_violations [] [] program.procedures in
+      let all = procedures_violations [] (empty profile) program.procedures in
       let one = one_export (exports program.procedures) (none_left exported all h) in
-      record { export = one.0; exported = one.1; procedures = are_procedures [] [] program.procedures (none_right exported all h) },
-  λ is. nothing_more (export_violations (exports program.procedures)) (procedures_violations [] [] program.procedures) (ap export_violations is.exported) (procedures_none is.procedures),
+      record { export = one.0; exported = one.1; procedures = are_procedures [] (empty profile) program.procedures (none_right exported all h) },
+  λ is. nothing_more (export_violations (exports program.procedures)) (procedures_violations [] (empty profile) program.procedures) (ap export_violations is.exported) (procedures_none is.procedures),
 )

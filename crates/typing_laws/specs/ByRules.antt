@@ -7,6 +7,7 @@ use Rattle.language.specs.Tree.{ExprTree, BlockTree, ProcedureTree, ProgramTree}
 use Rattle.language.specs.Types.{Scope}
 use Rattle.language.specs.Typing.{block_violations, violations}
 use Rattle.language.specs.WellTyped.{HasType, AreWellTyped, IsTypedProgram}
+use Rattle.word.specs.declared.profile.Profile.{Profile}
 
 -- an expression violates no rule exactly where the rules give it a type, and that is its type
 pub record ExpressionsByRules : Type 0 where
@@ -18,6 +19,6 @@ abbrev pub BlocksByRules : Type 0
 BlocksByRules = (earlier : List ProcedureTree) (scope : Scope) (control : Label) (block : BlockTree)
     → (block_violations earlier scope control block ≡ []) ↔ AreWellTyped earlier scope control block
 
--- so does a program
+-- so does a program, for each observer
 abbrev pub ProgramsByRules : Type 0
-ProgramsByRules = (program : ProgramTree) → (violations program ≡ []) ↔ IsTypedProgram program
+ProgramsByRules = (profile : Profile) (program : ProgramTree) → (violations profile program ≡ []) ↔ IsTypedProgram profile program

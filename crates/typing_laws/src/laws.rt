@@ -14,7 +14,7 @@ pub fn blocks_by_rules()
     ensures { BlocksByRules }
 {}
 
-/// A program violates no rule exactly where it is well typed by the rules of inference.
+/// A program violates no rule exactly where it is well typed by the rules of inference, for each observer.
 pub fn programs_by_rules()
     ensures { ProgramsByRules }
 {}

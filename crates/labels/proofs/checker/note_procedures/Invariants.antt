@@ -1,5 +1,6 @@
 use Rattle.std.proofs.Common.{◌≡◌, [], map, take, drop, fold}
 use Rattle.language.specs.Tree.{procedure_tree}
+use Rattle.language.specs.Types.{empty}
 use Rattle.language.specs.Typing.{procedures_violations}
 use Rattle.labels.specs.Sooner.{sooner}
 use Rattle.labels.proofs.checker.note_procedures.Given as goal
@@ -8,4 +9,4 @@ use Rattle.labels.proofs.checker.note_procedures.Given as goal
 abbrev pub invariant-loop-index : goal.invariant-loop-index
 invariant-loop-index l =
     fold sooner l.first.seen (procedures_violations (map procedure_tree (take l.index l.procedures)) l.names (map procedure_tree (drop l.index l.procedures)))
-    ≡ fold sooner l.fn.first.seen (procedures_violations [] [] (map procedure_tree l.procedures))
+    ≡ fold sooner l.fn.first.seen (procedures_violations [] (empty l.fn.profile) (map procedure_tree l.procedures))

@@ -1,4 +1,5 @@
-use Rattle.std.proofs.Common.{map, take, false, ◌∙◌, ap, ap₂}
+use Rattle.std.proofs.Common.{map, false, ◌∙◌, ap, ap₂}
+use Rattle.labels.specs.Shortened.{shortened}
 use Rattle.labels.proofs.TreeLemmas.{conditional_seen, loop_seen, on_ok, scope_before, scope_before_turns}
 use Rattle.language.specs.Tree.{block_tree, procedure_tree}
 use Rattle.language.specs.Types.{declared}
@@ -8,13 +9,13 @@ use Rattle.labels.proofs.statements.+statement.Goals as goal
 
 pub arm-returns-clause-names : goal.arm-returns-clause-names
 arm-returns-clause-names t c =
-    c.truncate.ensures ∙ ap₂ take c.len-outside.ensures c.in_ok-statements.ensures.names
+    c.truncate.ensures ∙ ap₂ shortened c.len-outside.ensures c.in_ok-statements.ensures.names
     ∙ scope_before c.args.names.now (block_tree c.args.arm.now)
 
 pub turns-returns-clause-names : goal.turns-returns-clause-names
 turns-returns-clause-names t c =
     c.truncate.ensures
-    ∙ ap₂ take c.len-before.ensures (c.in_ok-statements.ensures.names ∙ ap (λ scope. scope_after_all scope (block_tree c.args.body.now)) (c.in_ok-taken.ensures.ok ∙ ap (λ value. declared c.args.names.now c.args.counter.now.name.now (Variable (record { value = value; mutable = false }))) c.word.ensures))
+    ∙ ap₂ shortened c.len-before.ensures (c.in_ok-statements.ensures.names ∙ ap (λ scope. scope_after_all scope (block_tree c.args.body.now)) (c.in_ok-taken.ensures.ok ∙ ap (λ value. declared c.args.names.now c.args.counter.now.name.now (Variable (record { value = value; mutable = false }))) c.word.ensures))
     ∙ scope_before_turns c.args.names.now c.args.counter.now.name.now counter_as (block_tree c.args.body.now)
 
 pub statement-returns-in_ok-arm-in-If-clause-first :
