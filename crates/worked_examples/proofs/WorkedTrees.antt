@@ -8,7 +8,7 @@ use Rattle.language.specs.declared.signature.Kind.{Kind}
 use Rattle.language.specs.declared.signature.Kind.TheVariants.{Boolean, Uint32}
 use Rattle.language.specs.declared.signature.Label.{Label}
 use Rattle.language.specs.declared.signature.Label.TheVariants.{Public, Secret}
-use Rattle.language.specs.declared.tree.BinaryOperator.TheVariants.{Equal, Less, Add, Divide}
+use Rattle.language.specs.declared.tree.BinaryOperator.TheVariants.{Equal, Less, Add, Multiply, Divide}
 use Rattle.language.specs.declared.typing.WordType.{WordType}
 use Rattle.language.specs.Tree.{ExprTree, number, truth, name, binary, element, computed, StatementTree, declaration, assignment, element_assignment, call, conditional, loop, BlockTree, nothing, first, ParameterTree, ReturnTree, ProcedureTree, ProgramTree}
 
@@ -156,6 +156,13 @@ divides_public = program (procedure (Some (at 1)) (uint32 Public) (at 22) (codes
     (parameter Public Uint32 SingleWord 1 (at 38) (codes "q") ∷ parameter Public Uint32 SingleWord 1 (at 55) (codes "d") ∷ [])
     []
     (gives_back (on 59 2 1) (binary (on 59 2 10) Divide (name (on 59 2 8) (codes "q")) (name (on 59 2 12) (codes "d")))) ∷ [])
+
+-- export public uint32 f(public uint32 x) { return x * 3; }, or with `secret` in the place of `public`
+abbrev pub multiplies : Label → ProgramTree
+multiplies label = program (procedure (Some (at 1)) (uint32 label) (at 22) (codes "f")
+    (parameter label Uint32 SingleWord 1 (at 38) (codes "x") ∷ [])
+    []
+    (gives_back (at 43) (binary (at 52) Multiply (name (at 50) (codes "x")) (plain (at 54) 3))) ∷ [])
 
 -- void g(secret uint32[4] b, secret mut uint32[4] c) { c[0] = b[1]; }
 abbrev pub copies_one : ProcedureTree

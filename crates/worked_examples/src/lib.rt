@@ -10,3 +10,5 @@ mod arguing;
 mod checking;
 #[cfg(test)]
 mod evaluating;
+#[cfg(test)]
+mod multiplying;
