@@ -12,6 +12,8 @@ mod paged;
 #[cfg(test)]
 mod pairs;
 #[cfg(test)]
+mod profiles;
+#[cfg(test)]
 mod runs;
 #[cfg(test)]
 mod turns;

@@ -9,6 +9,7 @@ use rv_machine::{
 };
 use std::alloc::{AllocError, Global};
 use std::test::Fail;
+use word::Profile;
 
 const CODE: u32 = 0x0001_0000;
 
@@ -32,9 +33,10 @@ fn finds_another_program_counter(rt: HostRuntime) {
 #[test]
 fn finds_another_event(rt: HostRuntime) {
     let divides = Some(Event::Div(7, 2));
+    let multiplies = Some(Event::Mul(7, 2));
     let farther = Some(Event::Load(0x1000_0004, Size::Word));
     let narrower = Some(Event::Load(0x1000_0000, Size::Byte));
-    for event in [None, divides, farther, narrower] {
+    for event in [None, divides, multiplies, farther, narrower] {
         let other = Observation {
             pc: LOADS.pc,
             event,
@@ -55,7 +57,7 @@ fn run_from(alloc: Global, x2: u32, budget: u64) -> Result<Running<FlatMemory>, 
     })
 }
 
-// How the runs from these words compare that have these numbers in x2.
+// How the runs from these words compare, in profile 1, that have these numbers in x2.
 fn pairing(
     alloc: Global,
     words: &[u32],
@@ -65,7 +67,21 @@ fn pairing(
     requires few_words { length words.now ≤ 100 }
     requires few_turns { budget ≤ 100 }
 {
-    let code = CodeRegion::new(alloc, CODE, words)?;
+    pairing_as(alloc, words, numbers, budget, Profile::P1)
+}
+
+// The same in this profile.
+fn pairing_as(
+    alloc: Global,
+    words: &[u32],
+    numbers: (u32, u32),
+    budget: u64,
+    profile: Profile,
+) -> Result<Pairing, AllocError>
+    requires few_words { length words.now ≤ 100 }
+    requires few_turns { budget ≤ 100 }
+{
+    let code = CodeRegion::new_as(alloc, CODE, words, profile)?;
     let mut one = run_from(alloc, numbers.0, budget)?;
     let mut other = run_from(alloc, numbers.1, budget)?;
     Ok(compare(alloc, &code, &mut one, &mut other))
@@ -100,6 +116,19 @@ fn compares_runs_of_which_one_ends(rt: HostRuntime) -> Result<(), Fail> {
     assert_eq!(rt; short, Pairing::Same);
     let none = pairing(rt.alloc(), &words, (0, CODE + 8), 0)?;
     assert_eq!(rt; none, Pairing::Same);
+    Ok(())
+}
+
+// mul x5, x2, x2; ecall
+#[test]
+fn compares_runs_that_multiply(rt: HostRuntime) -> Result<(), Fail> {
+    let words = [0x0221_02b3, 0x0000_0073];
+    let unseen = pairing_as(rt.alloc(), &words, (1, 2), 10, Profile::P1)?;
+    assert_eq!(rt; unseen, Pairing::Same);
+    let apart = pairing_as(rt.alloc(), &words, (1, 2), 10, Profile::P2)?;
+    assert_eq!(rt; apart, Pairing::Differ(1));
+    let same = pairing_as(rt.alloc(), &words, (3, 3), 10, Profile::P2)?;
+    assert_eq!(rt; same, Pairing::Same);
     Ok(())
 }
 

@@ -3,7 +3,7 @@ use Rattle.std.specs.Prelude.{nat_eq, is_some}
 use Rattle.std.proofs.Common.{◌≡◌, ◌≢◌, ℕ, zero, suc, ◌+◌, ◌/◌, ◌%◌, Bool, true, false, cond, List, Option, Some, None, refl, sym, ap, ◌∙◌, subst, ⊎_elim}
 use Rattle.std.proofs.lemmas.Bool.{cases_eq, false≢true}
 use Rattle.rv_machine.specs.declared.effects.Effect.{Effect}
-use Rattle.rv_machine.specs.declared.effects.Effect.TheVariants.{Computes, Divides, Jumps, Branches, Passes, Loads, Stores, Calls, Breaks}
+use Rattle.rv_machine.specs.declared.effects.Effect.TheVariants.{Computes, Multiplies, Divides, Jumps, Branches, Passes, Loads, Stores, Calls, Breaks}
 use Rattle.rv_machine.specs.declared.memory.Size.{Size}
 use Rattle.rv_machine.specs.declared.observation.Observation.{Observation}
 use Rattle.rv_machine.specs.declared.stops.Stop.{Stop}
@@ -13,6 +13,7 @@ use Rattle.rv_machine.specs.Bytes.{ByteMap, number_at, with_number}
 use Rattle.rv_machine.specs.Effects.{effect_of, load_size, store_size}
 use Rattle.rv_machine.specs.Machine.{State, Code, Ending, goes_on, stops, loaded, stored, with_value, with_stored, with_link, moved_to, ending_of, Turn, pc_misaligned, not_code, no_instruction, executes}
 use Rattle.rv_machine.specs.Sizes.{byte_count}
+use Rattle.word.specs.declared.profile.Profile.{Profile}
 use Rattle.rv_machine.proofs.ByteLaws.{number_at-zero, number_at-suc, with_number-zero, with_number-suc, with_byte_same, with_byte_other, joined_parts, is_some-with_number}
 
 -- Numbers.
@@ -95,23 +96,24 @@ module _ (s : State) (bytes : ByteMap) (covers : Covers s.bytes bytes) where
   same_stop : (seen : List Observation) (stop : Stop) → IsSameTurn s bytes (stops seen stop) (stops seen stop)
   same_stop seen stop = λ calm. refl
 
-  effect_same : (e : Effect) → IsSameTurn s bytes (ending_of e s) (ending_of e (over bytes s))
+  effect_same : (profile : Profile) (e : Effect) → IsSameTurn s bytes (ending_of profile e s) (ending_of profile e (over bytes s))
   unfolding ending_of with_value with_link moved_to
-  effect_same (Computes rd value) = (refl, refl, refl, changes_nothing s.bytes bytes covers)
-  effect_same (Divides rd a b value) = (refl, refl, refl, changes_nothing s.bytes bytes covers)
-  effect_same (Jumps rd target) =
+  effect_same profile (Computes rd value) = (refl, refl, refl, changes_nothing s.bytes bytes covers)
+  effect_same profile (Multiplies rd a b value) = (refl, refl, refl, changes_nothing s.bytes bytes covers)
+  effect_same profile (Divides rd a b value) = (refl, refl, refl, changes_nothing s.bytes bytes covers)
+  effect_same profile (Jumps rd target) =
       either_same s bytes (nat_eq (target % 4) 0) _ _ _ _ (refl, refl, refl, changes_nothing s.bytes bytes covers) (same_stop _ Misaligned)
-  effect_same (Branches target) =
+  effect_same profile (Branches target) =
       either_same s bytes (nat_eq (target % 4) 0) _ _ _ _ (refl, refl, refl, changes_nothing s.bytes bytes covers) (same_stop _ Misaligned)
-  effect_same Passes = (refl, refl, refl, changes_nothing s.bytes bytes covers)
-  effect_same (Loads operation rd a) =
+  effect_same profile Passes = (refl, refl, refl, changes_nothing s.bytes bytes covers)
+  effect_same profile (Loads operation rd a) =
       let n = byte_count (load_size operation) in
       either_same s bytes (nat_eq (a % n) 0) _ _ _ _ (load_same operation a rd n (number_at s.bytes n a) refl) (same_stop _ Misaligned)
-  effect_same (Stores operation a value) =
+  effect_same profile (Stores operation a value) =
       let n = byte_count (store_size operation) in
       either_same s bytes (nat_eq (a % n) 0) _ _ _ _ (store_same (store_size operation) a value (number_at s.bytes n a) refl) (same_stop _ Misaligned)
-  effect_same Calls = λ calm. refl
-  effect_same Breaks = λ calm. refl
+  effect_same profile Calls = λ calm. refl
+  effect_same profile Breaks = λ calm. refl
 
   -- the turn over more bytes
   pub turn_same : (code : Code) (e : Ending) → Turn code s e → (e' : Ending) × Turn code (over bytes s) e' × IsSameTurn s bytes e e'
@@ -119,4 +121,4 @@ module _ (s : State) (bytes : ByteMap) (covers : Covers s.bytes bytes) where
   turn_same code e (not_code even none) = (_, not_code even none, λ calm. refl)
   turn_same code e (no_instruction even is misfit) = (_, no_instruction even is misfit, λ calm. refl)
   turn_same code e (executes i even is ok ends) =
-      (ending_of (effect_of i s.pc s.regs) (over bytes s), executes i even is ok refl, subst (λ f. IsSameTurn s bytes f (ending_of (effect_of i s.pc s.regs) (over bytes s))) (sym ends) (effect_same (effect_of i s.pc s.regs)))
+      (ending_of code.profile (effect_of i s.pc s.regs) (over bytes s), executes i even is ok refl, subst (λ f. IsSameTurn s bytes f (ending_of code.profile (effect_of i s.pc s.regs) (over bytes s))) (sym ends) (effect_same code.profile (effect_of i s.pc s.regs)))

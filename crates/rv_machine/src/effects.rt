@@ -11,8 +11,8 @@ use crate::values::{
     divide_value, holds, immediate_value, multiply_value, register_value, shift_value, upper_value,
 };
 use rv_code::{
-    BranchOffset, BranchTest, DivideOperation, Immediate12, Instr, JumpOffset, LoadOperation, Reg,
-    StoreOperation,
+    BranchOffset, BranchTest, DivideOperation, Immediate12, Instr, JumpOffset, LoadOperation,
+    MultiplyOperation, Reg, StoreOperation,
 };
 use word::Width;
 
@@ -21,6 +21,8 @@ use word::Width;
 pub enum Effect {
     /// The register gets this value.
     Computes(Reg, u32),
+    /// The register gets the last number, which is made of the product of the two others.
+    Multiplies(Reg, u32, u32, u32),
     /// The register gets the last number, which is made of the first by the second.
     Divides(Reg, u32, u32, u32),
     /// The register gets the next address, and the program counter this target.
@@ -71,10 +73,7 @@ pub fn effect_of(hart: &Hart, instr: &Instr) -> Effect
             let value = register_value(operation, hart.reg(rs1), hart.reg(rs2));
             Effect::Computes(rd, value)
         }
-        Instr::Multiply(operation, rd, rs1, rs2) => {
-            let value = multiply_value(operation, hart.reg(rs1), hart.reg(rs2));
-            Effect::Computes(rd, value)
-        }
+        Instr::Multiply(operation, rd, rs1, rs2) => product(hart, operation, rd, rs1, rs2),
         Instr::Divide(operation, rd, rs1, rs2) => division(hart, operation, rd, rs1, rs2),
         Instr::Fence(_, _, _, _, _) => Effect::Passes,
         Instr::Ecall => Effect::Calls,
@@ -91,6 +90,15 @@ fn branch(hart: &Hart, test: BranchTest, rs1: Reg, rs2: Reg, offset: BranchOffse
     } else {
         Effect::Passes
     }
+}
+
+#[inline(always)]
+fn product(hart: &Hart, operation: MultiplyOperation, rd: Reg, rs1: Reg, rs2: Reg) -> Effect
+    ensures { result ≡ effect_of (Instr.Multiply operation rd rs1 rs2) (pc_of hart.now) (regs_of hart.now) }
+{
+    let a = hart.reg(rs1);
+    let b = hart.reg(rs2);
+    Effect::Multiplies(rd, a, b, multiply_value(operation, a, b))
 }
 
 #[inline(always)]

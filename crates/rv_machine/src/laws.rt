@@ -19,7 +19,7 @@ ghost use Rattle.rv_machine.specs.Bytes.{ByteMap, number_at, with_number};
 ghost use Rattle.rv_machine.specs.Effects.{sign_extended, upper_value, immediate_value, shift_value, register_value, multiply_value, divide_value, holds, load_size, loaded_value, store_size, address_of, jump_target, branch_target, register_target};
 ghost use Rattle.rv_machine.specs.Entries.{Entry, entries_of, IsFirstDifference};
 ghost use Rattle.rv_machine.specs.Leakage.{Leads, Halts, Stepped, Runs, Ran};
-ghost use Rattle.rv_machine.specs.Machine.{State, Code, IsAt, Ending, Turn, here, next, observed, with_value, with_stored, with_link, moved_to};
+ghost use Rattle.rv_machine.specs.Machine.{State, Code, IsAt, Ending, Turn, here, next, observed, product_shown, with_value, with_stored, with_link, moved_to};
 ghost use Rattle.rv_machine.specs.Recording.{kept};
 ghost use Rattle.rv_machine.specs.Registers.{register};
 ghost use Rattle.rv_machine.specs.Sizes.{byte_count};
@@ -125,8 +125,9 @@ pub fn instructions_turn()
         → IsAt code s.pc (Instr.Shift operation rd rs1 amount)
         → Leads code 1 s (here s) (with_value s rd (shift_value operation (register s.regs rs1) amount)) }
     ensures multiply { (code : Code) (s : State) (operation : MultiplyOperation) (rd rs1 rs2 : ℕ)
-        → IsAt code s.pc (Instr.Multiply operation rd rs1 rs2)
-        → Leads code 1 s (here s) (with_value s rd (multiply_value operation (register s.regs rs1) (register s.regs rs2))) }
+        → let a = register s.regs rs1 in let b = register s.regs rs2 in
+        IsAt code s.pc (Instr.Multiply operation rd rs1 rs2)
+        → Leads code 1 s (observed s (product_shown code.profile a b) ∷ []) (with_value s rd (multiply_value operation a b)) }
     ensures divide { (code : Code) (s : State) (operation : DivideOperation) (rd rs1 rs2 : ℕ)
         → let a = register s.regs rs1 in let b = register s.regs rs2 in
         IsAt code s.pc (Instr.Divide operation rd rs1 rs2)

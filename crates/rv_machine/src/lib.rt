@@ -3,7 +3,8 @@
 // It promises that `step` makes one turn of the machine (`specs/Machine.antt`) and records what that
 // turn shows (`specs/Leakage.antt`), that `run` makes turns up to the first one that stops or to its
 // budget, both for any lawful memory and recorder, and that the memories and recorders here are
-// lawful. It stands on `rv_code`, which says what instruction a word is, and computes by `word`.
+// lawful. What a turn shows goes by the profile of the code: in profile 2 the operands of
+// multiplications are shown too. It stands on `rv_code`, which says what instruction a word is, and computes by `word`.
 #![tactic(auto)]
 
 pub mod code;

@@ -11,6 +11,8 @@ pub enum Event {
     Store(u32, Size),
     /// It divided the first number by the second.
     Div(u32, u32),
+    /// It multiplied these numbers. Code of profile 1 shows no product.
+    Mul(u32, u32),
 }
 
 /// What one turn shows: the program counter, and the event where the instruction has one.

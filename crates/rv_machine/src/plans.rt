@@ -4,10 +4,12 @@ ghost use Rattle.std.specs.Prelude.{◌≡◌, ◌≢◌, ℕ, ◌%◌, Some, No
 ghost use Rattle.rv_machine.specs.Bytes.{ByteMap};
 ghost use Rattle.rv_machine.specs.Decoded.{spelled, IsDecoded};
 ghost use Rattle.rv_machine.specs.Harts.{state_of};
-ghost use Rattle.rv_machine.specs.Machine.{State, Code, Turn, word_at, ending_of};
+ghost use Rattle.rv_machine.specs.Machine.{State, Turn, word_at, product_shown, ending_of};
 ghost use Rattle.rv_machine.specs.Plans.{ends_as, stop_of, IsPossible};
+ghost use Rattle.rv_machine.specs.Regions.{code_of};
+ghost use Rattle.word.specs.declared.profile.Profile.{Profile};
 
-use crate::code::CodeWord;
+use crate::code::{CodeRegion, CodeWord};
 use crate::effects::{Effect, effect_of};
 use crate::hart::Hart;
 use crate::memory::{Memory, Size};
@@ -15,6 +17,7 @@ use crate::observation::Event;
 use crate::stops::Stop;
 use crate::values::{load_size, loaded_value, store_size};
 use rv_code::{LoadOperation, Reg, StoreOperation};
+use word::Profile;
 
 /// What a turn changes, where the recorder takes what it shows.
 #[derive(Clone, Copy, Debug, PartialEq, Eq)]
@@ -53,8 +56,8 @@ fn unseen(change: Change) -> Plan
 /// The plan of a load.
 #[inline(always)]
 fn load_plan<M: Memory>(memory: &M, operation: LoadOperation, rd: Reg, a: u32) -> Plan
-    ensures ends { (pc : ℕ) (regs : ℕ → ℕ) → let s : State = record { pc = pc; regs = regs; bytes = M.bytes memory.now } in
-        ends_as result.event result.change s ≡ ending_of (Effect.Loads operation rd a) s }
+    ensures ends { (profile : Profile) (pc : ℕ) (regs : ℕ → ℕ) → let s : State = record { pc = pc; regs = regs; bytes = M.bytes memory.now } in
+        ends_as result.event result.change s ≡ ending_of profile (Effect.Loads operation rd a) s }
     ensures possible { IsPossible (M.bytes memory.now) result.change }
     ensures calm { stop_of result.change ≢ Some Stop.RecorderRefused }
 {
@@ -74,8 +77,8 @@ fn load_plan<M: Memory>(memory: &M, operation: LoadOperation, rd: Reg, a: u32) -
 /// The plan of a store.
 #[inline(always)]
 fn store_plan<M: Memory>(memory: &M, operation: StoreOperation, a: u32, value: u32) -> Plan
-    ensures ends { (pc : ℕ) (regs : ℕ → ℕ) → let s : State = record { pc = pc; regs = regs; bytes = M.bytes memory.now } in
-        ends_as result.event result.change s ≡ ending_of (Effect.Stores operation a value) s }
+    ensures ends { (profile : Profile) (pc : ℕ) (regs : ℕ → ℕ) → let s : State = record { pc = pc; regs = regs; bytes = M.bytes memory.now } in
+        ends_as result.event result.change s ≡ ending_of profile (Effect.Stores operation a value) s }
     ensures possible { IsPossible (M.bytes memory.now) result.change }
     ensures calm { stop_of result.change ≢ Some Stop.RecorderRefused }
 {
@@ -108,16 +111,31 @@ fn arriving(target: u32, change: Change) -> Plan
     }
 }
 
-/// The plan of an instruction that does this.
+/// What a product of these numbers shows the observer of this profile.
 #[inline(always)]
-fn effect_plan<M: Memory>(hart: &Hart, effect: Effect, memory: &M) -> Plan
+fn product_event(profile: Profile, a: u32, b: u32) -> Option<Event>
+    ensures { result ≡ product_shown profile a b }
+{
+    match profile {
+        Profile::P1 => None,
+        Profile::P2 => Some(Event::Mul(a, b)),
+    }
+}
+
+/// The plan of an instruction of the code that does this.
+#[inline(always)]
+fn effect_plan<M: Memory>(hart: &Hart, code: &CodeRegion, effect: Effect, memory: &M) -> Plan
     ensures ends { let s = state_of hart.now (M.bytes memory.now) in
-        ends_as result.event result.change s ≡ ending_of effect s }
+        ends_as result.event result.change s ≡ ending_of (code_of code.now).profile effect s }
     ensures possible { IsPossible (M.bytes memory.now) result.change }
     ensures calm { stop_of result.change ≢ Some Stop.RecorderRefused }
 {
     match effect {
         Effect::Computes(rd, value) => unseen(Change::Writes(rd, value)),
+        Effect::Multiplies(rd, a, b, value) => Plan {
+            event: product_event(code.profile(), a, b),
+            change: Change::Writes(rd, value),
+        },
         Effect::Divides(rd, a, b, value) => Plan {
             event: Some(Event::Div(a, b)),
             change: Change::Writes(rd, value),
@@ -132,17 +150,22 @@ fn effect_plan<M: Memory>(hart: &Hart, effect: Effect, memory: &M) -> Plan
     }
 }
 
-/// The plan of a turn, where this code word stands at the hart's program counter.
+/// The plan of a turn, where this word of the code stands at the hart's program counter.
 #[inline(always)]
-pub(crate) fn plan_of<M: Memory>(hart: &Hart, word: &CodeWord, memory: &M) -> Plan
-    ensures turn { (code : Code) → let s = state_of hart.now (M.bytes memory.now) in
-        s.pc % 4 ≡ 0 → word_at code s.pc ≡ Some (spelled word.now) → IsDecoded word.now
-        → Turn code s (ends_as result.event result.change s) }
+pub(crate) fn plan_of<M: Memory>(
+    hart: &Hart,
+    code: &CodeRegion,
+    word: &CodeWord,
+    memory: &M,
+) -> Plan
+    ensures turn { let s = state_of hart.now (M.bytes memory.now) in
+        s.pc % 4 ≡ 0 → word_at (code_of code.now) s.pc ≡ Some (spelled word.now) → IsDecoded word.now
+        → Turn (code_of code.now) s (ends_as result.event result.change s) }
     ensures possible { IsPossible (M.bytes memory.now) result.change }
     ensures calm { stop_of result.change ≢ Some Stop.RecorderRefused }
 {
     match word {
-        CodeWord::Instruction(instr) => effect_plan(hart, effect_of(hart, instr), memory),
+        CodeWord::Instruction(instr) => effect_plan(hart, code, effect_of(hart, instr), memory),
         CodeWord::Other(_) => unseen(Change::Stops(Stop::Illegal)),
     }
 }
