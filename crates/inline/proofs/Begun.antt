@@ -15,10 +15,10 @@ use Rattle.language.specs.declared.typing.ValueType.TheVariants.{Word, Array}
 use Rattle.language.specs.declared.typing.WordType.{WordType}
 use Rattle.language.specs.Meaning.{is_word}
 use Rattle.language.specs.Tree.{ExprTree, name, ParameterTree}
-use Rattle.language.specs.Types.{Scope}
+use Rattle.language.specs.Types.{Scope, declared}
 use Rattle.language.specs.Typing.{with_parameters, parameter_as, is_mutable, same_name}
 use Rattle.language.specs.WellTyped.{labelled, HasType, Suits, IsVariable, IsPassed, as_word, as_array, as_mutable_array, array_given, array_of, SharesNone, ArePassed, none_passed, one_passed, AreNew, one_is_new}
-use Rattle.names.specs.Scope.{found, declared}
+use Rattle.names.specs.Scope.{found}
 use Rattle.inline.proofs.Lookup.{found-new, found-other, found-kept}
 use Rattle.inline.proofs.Linked.{Linked, Serves, entry, linked_named, linked_beside, linked_declared, known_array}
 use Rattle.inline.proofs.Parameters.{parameter_same, typed_with, itself}
@@ -45,7 +45,7 @@ pub record ArrayGiven (names : Numbers) (types : Types) (n : ℕ) (p : Parameter
   pub given : array_given p.form e ≡ Some text
   pub enough : is_mutable p.form ≡ true → free ≡ true
   pub elements : elements_by p.form p.length ≡ Some p.length
-  pub serves : Serves (types number) (own_variable p)
+  pub serves : Serves (types.at number) (own_variable p)
 
 no_word : {A : Type 0} (form : Form) → form ≡ SingleWord → is_word form ≡ false → A
 no_word form is e = absurd (true≢false (sym (ap is_word is) ∙ e))
@@ -212,7 +212,7 @@ module _ (scope : Scope) (names : Numbers) where
           let new = within.none p.name here in
           let low = subst (λ k. k < n) (sym a.here) a.low in
           let next = subst (λ v. Linked (declared inner p.name v) own' types n) (parameter_same p)
-          (linked_named inner own types n within p.name here number d low (subst (λ k. Serves (types k) d) (sym a.here) a.serves) (λ other x known. apart.0 other x known form)) in
+          (linked_named inner own types n within p.name here number d low (subst (λ k. Serves (types.at k) d) (sym a.here) a.serves) (λ other x known. apart.0 other x known form)) in
           let rest = more own' types n linked next (distinct_more names own p.name number d new ps es (unshared_array scope names types n linked p e a shares are) apart.1) in
           let end = begun names own' n ps es in
           subst (λ b. Enters inner names (p ∷ ps) (e ∷ es) (if b then begun names (naming own p.name n d) (n + 1) ps es else end) (typed_with types n (if b then d ∷ passed_variables ps es else passed_variables ps es)) (n + length (if b then d ∷ passed_variables ps es else passed_variables ps es)))

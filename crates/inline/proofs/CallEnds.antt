@@ -34,8 +34,9 @@ use Rattle.inline.proofs.Passing.{passed_keeps, passed_comes}
 use Rattle.inline.proofs.Terms.{Holds, Shows}
 
 -- before the first parameter
-pub no_names : (scope : Scope) → NoVariables scope → (types : Types) (n : ℕ) → ((x : ℕ) → n ≤ x → types x ≡ None) → Linked scope [] types n
-no_names scope none types n fresh = record {
+pub no_names : (scope : Scope) → NoVariables scope → (types : Types) (n : ℕ) → types.profile ≡ scope.profile → ((x : ℕ) → n ≤ x → types.at x ≡ None) → Linked scope [] types n
+no_names scope none types n observed fresh = record {
+  observed = observed;
   known = λ text v is. absurd (none text v is);
   none = λ text is. refl;
   below = λ text x is. absurd (none-some x is);
@@ -64,7 +65,7 @@ no_change scope (one_passed {p = p} {ps = ps} {argument = e} {arguments = es} is
 
 module _ (earlier : List ProcedureTree) (scope : Scope) (names : Numbers) (n : ℕ) (ready : Ready earlier scope names n) where
   -- a call of a procedure that means the same
-  module _ (c : CallTree) (callee : Callee) (p : ProcedureTree) (meant : IsCallable IsKept earlier c.name callee p) (passed_are : ArePassed scope p.parameters c.arguments) where
+  module _ (c : CallTree) (callee : Callee) (p : ProcedureTree) (meant : IsCallable IsKept earlier scope.profile c.name callee p) (passed_are : ArePassed scope p.parameters c.arguments) where
     abbrev own : Numbers
     own = begun names [] n p.parameters c.arguments
 
@@ -83,7 +84,7 @@ module _ (earlier : List ProcedureTree) (scope : Scope) (names : Numbers) (n : �
     entered : Enters meant.good.scope names p.parameters c.arguments own own_types start
     entered =
         enters scope names passed_are meant.good.scope [] ready.types n meant.good.parameters ready.linked
-        (no_names meant.good.scope meant.good.procedures ready.types n ready.linked.fresh) (distinct_none names p.parameters c.arguments)
+        (no_names meant.good.scope meant.good.procedures ready.types n (ready.linked.observed ∙ sym (meant.good.observed ∙ meant.observed)) ready.linked.fresh) (distinct_none names p.parameters c.arguments)
 
     body_kept : (x : ℕ) → x < n → (Changes names x p.parameters c.arguments → ⊥) → (m : Values) → after_all (after_all m passed_block) body_block x ≡ m x
     body_kept x low none m =

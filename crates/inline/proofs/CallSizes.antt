@@ -156,7 +156,7 @@ module _ (earlier : List ProcedureTree) (at : Scope) (stand : Stand SizedBody ea
   pub call_sized : {scope : Scope} {control : Label} {c : CallTree} {type : ValueType} → IsCall earlier scope control c type → IsWithin earlier at scope → (names : Numbers) (n : ℕ)
       → CallSized names n c type (callables earlier c.name) (extents_of earlier c.name)
   call_sized {scope = scope} (of_procedure {c = c} {callee = own} {p = p} is get are quiet) within names n =
-      let k = stand.callable c.name own p (within c.name own p is get) get in
+      let k = stand.callable c.name own p (within c.name own p is get).1 get in
       subst (λ o. CallSized names n c (result_value p.result) o (extents_of earlier c.name)) (sym (known-named callable earlier k.before p c.name k.is))
       (subst (CallSized names n c (result_value p.result) (Some (callable (callables k.before) p))) (sym (known-named extent_of earlier k.before p c.name k.is))
       (body_sized k.before k.at p k.good scope names n c are))

@@ -17,11 +17,10 @@ use Rattle.language.specs.declared.typing.WordType.{WordType}
 use Rattle.language.specs.Grammatical.{AreAllSmall}
 use Rattle.language.specs.Meaning.{is_word}
 use Rattle.language.specs.Tree.{ExprTree, CallTree, ParameterTree, ProcedureTree}
-use Rattle.language.specs.Types.{Scope, callee, joined}
+use Rattle.language.specs.Types.{Scope, found, callee, joined}
 use Rattle.language.specs.Typing.{is_mutable, may_assign, calls_one, assigns_public, body_scope, result_value, with_procedure}
 use Rattle.language.specs.WellTyped as rules
 use Rattle.language.specs.WellTyped.{labelled, AreNew, ArePassed, none_passed, one_passed, IsCall, of_procedure}
-use Rattle.names.specs.Scope.{found}
 use Rattle.inline.proofs.Begun.{word_given, enters, distinct_none}
 use Rattle.inline.proofs.ChainTypes.{chain-types, chain-typed}
 use Rattle.language.proofs.KnownLemmas.{known-named}
@@ -89,8 +88,9 @@ pub record CallFits (all : List FlatVariable) (types : Types) (control : Label) 
   pub gives : type ≡ result_value (call_result o)
 
 -- no name of variables stands in a scope of procedures
-none_linked : (scope base : Scope) (names : Numbers) (types : Types) (n : ℕ) → NoVariables base → Linked scope names types n → Linked base [] types n
-none_linked scope base names types n none linked = record {
+none_linked : (scope base : Scope) (names : Numbers) (types : Types) (n : ℕ) → base.profile ≡ scope.profile → NoVariables base → Linked scope names types n → Linked base [] types n
+none_linked scope base names types n same none linked = record {
+  observed = linked.observed ∙ sym same;
   known = λ text v is. absurd (none text v is);
   none = λ text is. refl;
   below = λ text x is. absurd (none-some x is);
@@ -99,9 +99,9 @@ none_linked scope base names types n none linked = record {
 }
 
 body_fits : (before : List ProcedureTree) (at : Scope) (p : ProcedureTree) → TypedBody before at p → (all : List FlatVariable) (control : Label) → (control ≡ Secret → assigns_public at p ≡ false)
-    → (scope : Scope) (names : Numbers) (types : Types) (n : ℕ) → Linked scope names types n → (es : List ExprTree) → ArePassed scope p.parameters es → AreAllSmall es
+    → (scope : Scope) → at.profile ≡ scope.profile → (names : Numbers) (types : Types) (n : ℕ) → Linked scope names types n → (es : List ExprTree) → ArePassed scope p.parameters es → AreAllSmall es
     → Lists all n (call_variables (Some (callable (callables before) p)) es) → CallFits all types control names n es (result_value p.result) (Some (callable (callables before) p))
-body_fits before at p body all control quiet scope names types n linked es are small lists =
+body_fits before at p body all control quiet scope same names types n linked es are small lists =
     let words = passed_variables p.parameters es in
     let front = passed names n p.parameters es in
     let own = begun names [] n p.parameters es in
@@ -109,7 +109,7 @@ body_fits before at p body all control quiet scope names types n linked es are s
     let back = block (callables before) own m p.body in
     let inside = types_after_all types front in
     let base = with_procedure at (length before) p in
-    let start = enters scope names are base [] types n body.parameters linked (none_linked scope base names types n body.variables linked) (distinct_none names p.parameters es) in
+    let start = enters scope names are base [] types n body.parameters linked (none_linked scope base names types n same body.variables linked) (distinct_none names p.parameters es) in
     let ready = subst (λ (t : Types). Linked (body_scope at (length before) p) own t m) (sym (passed_types names types n p.parameters es)) start.linked in
     let behind = lists_right all n words (declared_in_all (callables before) p.body) lists in
     let one = passed_typed all control scope names are small types n linked (lists_left all n words (declared_in_all (callables before) p.body) lists) in
@@ -126,10 +126,10 @@ module _ (earlier : List ProcedureTree) (at : Scope) (stand : Stand TypedBody ea
       → CallFits all types (joined outer control) names n c.arguments type (callables earlier c.name)
   call_fits {scope = scope} {control = control} (of_procedure {c = c} {callee = own} {p = p} is get are quiet) within outer hush all names types n linked small lists =
       let inside = within c.name own p is get in
-      let k = stand.callable c.name own p inside get in
+      let k = stand.callable c.name own p inside.1 get in
       let same = known-named callable earlier k.before p c.name k.is in
       subst (CallFits all types (joined outer control) names n c.arguments (result_value p.result)) (sym same)
-      (body_fits k.before k.at p k.good all (joined outer control) (λ e. sym k.quiet ∙ by_outer outer hush inside e) scope names types n linked c.arguments are small (subst (λ o. Lists all n (call_variables o c.arguments)) same lists))
+      (body_fits k.before k.at p k.good all (joined outer control) (λ e. sym k.quiet ∙ by_outer outer hush inside.1 e) scope (k.observed ∙ inside.0) names types n linked c.arguments are small (subst (λ o. Lists all n (call_variables o c.arguments)) same lists))
     where
       by_outer : (outer : Label) → (outer ≡ Secret → calls_one at c ≡ false) → found at c.name ≡ Some (Procedure own) → joined outer control ≡ Secret → own.assigns_public ≡ false
       by_outer Public hush inside e = quiet e
@@ -149,7 +149,7 @@ result_suits types (Some word) (Some value) given wanted is same suit =
     suits_as is (subst (λ w. rules.Suits w wanted) equal suit)
 
 -- a result that nothing takes
-pub dropped_typed : (all : List FlatVariable) (types : Types) (control : Label) (n : ℕ) (result : Option WordType) (value : Option TermTree) → types n ≡ None → Lists all n (dropped_variables result) → IsResult types result value
+pub dropped_typed : (all : List FlatVariable) (types : Types) (control : Label) (n : ℕ) (result : Option WordType) (value : Option TermTree) → types.at n ≡ None → Lists all n (dropped_variables result) → IsResult types result value
     → AreTyped all types control (dropped_block n result value)
 dropped_typed all types control n None value new lists is = tt
 dropped_typed all types control n (Some word) None new lists is = absurd is

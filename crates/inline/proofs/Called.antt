@@ -1,5 +1,6 @@
 -- What is known of procedures that may be called, and of the names where they are.
 use Rattle.std.proofs.Common.{◌≡◌, ℕ, suc, ◌+◌, ◌<◌, ◌≤◌, true, List, [], ◌∷◌, ◌++◌, length, Option, Some, None, arith, length-append}
+use Rattle.word.specs.declared.profile.Profile.{Profile}
 use Rattle.inline.specs.declared.flat.FlatVariable.{FlatVariable}
 use Rattle.inline.specs.declared.numbering.Numbered.{Numbered}
 use Rattle.inline.specs.Flat.{TermTree, word_as, array_as}
@@ -13,10 +14,10 @@ use Rattle.language.specs.declared.typing.WordType.{WordType}
 use Rattle.language.specs.Meaning.{Bodies, Returned}
 use Rattle.language.specs.State.{State, Word}
 use Rattle.language.specs.Tree.{StatementTree, BlockTree, ProcedureTree}
-use Rattle.language.specs.Types.{Scope}
+use Rattle.language.specs.Types.{Scope, declared}
 use Rattle.language.specs.Typing.{with_parameters, scope_after, scope_after_all}
 use Rattle.language.specs.WellTyped.{labelled, AreNew, IsWellTyped, declares, declares_array, assigns, assigns_element, calls, chooses, repeats, AreWellTyped, no_statement, one_more}
-use Rattle.names.specs.Scope.{found, declared}
+use Rattle.names.specs.Scope.{found}
 use Rattle.inline.proofs.Comes.{Comes}
 use Rattle.inline.proofs.Linked.{Linked, later, linked_declared, variable_as}
 use Rattle.inline.proofs.Parameters.{NoVariables}
@@ -48,8 +49,9 @@ BodyComes before p names n s m =
     Comes (Bodies before p s) (Agrees names end p.result value) (either (first_fault (path_along m body)) (first_fault (path_of_result end value)))
 
 -- a procedure behind those that it may call means the same once its names are numbers
-pub record Behaves (before : List ProcedureTree) (p : ProcedureTree) : Type 0 where
+pub record Behaves (profile : Profile) (before : List ProcedureTree) (p : ProcedureTree) : Type 0 where
   pub scope : Scope
+  pub observed : scope.profile ≡ profile
   pub procedures : NoVariables scope
   pub parameters : AreNew scope p.parameters
   pub returns : p.result ≡ None → p.returned ≡ None
@@ -59,7 +61,7 @@ pub record Behaves (before : List ProcedureTree) (p : ProcedureTree) : Type 0 wh
 
 -- the statement that each procedure meets, in the scope of those before it
 abbrev pub IsKept : List ProcedureTree → Scope → ProcedureTree → Type 0
-IsKept before scope p = Behaves before p
+IsKept before scope p = Behaves scope.profile before p
 
 -- where a statement begins: its names go together with numbers, of which the next is n, and with types
 pub record Ready (earlier : List ProcedureTree) (scope : Scope) (names : Numbers) (n : ℕ) : Type 0 where
@@ -71,7 +73,7 @@ pub ready_later : {earlier : List ProcedureTree} {scope : Scope} {names : Number
 ready_later {scope = scope} {names = names} n m more ready = record { types = ready.types; linked = later scope names ready.types n m more ready.linked; calls = ready.calls }
 
 -- after a declaration
-pub ready_declared : {earlier : List ProcedureTree} {scope : Scope} {names : Numbers} (n : ℕ) → Ready earlier scope names n → (text : List ℕ) (own : FlatVariable) → found scope text ≡ None
+pub ready_declared : {earlier : List ProcedureTree} {scope : Scope} {names : Numbers} (n : ℕ) → Ready earlier scope names n → (text : List ℕ) (own : FlatVariable) → found scope.names text ≡ None
     → Ready earlier (declared scope text (Variable (variable_as own))) (naming names text n own) (n + 1)
 ready_declared {earlier = earlier} {scope = scope} {names = names} n ready text own new = record {
   types = with_type ready.types n own;

@@ -31,9 +31,25 @@ pub chain-nodes : (a b : FlatBlock) → body_nodes (chain a b) ≡ body_nodes a 
 chain-nodes nothing b = omega arith
 chain-nodes (first s rest) b = let same = chain-nodes rest b in omega (arith, same)
 
+-- A block changes no observer.
+
+type_observed : (types : Types) (s : FlatTree) → (types_after types s).profile ≡ types.profile
+type_observed types (declare y word mutable value) = refl
+type_observed types (array y word mutable size values) = refl
+type_observed types (assign y value) = refl
+type_observed types (put place y size index value) = refl
+type_observed types (hold y place size index) = refl
+type_observed types skip = refl
+type_observed types (branch label condition accepted otherwise) = refl
+type_observed types (loop y low high body) = refl
+
+pub types_observed : (types : Types) (b : FlatBlock) → (types_after_all types b).profile ≡ types.profile
+types_observed types nothing = refl
+types_observed types (first s rest) = types_observed (types_after types s) rest ∙ type_observed types s
+
 -- What is numbered from n on changes the types of no other numbers.
 
-pub type_before : (types : Types) (n : ℕ) (s : FlatTree) → IsNumbered n s → (x : ℕ) → x < n → types_after types s x ≡ types x
+pub type_before : (types : Types) (n : ℕ) (s : FlatTree) → IsNumbered n s → (x : ℕ) → x < n → (types_after types s).at x ≡ types.at x
 type_before types n (declare y word mutable value) is x low = with_type-other types y x (word_as word mutable) (λ e. omega (arith, is, low, e))
 type_before types n (array y word mutable size values) is x low = with_type-other types y x (array_as word mutable size) (λ e. omega (arith, is, low, e))
 type_before types n (assign y value) is x low = refl
@@ -43,11 +59,11 @@ type_before types n skip is x low = refl
 type_before types n (branch label condition accepted otherwise) is x low = refl
 type_before types n (loop y low' high body) is x low = refl
 
-pub types_before : (types : Types) (n : ℕ) (b : FlatBlock) → AreNumbered n b → (x : ℕ) → x < n → types_after_all types b x ≡ types x
+pub types_before : (types : Types) (n : ℕ) (b : FlatBlock) → AreNumbered n b → (x : ℕ) → x < n → (types_after_all types b).at x ≡ types.at x
 types_before types n nothing are x low = refl
 types_before types n (first s rest) are x low = types_before (types_after types s) (n + declarations_in s) rest are.1 x (omega (arith, low)) ∙ type_before types n s are.0 x low
 
-type_behind : (types : Types) (n : ℕ) (s : FlatTree) → IsNumbered n s → (x : ℕ) → n + declarations_in s ≤ x → types_after types s x ≡ types x
+type_behind : (types : Types) (n : ℕ) (s : FlatTree) → IsNumbered n s → (x : ℕ) → n + declarations_in s ≤ x → (types_after types s).at x ≡ types.at x
 type_behind types n (declare y word mutable value) is x high = with_type-other types y x (word_as word mutable) (λ e. omega (arith, is, high, e))
 type_behind types n (array y word mutable size values) is x high = with_type-other types y x (array_as word mutable size) (λ e. omega (arith, is, high, e))
 type_behind types n (assign y value) is x high = refl
@@ -57,7 +73,7 @@ type_behind types n skip is x high = refl
 type_behind types n (branch label condition accepted otherwise) is x high = refl
 type_behind types n (loop y low' high' body) is x high = refl
 
-pub types_behind : (types : Types) (n : ℕ) (b : FlatBlock) → AreNumbered n b → (x : ℕ) → n + declarations_in_all b ≤ x → types_after_all types b x ≡ types x
+pub types_behind : (types : Types) (n : ℕ) (b : FlatBlock) → AreNumbered n b → (x : ℕ) → n + declarations_in_all b ≤ x → (types_after_all types b).at x ≡ types.at x
 types_behind types n nothing are x high = refl
 types_behind types n (first s rest) are x high =
     types_behind (types_after types s) (n + declarations_in s) rest are.1 x (omega (arith, high)) ∙ type_behind types n s are.0 x (omega (arith, high))

@@ -5,6 +5,7 @@ use Rattle.std.specs.Int.Bits.{and_lt}
 use Rattle.std.proofs.Math.Nat.{div-le_self, mod-le}
 use Rattle.std.proofs.lemmas.Bool.Decides.{nat_tests}
 use Rattle.std.proofs.lemmas.List.{get_or_past}
+use Rattle.word.specs.declared.profile.Profile.{Profile}
 use Rattle.word.specs.declared.width.Width.{Width}
 use Rattle.word.specs.declared.width.Width.TheVariants.{W8, W16, W32}
 use Rattle.word.specs.Operators.{complemented, rotated_left, wrapped, word_of, quotient, remainder}
@@ -73,7 +74,7 @@ prefix_fits Not k a is = subst (λ j. IsWithinKind j (word_of (not (truth_of a))
 prefix_fits Complement k a numeric = number_fits k _ numeric (complement_fits (width_of k) a)
 prefix_fits Negate k a numeric = number_fits k _ numeric (wrapped_fits (width_of k) _)
 
-pub operated_fits : (operator : BinaryOperator) {one other whole : WordType} (a b : ℕ) → Makes (operation_of operator) one other whole
+pub operated_fits : {profile : Profile} (operator : BinaryOperator) {one other whole : WordType} (a b : ℕ) → Makes profile (operation_of operator) one other whole
     → IsWithinKind one.kind a → IsWithinKind other.kind b → IsWithinKind whole.kind (operated operator (width_of one.kind) a b)
 operated_fits Either a b logic low high = bit_fits (truth_of a || truth_of b)
 operated_fits Both a b logic low high = bit_fits (truth_of a && truth_of b)
@@ -90,7 +91,7 @@ operated_fits ShiftLeft a b (shift {kind = k} numeric) low high = number_fits k 
 operated_fits ShiftRight a b (shift {kind = k} numeric) low high = number_fits k _ numeric (wrapped_fits (width_of k) _)
 operated_fits Add a b (arithmetic {kind = k} numeric) low high = number_fits k _ numeric (wrapped_fits (width_of k) _)
 operated_fits Subtract a b (arithmetic {kind = k} numeric) low high = number_fits k _ numeric (wrapped_fits (width_of k) _)
-operated_fits Multiply a b (multiplication {kind = k} numeric) low high = number_fits k _ numeric (wrapped_fits (width_of k) _)
+operated_fits Multiply a b (multiplication {kind = k} numeric may) low high = number_fits k _ numeric (wrapped_fits (width_of k) _)
 operated_fits Divide a b (division {kind = k} numeric) low high = number_fits k _ numeric (quotient_fits (width_of k) a b (fits_number k a numeric low))
 operated_fits Remainder a b (division {kind = k} numeric) low high = number_fits k _ numeric (remainder_fits (width_of k) a b (fits_number k a numeric low))
 

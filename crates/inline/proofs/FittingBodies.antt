@@ -30,15 +30,15 @@ one_held word mutable v below = record { count = refl; within = All-cons (IsWith
 pub fits_declared : (types : Types) (m : Values) (y : ℕ) (v : List ℕ) (own : FlatVariable) → IsHeld own v → Fits types m → Fits (with_type types y own) (with_value m y v)
 fits_declared types m y v own here fits x d is = by_number (x == y) is
   where
-    by_number : (b : Bool) → (if b then Some own else types x) ≡ Some d → IsHeld d (if b then v else m x)
+    by_number : (b : Bool) → (if b then Some own else types.at x) ≡ Some d → IsHeld d (if b then v else m x)
     by_number true is = subst (λ (t : FlatVariable). IsHeld t v) (same_Some own d is) here
     by_number false is = fits x d is
 
-pub fits_assigned : (types : Types) (m : Values) (y : ℕ) (v : List ℕ) (own : FlatVariable) → types y ≡ Some own → IsHeld own v → Fits types m → Fits types (with_value m y v)
+pub fits_assigned : (types : Types) (m : Values) (y : ℕ) (v : List ℕ) (own : FlatVariable) → types.at y ≡ Some own → IsHeld own v → Fits types m → Fits types (with_value m y v)
 fits_assigned types m y v own there here fits x d is = by_number (x == y) refl
   where
     by_number : (b : Bool) → (x == y) ≡ b → IsHeld d (if b then v else m x)
-    by_number true e = subst (λ (t : FlatVariable). IsHeld t v) (same_Some own d (sym there ∙ (ap types (sym (eqb-true x y e)) ∙ is))) here
+    by_number true e = subst (λ (t : FlatVariable). IsHeld t v) (same_Some own d (sym there ∙ (ap types.at (sym (eqb-true x y e)) ∙ is))) here
     by_number false e = fits x d is
 
 -- the elements of a new array
@@ -125,11 +125,11 @@ fits_given (p ∷ ps) (e ∷ ds) (arg ∷ args) within front zero d is = subst (
 fits_given (p ∷ ps) (e ∷ ds) (arg ∷ args) within front (suc x) d is = fits_given ps ds args within.1 (ap (λ xs. drop 1 xs) front) x d is
 
 -- in a well-typed program
-pub parameters_fit : (p : FlatProgram) (args : List Arg) → IsTypedProgram p → AreWithin p.parameters args → Fits (parameter_types p.parameters) (given p.declared args)
+pub parameters_fit : (p : FlatProgram) (args : List Arg) → IsTypedProgram p → AreWithin p.parameters args → Fits (parameter_types p.profile p.parameters) (given p.declared args)
 parameters_fit p args typed within x d is = fits_given p.parameters p.declared args within typed.parameters x d is
 
 pub end_fits : (p : FlatProgram) (args : List Arg) → IsTypedProgram p → AreWithin p.parameters args → Fits (end_types p) (end_of p args)
-end_fits p args typed within = fits_after_all p.declared p.body (parameter_types p.parameters) Public typed.body (given p.declared args) (parameters_fit p args typed within)
+end_fits p args typed within = fits_after_all p.declared p.body (parameter_types p.profile p.parameters) Public typed.body (given p.declared args) (parameters_fit p args typed within)
 
 pub result_fits : (p : FlatProgram) (args : List Arg) (word : WordType) (value : TermTree) → IsTypedProgram p → AreWithin p.parameters args → p.returned ≡ Some word → p.value ≡ Some value → IsWithinKind word.kind (value_in (end_of p args) value)
 result_fits p args word value typed within returned valued =

@@ -3,6 +3,7 @@ use Rattle.std.proofs.Common.{◌≡◌, ℕ, ◌+◌, List, [], ◌++◌, lengt
 use Rattle.std.specs.List.{AllByRecursion}
 use Rattle.std.specs.Option.{option_map}
 use Rattle.word.specs.declared.place.Place.{Place}
+use Rattle.word.specs.declared.profile.Profile.{Profile}
 use Rattle.arguments.specs.Within.{AreWithin}
 use Rattle.inline.specs.Flat.{TermTree}
 use Rattle.inline.specs.FlatMeaning.{Values, given, value_in, path_along, path_of_result, after_all, outcome_of, ending_by, ending_of}
@@ -72,9 +73,10 @@ module _ (before : List ProcedureTree) (scope : Scope) (p : ProcedureTree) (stan
         (λ at is. is))
         (λ at run. statements_fault run)
 
-  abbrev pub behaves : Behaves before p
+  abbrev pub behaves : Behaves scope.profile before p
   behaves = record {
     scope = with_procedure scope (length before) p;
+    observed = refl;
     procedures = variables_within IsKept before scope stand p typed.is_new;
     parameters = typed.parameters;
     returns = no_result typed.returns;
@@ -96,10 +98,10 @@ ended : (program : ProgramTree) (args : List Arg) (before : List ProcedureTree) 
 ended program args before p outcome fault is (well r body same) = subst (λ x. Gives program args (gives x)) same (ends_well is body)
 ended program args before p outcome fault is (fails at body) = meets_fault is body
 
-pub flat_keeps_meaning : (program : ProgramTree) (before : List ProcedureTree) (p : ProcedureTree) (args : List Arg) → length (violations program) ≡ 0 → exported [] program.procedures ≡ Some (before, p)
-    → AllByRecursion IsGrammatical before → IsGrammatical p → AreWithin (map param_of p.parameters) args → Gives program args (ending_of (flattened before p) args)
-flat_keeps_meaning program before p args h is grammatical plain within =
-    let e = own_typing IsKept IsGrammatical behaves program before p h is grammatical in
+pub flat_keeps_meaning : (profile : Profile) (program : ProgramTree) (before : List ProcedureTree) (p : ProcedureTree) (args : List Arg) → length (violations profile program) ≡ 0 → exported [] program.procedures ≡ Some (before, p)
+    → AllByRecursion IsGrammatical before → IsGrammatical p → AreWithin (map param_of p.parameters) args → Gives program args (ending_of (flattened profile before p) args)
+flat_keeps_meaning profile program before p args h is grammatical plain within =
+    let e = own_typing IsKept IsGrammatical behaves profile program before p h is grammatical in
     let known = callables before in
     let scope = with_procedure e.scope (length before) p in
     let variables = variables_within IsKept before e.scope e.stand p e.typed.is_new in
@@ -110,10 +112,10 @@ flat_keeps_meaning program before p args h is grammatical plain within =
     let from = given (all_own p.parameters ++ declared_in_all known p.body) args in
     let m = after_all from body in
     let value = value_of (names_after_all known names n p.body) p.returned in
-    let linked = linked_parameters scope variables p.parameters e.typed.parameters in
-    let named = (where_begun scope variables p.parameters e.typed.parameters).named in
-    ended program args before p (outcome_of (flattened before p) args) (first_fault (path_along from body ++ path_of_result m value)) is
-    (subst (Comes (Bodies before p start) (λ r. _ ≡ outcome_of (flattened before p) args)) (sym (across (path_along from body) (path_of_result m value)))
-    (also (body_comes before e.scope p e.stand e.typed plain names (parameter_types (map param_of p.parameters)) n linked start from (shows_arguments p.parameters (declared_in_all known p.body) args within))
+    let linked = linked_parameters profile scope e.observed variables p.parameters e.typed.parameters in
+    let named = (where_begun profile scope e.observed variables p.parameters e.typed.parameters).named in
+    ended program args before p (outcome_of (flattened profile before p) args) (first_fault (path_along from body ++ path_of_result m value)) is
+    (subst (Comes (Bodies before p start) (λ r. _ ≡ outcome_of (flattened profile before p) args)) (sym (across (path_along from body) (path_of_result m value)))
+    (also (body_comes before e.scope p e.stand e.typed plain names (parameter_types profile (map param_of p.parameters)) n linked start from (shows_arguments p.parameters (declared_in_all known p.body) args within))
     (λ r bodies agrees. (r, bodies, ap₂ (λ o arrays. record { returned = o; arrays = arrays }) (word_same agrees.word) (arrays_same p.parameters names 0 r.state m named agrees.shows)))
     (λ at bodies. bodies)))

@@ -3,6 +3,7 @@ use Rattle.std.proofs.Common.{◌≡◌, ℕ, ◌+◌, false, List, [], ◌∷�
 use Rattle.std.proofs.Math.Seq.{take-append_seam}
 use Rattle.std.proofs.lemmas.List.{length-map}
 use Rattle.std.specs.List.{AllByRecursion}
+use Rattle.word.specs.declared.profile.Profile.{Profile}
 use Rattle.inline.specs.declared.flat.FlatVariable.{FlatVariable}
 use Rattle.inline.specs.FlatTyping.{Types, IsTypedProgram, AreNumbered, AreTyped, IsResult, parameter_types, types_after_all}
 use Rattle.inline.specs.Numbering.{Numbers, param_of, parameter_names, flattened, callables, block, declared_in_all, numbers_taken_all, names_after_all, value_of}
@@ -72,25 +73,25 @@ module _ (before : List ProcedureTree) (at : Scope) (p : ProcedureTree) (stand :
 -- The program.
 
 -- the procedures that the export may call are well typed
-pub export_typed : (program : ProgramTree) (before : List ProcedureTree) (p : ProcedureTree) → length (violations program) ≡ 0 → exported [] program.procedures ≡ Some (before, p) → AllByRecursion IsGrammatical before → Exported TypedBody before p
-export_typed program before p h is plain = own_typing TypedBody IsGrammatical (λ before at p stand typed plain. typed_one before at p stand typed plain) program before p h is plain
+pub export_typed : (profile : Profile) (program : ProgramTree) (before : List ProcedureTree) (p : ProcedureTree) → length (violations profile program) ≡ 0 → exported [] program.procedures ≡ Some (before, p) → AllByRecursion IsGrammatical before → Exported TypedBody profile before p
+export_typed profile program before p h is plain = own_typing TypedBody IsGrammatical (λ before at p stand typed plain. typed_one before at p stand typed plain) profile program before p h is plain
 
 -- each parameter has a number
 own_count : (ps : List ParameterTree) → length (all_own ps) ≡ length ps
 own_count [] = refl
 own_count (p ∷ ps) = let same = own_count ps in omega (arith, same)
 
-pub flat_is_typed : (program : ProgramTree) (before : List ProcedureTree) (p : ProcedureTree) → length (violations program) ≡ 0 → exported [] program.procedures ≡ Some (before, p) → AllByRecursion IsGrammatical before → IsGrammatical p
-    → IsTypedProgram (flattened before p)
-flat_is_typed program before p h is earlier plain =
-    let e = export_typed program before p h is earlier in
+pub flat_is_typed : (profile : Profile) (program : ProgramTree) (before : List ProcedureTree) (p : ProcedureTree) → length (violations profile program) ≡ 0 → exported [] program.procedures ≡ Some (before, p) → AllByRecursion IsGrammatical before → IsGrammatical p
+    → IsTypedProgram (flattened profile before p)
+flat_is_typed profile program before p h is earlier plain =
+    let e = export_typed profile program before p h is earlier in
     let one = typed_one before e.scope p e.stand e.typed plain in
-    let types = parameter_types (map param_of p.parameters) in
+    let types = parameter_types profile (map param_of p.parameters) in
     let n = length p.parameters in
     let front = all_own p.parameters in
     let back = declared_in_all (callables before) p.body in
     let many = length-map p.parameters param_of in
-    let linked = linked_parameters (with_procedure e.scope (length before) p) one.variables p.parameters e.typed.parameters in
+    let linked = linked_parameters profile (with_procedure e.scope (length before) p) e.observed one.variables p.parameters e.typed.parameters in
     record {
       parameters = ap (λ k. take k (front ++ back)) (many ∙ sym (own_count p.parameters)) ∙ take-append_seam front back;
       numbered = subst (λ k. AreNumbered k (block (callables before) (parameter_names p) n p.body)) (sym many) (block_takes (callables before) (all_counted before) (parameter_names p) n p.body).numbered;

@@ -26,6 +26,7 @@ use Rattle.language.specs.Types.{Scope, when}
 use Rattle.language.specs.Typing.{violations, with_procedure}
 use Rattle.language.specs.WellTyped.{labelled, Gives, of_call, of_value, IsWellTyped, declares, declares_array, assigns, assigns_element, calls, chooses, repeats, AreWellTyped, no_statement, one_more, IsProcedure, Returns, nothing_returned, value_returned}
 use Rattle.word.specs.declared.place.Place.{Place}
+use Rattle.word.specs.declared.profile.Profile.{Profile}
 use Rattle.inline.proofs.CallSizes.{same_nodes, same_all, same_result, GoTogether, value_there, dropped_nodes, dropped_words, words-append, SizedBody, call_sized}
 use Rattle.inline.proofs.ChainTypes.{chain-nodes}
 use Rattle.inline.proofs.Parameters.{own, all_own}
@@ -199,10 +200,10 @@ have_lengths (p ∷ ps) are = (has_length p.form p.length are.0, have_lengths ps
 
 -- The program.
 
-pub flat_is_sized : (program : ProgramTree) (before : List ProcedureTree) (p : ProcedureTree) → length (violations program) ≡ 0 → exported [] program.procedures ≡ Some (before, p) → AllByRecursion IsGrammatical before → IsGrammatical p
-    → length (size_violations before p) ≡ 0 → IsSized (flattened before p)
-flat_is_sized program before p h is earlier plain small =
-    let e = own_typing SizedBody IsGrammatical (λ before at p stand typed plain. sized_one before at p stand typed) program before p h is earlier in
+pub flat_is_sized : (profile : Profile) (program : ProgramTree) (before : List ProcedureTree) (p : ProcedureTree) → length (violations profile program) ≡ 0 → exported [] program.procedures ≡ Some (before, p) → AllByRecursion IsGrammatical before → IsGrammatical p
+    → length (size_violations before p) ≡ 0 → IsSized (flattened profile before p)
+flat_is_sized profile program before p h is earlier plain small =
+    let e = own_typing SizedBody IsGrammatical (λ before at p stand typed plain. sized_one before at p stand typed) profile program before p h is earlier in
     let body = sized_one before e.scope p e.stand e.typed in
     let few = limits before p small in
     let nodes = body.nodes (parameter_names p) (length p.parameters) in

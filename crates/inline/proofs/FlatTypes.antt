@@ -55,9 +55,9 @@ served : {there : Option FlatVariable} {d : FlatVariable} → Serves there d →
 served {d = d} serves free = serves.is ∙ ap (λ b. Some (record { word = d.word; mutable = b; elements = d.elements })) (serves.enough free)
 
 -- an array's number and size
-array_there : {names : Numbers} {types : Types} {text : List ℕ} {array : ArrayType} → KnownAs names types text (array_as array.element true array.length) → types (number_of names text) ≡ Some (array_as array.element true (size_of names text))
+array_there : {names : Numbers} {types : Types} {text : List ℕ} {array : ArrayType} → KnownAs names types text (array_as array.element true array.length) → types.at (number_of names text) ≡ Some (array_as array.element true (size_of names text))
 array_there {types = types} {array = own} x =
-    ap (λ (x : Numbered). types x.number) x.here ∙ (served x.typed refl ∙ ap (λ (x : Numbered). Some (array_as own.element true (numbers_in x.declaration.elements))) (sym x.here))
+    ap (λ (x : Numbered). types.at x.number) x.here ∙ (served x.typed refl ∙ ap (λ (x : Numbered). Some (array_as own.element true (numbers_in x.declaration.elements))) (sym x.here))
 
 -- the first values of an array
 module _ (scope : Scope) (names : Numbers) (types : Types) (n : ℕ) (linked : Linked scope names types n) where
@@ -218,7 +218,7 @@ module _ (earlier : List ProcedureTree) where
           chain-typed all types (joined outer control) front (single (tree.assign (number_of names text) (right known names n r))) f.typed (
             record {
               word = wanted;
-              known = ap (λ (x : Numbered). inside x.number) x.here ∙ served x.typed refl;
+              known = ap (λ (x : Numbered). inside.at x.number) x.here ∙ served x.typed refl;
               suits = f.suits;
               hidden = still_secret outer flow (λ e. (hush e).0 text _ is refl);
             },

@@ -8,10 +8,9 @@ use Rattle.language.specs.declared.signature.Label.TheVariants.{Public, Secret}
 use Rattle.language.specs.declared.typing.Declared.TheVariants.{Variable}
 use Rattle.language.specs.declared.typing.VariableType.{VariableType}
 use Rattle.language.specs.Tree.{ParameterTree, ProcedureTree, StatementTree}
-use Rattle.language.specs.Types.{Scope, label_of}
+use Rattle.language.specs.Types.{Scope, found, declared, label_of}
 use Rattle.language.specs.Typing.{is_mutable, is_public_mutable, counter_as, parameter_value, parameters_assign, right_assigns, scope_after, statement_assigns, with_parameters}
 use Rattle.language.specs.WellTyped.{IsWellTyped, declares, declares_array, assigns, assigns_element, calls, chooses, repeats, AreNew, no_parameter, one_is_new}
-use Rattle.names.specs.Scope.{found, declared}
 use Rattle.inline.proofs.Linked.{same_variable}
 use Rattle.inline.proofs.Lookup.{found-new, found-other}
 use Rattle.inline.proofs.Parameters.{NoVariables}
@@ -28,8 +27,8 @@ pub hides_declared : (scope : Scope) (name : List ℕ) (v : VariableType) → fo
 hides_declared scope name v new own hides text w is = by_name (bytes_eq text name) refl
   where
     by_name : (b : Bool) → bytes_eq text name ≡ b → w.mutable ≡ true → label_of w.value ≡ Secret
-    by_name true e = subst (λ (u : VariableType). u.mutable ≡ true → label_of u.value ≡ Secret) (same_variable v w (sym (found-new scope name (Variable v) text e new) ∙ is)) own
-    by_name false e = hides text w (sym (found-other scope name (Variable v) text e) ∙ is)
+    by_name true e = subst (λ (u : VariableType). u.mutable ≡ true → label_of u.value ≡ Secret) (same_variable v w (sym (found-new scope.names name (Variable v) text e new) ∙ is)) own
+    by_name false e = hides text w (sym (found-other scope.names name (Variable v) text e) ∙ is)
 
 -- what is no public name that may be assigned to
 secret_one : (label : Label) (mutable : Bool) → is_public_mutable label mutable ≡ false → mutable ≡ true → label ≡ Secret

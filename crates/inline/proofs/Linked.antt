@@ -8,14 +8,14 @@ use Rattle.inline.specs.declared.numbering.Numbered.{Numbered}
 use Rattle.inline.specs.Flat.{word_as, array_as}
 use Rattle.inline.specs.FlatTyping.{Types, with_type, counter_type}
 use Rattle.inline.specs.Numbering.{Numbers, numbered, naming}
-use Rattle.names.specs.Scope.{found, declared}
+use Rattle.names.specs.Scope.{found}
 use Rattle.language.specs.declared.typing.ArrayType.{ArrayType}
 use Rattle.language.specs.declared.typing.ValueType.{ValueType}
 use Rattle.language.specs.declared.typing.ValueType.TheVariants.{Word, Array}
 use Rattle.language.specs.declared.typing.VariableType.{VariableType}
 use Rattle.language.specs.declared.typing.WordType.{WordType}
 use Rattle.language.specs.declared.typing.Declared.TheVariants.{Variable}
-use Rattle.language.specs.Types.{Scope}
+use Rattle.language.specs.Types.{Scope, declared}
 use Rattle.language.specs.WellTyped.{IsVariable}
 use Rattle.inline.proofs.Lookup.{found-new, found-other}
 
@@ -50,22 +50,26 @@ pub record Known (names : Numbers) (types : Types) (text : List ℕ) (v : Variab
   pub declaration : FlatVariable
   pub numbered : found names text ≡ Some (entry number declaration)
   pub is : v ≡ variable_as declaration
-  pub typed : Serves (types number) declaration
+  pub typed : Serves (types.at number) declaration
 
 -- the next number is n
 pub record Linked (scope : Scope) (names : Numbers) (types : Types) (n : ℕ) : Type 0 where
+  -- the observer is the same
+  pub observed : types.profile ≡ scope.profile
   -- a variable's number has its type
-  pub known : (text : List ℕ) (v : VariableType) → found scope text ≡ Some (Variable v) → Known names types text v
+  pub known : (text : List ℕ) (v : VariableType) → found scope.names text ≡ Some (Variable v) → Known names types text v
   -- only what is in scope has a number
-  pub none : (text : List ℕ) → found scope text ≡ None → found names text ≡ None
+  pub none : (text : List ℕ) → found scope.names text ≡ None → found names text ≡ None
   pub below : (text : List ℕ) (x : Numbered) → found names text ≡ Some x → x.number < n
   -- a number is that of two names only where neither may be assigned to
   pub apart : (a b : List ℕ) (x y : Numbered) → found names a ≡ Some x → found names b ≡ Some y → x.number ≡ y.number → x.declaration.mutable ≡ true → a ≡ b
-  pub fresh : (x : ℕ) → n ≤ x → types x ≡ None
+  pub fresh : (x : ℕ) → n ≤ x → types.at x ≡ None
 
 -- further numbers are taken, by what no name stands for
-pub widened : (scope : Scope) (names : Numbers) (types others : Types) (n m : ℕ) → n ≤ m → ((x : ℕ) → x < n → others x ≡ types x) → ((x : ℕ) → m ≤ x → others x ≡ None) → Linked scope names types n → Linked scope names others m
-widened scope names types others n m more same new linked = record {
+pub widened : (scope : Scope) (names : Numbers) (types others : Types) (n m : ℕ) → n ≤ m → others.profile ≡ types.profile → ((x : ℕ) → x < n → others.at x ≡ types.at x) → ((x : ℕ) → m ≤ x → others.at x ≡ None) → Linked scope names types n
+    → Linked scope names others m
+widened scope names types others n m more one same new linked = record {
+  observed = one ∙ linked.observed;
   known = λ text v is.
       let k = linked.known text v is in
       let low = linked.below text (entry k.number k.declaration) k.numbered in
@@ -77,21 +81,21 @@ widened scope names types others n m more same new linked = record {
 }
 
 pub later : (scope : Scope) (names : Numbers) (types : Types) (n m : ℕ) → n ≤ m → Linked scope names types n → Linked scope names types m
-later scope names types n m more linked = widened scope names types types n m more (λ x low. refl) (λ x high. linked.fresh x (omega arith)) linked
+later scope names types n m more linked = widened scope names types types n m more refl (λ x low. refl) (λ x high. linked.fresh x (omega arith)) linked
 
-pub with_type-same : (types : Types) (n : ℕ) (d : FlatVariable) → with_type types n d n ≡ Some d
-with_type-same types n d = ap (λ b. if b then Some d else types n) (eq-eqb n n refl)
+pub with_type-same : (types : Types) (n : ℕ) (d : FlatVariable) → (with_type types n d).at n ≡ Some d
+with_type-same types n d = ap (λ b. if b then Some d else types.at n) (eq-eqb n n refl)
 
-pub with_type-other : (types : Types) (n x : ℕ) (d : FlatVariable) → (x ≡ n → ⊥) → with_type types n d x ≡ types x
-with_type-other types n x d other = ap (λ b. if b then Some d else types x) (ne_eqb x n other)
+pub with_type-other : (types : Types) (n x : ℕ) (d : FlatVariable) → (x ≡ n → ⊥) → (with_type types n d).at x ≡ types.at x
+with_type-other types n x d other = ap (λ b. if b then Some d else types.at x) (ne_eqb x n other)
 
 pub same_variable : (v w : VariableType) → Some (Variable v) ≡ Some (Variable w) → v ≡ w
 same_variable v w e = cc
 
 -- A name for a number that is declared: for a new one, or for a caller's array.
 
-module _ (scope : Scope) (names : Numbers) (types : Types) (n : ℕ) (linked : Linked scope names types n) (text : List ℕ) (new : found scope text ≡ None) (number : ℕ) (own : FlatVariable)
-    (low : number < n) (typed : Serves (types number) own) (clear : (other : List ℕ) (x : Numbered) → found names other ≡ Some x → x.number ≡ number → (x.declaration.mutable ≡ true → ⊥) × (own.mutable ≡ true → ⊥)) where
+module _ (scope : Scope) (names : Numbers) (types : Types) (n : ℕ) (linked : Linked scope names types n) (text : List ℕ) (new : found scope.names text ≡ None) (number : ℕ) (own : FlatVariable)
+    (low : number < n) (typed : Serves (types.at number) own) (clear : (other : List ℕ) (x : Numbered) → found names other ≡ Some x → x.number ≡ number → (x.declaration.mutable ≡ true → ⊥) × (own.mutable ≡ true → ⊥)) where
   after_scope : Scope
   after_scope = declared scope text (Variable (variable_as own))
 
@@ -106,10 +110,10 @@ module _ (scope : Scope) (names : Numbers) (types : Types) (n : ℕ) (linked : L
   unfolding after_names
   old_one other x e is = sym (found-other names text (entry number own) other e) ∙ is
 
-  known_by : (other : List ℕ) (w : VariableType) (b : Bool) → bytes_eq other text ≡ b → found after_scope other ≡ Some (Variable w) → Known after_names types other w
+  known_by : (other : List ℕ) (w : VariableType) (b : Bool) → bytes_eq other text ≡ b → found after_scope.names other ≡ Some (Variable w) → Known after_names types other w
   unfolding after_scope after_names
   known_by other w true e is =
-      let same = same_variable (variable_as own) w (sym (found-new scope text (Variable (variable_as own)) other e new) ∙ is) in
+      let same = same_variable (variable_as own) w (sym (found-new scope.names text (Variable (variable_as own)) other e new) ∙ is) in
       record {
         number = number;
         declaration = own;
@@ -118,7 +122,7 @@ module _ (scope : Scope) (names : Numbers) (types : Types) (n : ℕ) (linked : L
         typed = typed;
       }
   known_by other w false e is =
-      let old = linked.known other w (sym (found-other scope text (Variable (variable_as own)) other e) ∙ is) in
+      let old = linked.known other w (sym (found-other scope.names text (Variable (variable_as own)) other e) ∙ is) in
       record {
         number = old.number;
         declaration = old.declaration;
@@ -127,10 +131,10 @@ module _ (scope : Scope) (names : Numbers) (types : Types) (n : ℕ) (linked : L
         typed = old.typed;
       }
 
-  none_by : (other : List ℕ) (b : Bool) → bytes_eq other text ≡ b → found after_scope other ≡ None → found after_names other ≡ None
+  none_by : (other : List ℕ) (b : Bool) → bytes_eq other text ≡ b → found after_scope.names other ≡ None → found after_names other ≡ None
   unfolding after_scope after_names
-  none_by other true e is = absurd (none-some (Variable (variable_as own)) (sym is ∙ found-new scope text (Variable (variable_as own)) other e new))
-  none_by other false e is = found-other names text (entry number own) other e ∙ linked.none other (sym (found-other scope text (Variable (variable_as own)) other e) ∙ is)
+  none_by other true e is = absurd (none-some (Variable (variable_as own)) (sym is ∙ found-new scope.names text (Variable (variable_as own)) other e new))
+  none_by other false e is = found-other names text (entry number own) other e ∙ linked.none other (sym (found-other scope.names text (Variable (variable_as own)) other e) ∙ is)
 
   below_by : (other : List ℕ) (x : Numbered) (b : Bool) → bytes_eq other text ≡ b → found after_names other ≡ Some x → x.number < n
   below_by other x true e is = let same = ap (λ (z : Numbered). z.number) (this_one other x e is) in omega (arith, same, low)
@@ -149,6 +153,7 @@ module _ (scope : Scope) (names : Numbers) (types : Types) (n : ℕ) (linked : L
   pub linked_named : Linked (declared scope text (Variable (variable_as own))) (naming names text number own) types n
   unfolding after_scope after_names
   linked_named = record {
+    observed = linked.observed;
     known = λ other w. known_by other w (bytes_eq other text) refl;
     none = λ other. none_by other (bytes_eq other text) refl;
     below = λ other x. below_by other x (bytes_eq other text) refl;
@@ -159,14 +164,14 @@ module _ (scope : Scope) (names : Numbers) (types : Types) (n : ℕ) (linked : L
 -- a number that no name stands for
 pub linked_beside : (scope : Scope) (names : Numbers) (types : Types) (n : ℕ) (own : FlatVariable) → Linked scope names types n → Linked scope names (with_type types n own) (n + 1)
 linked_beside scope names types n own linked =
-    widened scope names types (with_type types n own) n (n + 1) (omega arith) (λ x low. with_type-other types n x own (λ q. omega arith))
+    widened scope names types (with_type types n own) n (n + 1) (omega arith) refl (λ x low. with_type-other types n x own (λ q. omega arith))
     (λ x high. with_type-other types n x own (λ q. omega arith) ∙ linked.fresh x (omega arith)) linked
 
 -- a declaration
-pub linked_declared : (scope : Scope) (names : Numbers) (types : Types) (n : ℕ) → Linked scope names types n → (text : List ℕ) (own : FlatVariable) → found scope text ≡ None
+pub linked_declared : (scope : Scope) (names : Numbers) (types : Types) (n : ℕ) → Linked scope names types n → (text : List ℕ) (own : FlatVariable) → found scope.names text ≡ None
     → Linked (declared scope text (Variable (variable_as own))) (naming names text n own) (with_type types n own) (n + 1)
 linked_declared scope names types n linked text own new =
-    linked_named scope names (with_type types n own) (n + 1) (linked_beside scope names types n own linked) text new n own (omega arith) (serves_itself (with_type types n own n) own (with_type-same types n own))
+    linked_named scope names (with_type types n own) (n + 1) (linked_beside scope names types n own linked) text new n own (omega arith) (serves_itself ((with_type types n own).at n) own (with_type-same types n own))
     (λ b y is same. let low = linked.below b y is in absurd (omega (arith, low, same)))
 
 -- Variables that are known to be words or arrays.
@@ -175,7 +180,7 @@ linked_declared scope names types n linked text own new =
 pub record KnownAs (names : Numbers) (types : Types) (text : List ℕ) (d : FlatVariable) : Type 0 where
   pub number : ℕ
   pub found : found names text ≡ Some (entry number d)
-  pub typed : Serves (types number) d
+  pub typed : Serves (types.at number) d
   pub here : numbered names text ≡ entry number d
 
 as_word : (word : WordType) (mutable : Bool) (own : WordType) (free : Bool) (size : Option ℕ) → Word word ≡ value_as own size → mutable ≡ free
@@ -193,7 +198,7 @@ as_array array mutable own free (Some size) e f =
     ap₂ (λ (a : ArrayType) b. array_as a.element b a.length) same (sym f)
 
 module _ (scope : Scope) (names : Numbers) (types : Types) (n : ℕ) (linked : Linked scope names types n) where
-  known_as : (text : List ℕ) (v : VariableType) (d : FlatVariable) → ((own : FlatVariable) → v ≡ variable_as own → own ≡ d) → found scope text ≡ Some (Variable v) → KnownAs names types text d
+  known_as : (text : List ℕ) (v : VariableType) (d : FlatVariable) → ((own : FlatVariable) → v ≡ variable_as own → own ≡ d) → found scope.names text ≡ Some (Variable v) → KnownAs names types text d
   known_as text v d so is =
       let k = linked.known text v is in
       subst (KnownAs names types text) (so k.declaration k.is) (record {

@@ -12,7 +12,7 @@ use Rattle.language.specs.Meaning.{is_word}
 use Rattle.language.specs.Tree.{ExprTree, ParameterTree, ProcedureTree, RightTree, called, computed, StatementTree, declaration, array, assignment, element_assignment, call, conditional, loop, BlockTree, nothing, first}
 use Rattle.language.specs.Types.{Scope}
 use Rattle.language.specs.WellTyped.{labelled}
-use Rattle.inline.proofs.ChainTypes.{chain-declarations, chain-numbered, types_before, types_behind}
+use Rattle.inline.proofs.ChainTypes.{chain-declarations, chain-numbered, types_observed, types_before, types_behind}
 use Rattle.inline.proofs.KnownLemmas.{OnSome, AllKnown, known-true}
 use Rattle.inline.proofs.Linked.{Linked, widened}
 
@@ -81,7 +81,7 @@ takes_one n s is one = record { numbered = (is, tt); counted = omega (arith, one
 pub passed_over : (scope : Scope) (names : Numbers) (types : Types) (n : ℕ) (b : FlatBlock) (count : ℕ) → Takes n b count → Linked scope names types n → Linked scope names (types_after_all types b) (n + count)
 passed_over scope names types n b count takes linked =
     let same = takes.counted in
-    widened scope names types (types_after_all types b) n (n + count) (omega arith) (types_before types n b takes.numbered)
+    widened scope names types (types_after_all types b) n (n + count) (omega arith) (types_observed types b) (types_before types n b takes.numbered)
     (λ x high. types_behind types n b takes.numbered x (omega (arith, same, high)) ∙ linked.fresh x (omega (arith, high))) linked
 
 -- Calls.

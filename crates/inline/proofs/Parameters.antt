@@ -2,6 +2,7 @@
 use Rattle.std.proofs.Common.{◌≡◌, ◌≢◌, ℕ, zero, suc, ◌+◌, ◌<◌, ◌≤◌, Bool, true, false, cond, List, [], ◌∷◌, ◌++◌, length, map, Option, Some, None, slice_get, refl, sym, ap, ◌∙◌, subst, arith}
 use Rattle.std.proofs.lemmas.Option.{none-some, same_Some}
 use Rattle.std.specs.Str.{bytes_eq}
+use Rattle.word.specs.declared.profile.Profile.{Profile}
 use lib.Pointwise.{bytes_decides}
 use Rattle.arguments.specs.Within.{AreWithin, HasShape, words_of}
 use Rattle.inline.specs.declared.flat.FlatVariable.{FlatVariable}
@@ -11,7 +12,7 @@ use Rattle.inline.specs.FlatMeaning.{Values, given, array_of, arrays_from}
 use Rattle.inline.specs.FlatTyping.{Types, with_type, types_of}
 use Rattle.inline.specs.Numbering as numbering
 use Rattle.inline.specs.Numbering.{Numbers, param_of, naming}
-use Rattle.names.specs.Scope.{found, declared}
+use Rattle.names.specs.Scope.{found}
 use Rattle.language.specs.declared.signature.Form.{Form}
 use Rattle.language.specs.declared.signature.Form.TheVariants.{SingleWord, FixedArray, MutableArray}
 use Rattle.language.specs.declared.signature.Kind.{Kind}
@@ -22,7 +23,7 @@ use Rattle.language.specs.declared.values.Arg.TheVariants.{Word, Array}
 use Rattle.language.specs.Meaning.{holding, argument_value, final_array, final_arrays}
 use Rattle.language.specs.State.{State, Value}
 use Rattle.language.specs.Tree.{ParameterTree}
-use Rattle.language.specs.Types.{Scope}
+use Rattle.language.specs.Types.{Scope, declared}
 use Rattle.language.specs.Typing.{with_parameters, parameter_as, parameter_value, is_mutable}
 use Rattle.language.specs.WellTyped.{AreNew, one_is_new}
 use Rattle.inline.proofs.Lookup.{found-new, found-other, found-kept}
@@ -83,38 +84,44 @@ begins (p ∷ ps) scope names types n (one_is_new here there) linked =
     }
 
 -- the types by number
-before_all : (ds : List FlatVariable) (types : Types) (n x : ℕ) → x < n → typed_with types n ds x ≡ types x
+before_all : (ds : List FlatVariable) (types : Types) (n x : ℕ) → x < n → (typed_with types n ds).at x ≡ types.at x
 before_all [] types n x low = refl
 before_all (d ∷ ds) types n x low = before_all ds (with_type types n d) (n + 1) x (omega arith) ∙ with_type-other types n x d (λ q. omega arith)
 
-from_all : (ds : List FlatVariable) (types : Types) (n i : ℕ) → ((x : ℕ) → n ≤ x → types x ≡ None) → typed_with types n ds (n + i) ≡ slice_get ds i
+from_all : (ds : List FlatVariable) (types : Types) (n i : ℕ) → ((x : ℕ) → n ≤ x → types.at x ≡ None) → (typed_with types n ds).at (n + i) ≡ slice_get ds i
 from_all [] types n i fresh = fresh (n + i) (omega arith)
 from_all (d ∷ ds) types n zero fresh =
     let same : n + 0 ≡ n = omega arith in
-    ap (typed_with types n (d ∷ ds)) same ∙ (before_all ds (with_type types n d) (n + 1) n (omega arith) ∙ with_type-same types n d)
+    ap (typed_with types n (d ∷ ds)).at same ∙ (before_all ds (with_type types n d) (n + 1) n (omega arith) ∙ with_type-same types n d)
 from_all (d ∷ ds) types n (suc i) fresh =
     let same : n + suc i ≡ (n + 1) + i = omega arith in
-    ap (typed_with types n (d ∷ ds)) same ∙ from_all ds (with_type types n d) (n + 1) i (λ x high. with_type-other types n x d (λ q. omega arith) ∙ fresh x (omega arith))
+    ap (typed_with types n (d ∷ ds)).at same ∙ from_all ds (with_type types n d) (n + 1) i (λ x high. with_type-other types n x d (λ q. omega arith) ∙ fresh x (omega arith))
 
-abbrev pub no_types : Types
-no_types = λ x. None
+-- and the observer
+observed_all : (ds : List FlatVariable) (types : Types) (n : ℕ) → (typed_with types n ds).profile ≡ types.profile
+observed_all [] types n = refl
+observed_all (d ∷ ds) types n = observed_all ds (with_type types n d) (n + 1)
 
-types_same : (ds : List FlatVariable) (x : ℕ) → typed_with no_types 0 ds x ≡ types_of ds x
-types_same ds x =
+abbrev pub no_types : Profile → Types
+no_types profile = record { profile = profile; at = λ x. None }
+
+types_same : (profile : Profile) (ds : List FlatVariable) (x : ℕ) → (typed_with (no_types profile) 0 ds).at x ≡ (types_of profile ds).at x
+types_same profile ds x =
     let same : x ≡ 0 + x = omega arith in
-    ap (typed_with no_types 0 ds) same ∙ from_all ds no_types 0 x (λ y high. refl)
+    ap (typed_with (no_types profile) 0 ds).at same ∙ from_all ds (no_types profile) 0 x (λ y high. refl)
 
 -- types that are equal everywhere serve as well
-retyped : (scope : Scope) (names : Numbers) (types others : Types) (n : ℕ) → ((x : ℕ) → types x ≡ others x) → Linked scope names types n → Linked scope names others n
-retyped scope names types others n same linked =
-    widened scope names types others n n (omega arith) (λ x low. sym (same x)) (λ x high. sym (same x) ∙ linked.fresh x high) linked
+retyped : (scope : Scope) (names : Numbers) (types others : Types) (n : ℕ) → types.profile ≡ others.profile → ((x : ℕ) → types.at x ≡ others.at x) → Linked scope names types n → Linked scope names others n
+retyped scope names types others n one same linked =
+    widened scope names types others n n (omega arith) (sym one) (λ x low. sym (same x)) (λ x high. sym (same x) ∙ linked.fresh x high) linked
 
 -- no variable stands in a scope of procedures
 abbrev pub NoVariables : Scope → Type 0
-NoVariables scope = (text : List ℕ) (v : VariableType) → found scope text ≢ Some (Variable v)
+NoVariables scope = (text : List ℕ) (v : VariableType) → found scope.names text ≢ Some (Variable v)
 
-pub where_begun : (scope : Scope) → NoVariables scope → (ps : List ParameterTree) → AreNew scope ps → Begins scope [] no_types 0 ps
-where_begun scope none ps new = begins ps scope [] no_types 0 new (record {
+pub where_begun : (profile : Profile) (scope : Scope) → scope.profile ≡ profile → NoVariables scope → (ps : List ParameterTree) → AreNew scope ps → Begins scope [] (no_types profile) 0 ps
+where_begun profile scope observed none ps new = begins ps scope [] (no_types profile) 0 new (record {
+  observed = sym observed;
   known = λ text v is. absurd (none text v is);
   none = λ text is. refl;
   below = λ text x is. absurd (none-some x is);
@@ -122,12 +129,13 @@ where_begun scope none ps new = begins ps scope [] no_types 0 new (record {
   fresh = λ x high. refl;
 })
 
-pub linked_parameters : (scope : Scope) → NoVariables scope → (ps : List ParameterTree) → AreNew scope ps
-    → Linked (with_parameters scope ps) (numbering.with_parameters [] 0 ps) (types_of (all_own ps)) (length ps)
-linked_parameters scope none ps new =
+pub linked_parameters : (profile : Profile) (scope : Scope) → scope.profile ≡ profile → NoVariables scope → (ps : List ParameterTree) → AreNew scope ps
+    → Linked (with_parameters scope ps) (numbering.with_parameters [] 0 ps) (types_of profile (all_own ps)) (length ps)
+linked_parameters profile scope observed none ps new =
     let same : 0 + length ps ≡ length ps = omega arith in
-    retyped (with_parameters scope ps) (numbering.with_parameters [] 0 ps) (typed_with no_types 0 (all_own ps)) (types_of (all_own ps)) (length ps) (types_same (all_own ps))
-    (subst (Linked (with_parameters scope ps) (numbering.with_parameters [] 0 ps) (typed_with no_types 0 (all_own ps))) same (where_begun scope none ps new).linked)
+    let types = typed_with (no_types profile) 0 (all_own ps) in
+    retyped (with_parameters scope ps) (numbering.with_parameters [] 0 ps) types (types_of profile (all_own ps)) (length ps) (observed_all (all_own ps) (no_types profile) 0) (types_same profile (all_own ps))
+    (subst (Linked (with_parameters scope ps) (numbering.with_parameters [] 0 ps) types) same (where_begun profile scope observed none ps new).linked)
 
 -- Arguments.
 

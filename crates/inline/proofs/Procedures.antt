@@ -5,14 +5,14 @@ use Rattle.std.proofs.lemmas.Option.{none-some, same_Some}
 use Rattle.std.specs.List.{AllByRecursion}
 use Rattle.std.specs.Str.{bytes_eq}
 use lib.Pointwise.{bytes_decides}
+use Rattle.word.specs.declared.profile.Profile.{Profile}
 use Rattle.language.specs.declared.signature.Label.{Label}
 use Rattle.language.specs.declared.typing.Callee.{Callee}
 use Rattle.language.specs.declared.typing.Declared.TheVariants.{Procedure, Variable}
 use Rattle.language.specs.declared.typing.VariableType.{VariableType}
 use Rattle.language.specs.Meaning.{exported, named}
 use Rattle.language.specs.Tree.{ParameterTree, ProcedureTree, ProgramTree, StatementTree}
-use Rattle.names.specs.Scope.{found, declared}
-use Rattle.language.specs.Types.{Scope}
+use Rattle.language.specs.Types.{Scope, empty, found, declared}
 use Rattle.language.specs.Typing.{assigns_public, parameter_as, scope_after, violations, with_parameters, with_procedure}
 use Rattle.language.specs.WellTyped.{IsWellTyped, declares, declares_array, assigns, assigns_element, calls, chooses, repeats, IsProcedure, AreProcedures, no_procedure, one_procedure}
 use Rattle.inline.proofs.KnownLemmas.{named-kept, named-missed, named-new}
@@ -50,16 +50,16 @@ module _ (Extra : ProcedureTree → Type 0) where
   all_front [] p all = (tt, all.0)
   all_front (q ∷ ps) p all = let rest = all_front ps p all.1 in ((all.0, rest.0), rest.1)
 
--- What is true of each procedure that a scope lets call, of these.
-abbrev pub EachCallable : List ProcedureTree → (List ℕ → Callee → ProcedureTree → Type 0) → Scope → Type 0
-EachCallable earlier Is scope = (text : List ℕ) (c : Callee) (p : ProcedureTree) → found scope text ≡ Some (Procedure c) → slice_get earlier c.number ≡ Some p → Is text c p
+-- What is true, for the scope's observer, of each procedure that a scope lets call, of these.
+abbrev pub EachCallable : List ProcedureTree → (Profile → List ℕ → Callee → ProcedureTree → Type 0) → Scope → Type 0
+EachCallable earlier Is scope = (text : List ℕ) (c : Callee) (p : ProcedureTree) → found scope text ≡ Some (Procedure c) → slice_get earlier c.number ≡ Some p → Is scope.profile text c p
 
 -- In a body it stays true: no declaration adds one.
-module _ (earlier : List ProcedureTree) (Is : List ℕ → Callee → ProcedureTree → Type 0) where
+module _ (earlier : List ProcedureTree) (Is : Profile → List ℕ → Callee → ProcedureTree → Type 0) where
   pub callable_declared : (scope : Scope) (name : List ℕ) (v : VariableType) → EachCallable earlier Is scope → EachCallable earlier Is (declared scope name (Variable v))
-  callable_declared scope name v each text c p is there = by_name (found-split scope name (Variable v) text (Procedure c) is)
+  callable_declared scope name v each text c p is there = by_name (found-split scope.names name (Variable v) text (Procedure c) is)
     where
-      by_name : (found scope text ≡ Some (Procedure c)) ⊎ ((bytes_eq text name ≡ true) × (Variable v ≡ Procedure c)) → Is text c p
+      by_name : (found scope text ≡ Some (Procedure c)) ⊎ ((bytes_eq text name ≡ true) × (Variable v ≡ Procedure c)) → Is scope.profile text c p
       by_name (inl old) = each text c p old there
       by_name (inr new) = absurd (no_callee c v (ap (λ d. Some d) (sym new.1)))
 
@@ -76,9 +76,9 @@ module _ (earlier : List ProcedureTree) (Is : List ℕ → Callee → ProcedureT
   callable_parameters [] scope each = each
   callable_parameters (p ∷ ps) scope each = callable_parameters ps (declared scope p.name (parameter_as p)) (callable_declared scope p.name _ each)
 
--- it stands in the scope where the body's procedure begins
-abbrev pub IsAt : Scope → List ℕ → Callee → ProcedureTree → Type 0
-IsAt at text c p = found at text ≡ Some (Procedure c)
+-- it stands in the scope where the body's procedure begins, for the same observer
+abbrev pub IsAt : Scope → Profile → List ℕ → Callee → ProcedureTree → Type 0
+IsAt at profile text c p = (at.profile ≡ profile) × (found at text ≡ Some (Procedure c))
 
 abbrev pub IsWithin : List ProcedureTree → Scope → Scope → Type 0
 IsWithin earlier at scope = EachCallable earlier (IsAt at) scope
@@ -87,9 +87,10 @@ IsWithin earlier at scope = EachCallable earlier (IsAt at) scope
 
 module _ (Good : List ProcedureTree → Scope → ProcedureTree → Type 0) where
   -- what a name stands for that may be called behind these
-  pub record IsCallable (earlier : List ProcedureTree) (text : List ℕ) (c : Callee) (p : ProcedureTree) : Type 0 where
+  pub record IsCallable (earlier : List ProcedureTree) (profile : Profile) (text : List ℕ) (c : Callee) (p : ProcedureTree) : Type 0 where
     pub before : List ProcedureTree
     pub at : Scope
+    pub observed : at.profile ≡ profile
     pub is : named [] earlier text ≡ Some (before, p)
     pub quiet : c.assigns_public ≡ assigns_public at p
     pub good : Good before at p
@@ -101,8 +102,8 @@ module _ (Good : List ProcedureTree → Scope → ProcedureTree → Type 0) wher
     pub new : (text : List ℕ) → found scope text ≡ None → named [] earlier text ≡ None
     pub callable : EachCallable earlier (IsCallable earlier) scope
 
-  none_stand : Stand [] []
-  none_stand = record {
+  none_stand : (profile : Profile) → Stand [] (empty profile)
+  none_stand profile = record {
     variables = λ text v is. none-some (Variable v) is;
     below = λ text c is. absurd (none-some (Procedure c) is);
     new = λ text is. refl;
@@ -117,10 +118,10 @@ module _ (Good : List ProcedureTree → Scope → ProcedureTree → Type 0) wher
     after = with_procedure scope (length earlier) p
 
     here : (text : List ℕ) → bytes_eq text p.name ≡ true → found after text ≡ Some (Procedure own)
-    here text e = found-new scope p.name (Procedure own) text e new
+    here text e = found-new scope.names p.name (Procedure own) text e new
 
     there : (text : List ℕ) → bytes_eq text p.name ≡ false → found after text ≡ found scope text
-    there text e = found-other scope p.name (Procedure own) text e
+    there text e = found-other scope.names p.name (Procedure own) text e
 
     variables_by : (text : List ℕ) (b : Bool) → bytes_eq text p.name ≡ b → (v : VariableType) → found after text ≢ Some (Variable v)
     variables_by text true e v is = no_callee own v (sym (here text e) ∙ is)
@@ -132,7 +133,7 @@ module _ (Good : List ProcedureTree → Scope → ProcedureTree → Type 0) wher
 
     -- which may not call itself
     pub earlier_within : IsWithin earlier scope after
-    earlier_within text c q is get = by_name (bytes_eq text p.name) refl
+    earlier_within text c q is get = (refl, by_name (bytes_eq text p.name) refl)
       where
         by_name : (b : Bool) → bytes_eq text p.name ≡ b → found scope text ≡ Some (Procedure c)
         by_name true e =
@@ -142,7 +143,7 @@ module _ (Good : List ProcedureTree → Scope → ProcedureTree → Type 0) wher
 
     -- so what it may call is what stands before it
     pub callable_within : EachCallable earlier (IsCallable earlier) after
-    callable_within text c q is get = stand.callable text c q (earlier_within text c q is get) get
+    callable_within text c q is get = stand.callable text c q (earlier_within text c q is get).1 get
 
     below_by : (text : List ℕ) (c : Callee) (b : Bool) → bytes_eq text p.name ≡ b → found after text ≡ Some (Procedure c) → c.number < length (earlier ++ p ∷ [])
     below_by text c true e is =
@@ -159,14 +160,15 @@ module _ (Good : List ProcedureTree → Scope → ProcedureTree → Type 0) wher
     new_by text false e is = named-missed [] earlier p text (stand.new text (sym (there text e) ∙ is)) e
 
     callable_by : Good earlier scope p → (text : List ℕ) (c : Callee) (q : ProcedureTree) (b : Bool) → bytes_eq text p.name ≡ b → found after text ≡ Some (Procedure c) → slice_get (earlier ++ p ∷ []) c.number ≡ Some q
-        → IsCallable (earlier ++ p ∷ []) text c q
+        → IsCallable (earlier ++ p ∷ []) scope.profile text c q
     callable_by good text c q true e is get =
         let same = same_callee own c (sym (here text e) ∙ is) in
         let tree = same_Some p q (sym (get_last earlier p) ∙ (ap (λ (d : Callee). slice_get (earlier ++ p ∷ []) d.number) same ∙ get)) in
         let absent = stand.new text (ap (found scope) ((bytes_decides text p.name).0 e) ∙ new) in
-        subst (IsCallable (earlier ++ p ∷ []) text c) tree (record {
+        subst (IsCallable (earlier ++ p ∷ []) scope.profile text c) tree (record {
           before = earlier;
           at = scope;
+          observed = refl;
           is = named-new [] earlier p text absent e;
           quiet = ap (λ (d : Callee). d.assigns_public) (sym same);
           good = good;
@@ -174,7 +176,7 @@ module _ (Good : List ProcedureTree → Scope → ProcedureTree → Type 0) wher
     callable_by good text c q false e is get =
         let old = sym (there text e) ∙ is in
         let k = stand.callable text c q old (sym (get_front earlier p c.number (stand.below text c old)) ∙ get) in
-        record { before = k.before; at = k.at; is = named-kept [] earlier p text _ k.is; quiet = k.quiet; good = k.good }
+        record { before = k.before; at = k.at; observed = k.observed; is = named-kept [] earlier p text _ k.is; quiet = k.quiet; good = k.good }
 
     one_stands : Good earlier scope p → Stand (earlier ++ p ∷ []) after
     one_stands good = record {
@@ -185,8 +187,9 @@ module _ (Good : List ProcedureTree → Scope → ProcedureTree → Type 0) wher
     }
 
   -- the export behind the procedures that it may call
-  pub record Exported (before : List ProcedureTree) (p : ProcedureTree) : Type 0 where
+  pub record Exported (profile : Profile) (before : List ProcedureTree) (p : ProcedureTree) : Type 0 where
     pub scope : Scope
+    pub observed : scope.profile ≡ profile
     pub stand : Stand before scope
     pub typed : IsProcedure before scope p
 
@@ -199,19 +202,20 @@ module _ (Good : List ProcedureTree → Scope → ProcedureTree → Type 0) wher
         by_word true rest e = subst (AllByRecursion Extra) (sym (ap (λ (z : List ProcedureTree × ProcedureTree). z.0) (same_Some (earlier, q) (before, p) e))) all
         by_word false rest e = rest e
 
-    the_export : {earlier : List ProcedureTree} {scope : Scope} {ps : List ProcedureTree} → AreProcedures earlier scope ps → (before : List ProcedureTree) (p : ProcedureTree) → Stand earlier scope → AllByRecursion Extra before → exported earlier ps ≡ Some (before, p) → Exported before p
+    the_export : {earlier : List ProcedureTree} {scope : Scope} {ps : List ProcedureTree} → AreProcedures earlier scope ps → (before : List ProcedureTree) (p : ProcedureTree) → Stand earlier scope → AllByRecursion Extra before → exported earlier ps ≡ Some (before, p) → Exported scope.profile before p
     the_export no_procedure before p stand all is = absurd (none-some _ is)
     the_export (one_procedure {earlier = earlier} {scope = scope} {p = q} {ps = qs} this more) before p stand all is =
         by_word (is_some q.export) (λ rest. the_export more before p (one_stands earlier scope stand q this.is_new (step earlier scope q stand this (all_front Extra earlier q (all_before (earlier ++ q ∷ []) qs before p rest all)).1)) all rest) is
       where
-        by_word : (b : Bool) → (exported (earlier ++ q ∷ []) qs ≡ Some (before, p) → Exported before p) → (if b then Some (earlier, q) else exported (earlier ++ q ∷ []) qs) ≡ Some (before, p) → Exported before p
+        by_word : (b : Bool) → (exported (earlier ++ q ∷ []) qs ≡ Some (before, p) → Exported scope.profile before p) → (if b then Some (earlier, q) else exported (earlier ++ q ∷ []) qs) ≡ Some (before, p) → Exported scope.profile before p
         by_word true rest e =
             let same = same_Some (earlier, q) (before, p) e in
             let one = ap (λ (z : List ProcedureTree × ProcedureTree). z.0) same in
             let other = ap (λ (z : List ProcedureTree × ProcedureTree). z.1) same in
-            subst (λ (x : List ProcedureTree). Exported x p) one (subst (λ x. Exported earlier x) other (record { scope = scope; stand = stand; typed = this }))
+            subst (λ (x : List ProcedureTree). Exported scope.profile x p) one (subst (λ x. Exported scope.profile earlier x) other (record { scope = scope; observed = refl; stand = stand; typed = this }))
         by_word false rest e = rest e
 
     -- of a program that violates no rule
-    pub own_typing : (program : ProgramTree) (before : List ProcedureTree) (p : ProcedureTree) → length (violations program) ≡ 0 → exported [] program.procedures ≡ Some (before, p) → AllByRecursion Extra before → Exported before p
-    own_typing program before p h is all = the_export ((programs program).0 (nil_from_length (violations program) h)).procedures before p none_stand all is
+    pub own_typing : (profile : Profile) (program : ProgramTree) (before : List ProcedureTree) (p : ProcedureTree) → length (violations profile program) ≡ 0 → exported [] program.procedures ≡ Some (before, p) → AllByRecursion Extra before
+        → Exported profile before p
+    own_typing profile program before p h is all = the_export ((programs profile program).0 (nil_from_length (violations profile program) h)).procedures before p (none_stand profile) all is

@@ -32,7 +32,7 @@ holds_by {d = d} {e = e} {o = o} {p = p} {a = a} {b = b} same one other holds =
 
 module _ (scope : Scope) (names : Numbers) (types : Types) (n : ℕ) (linked : Linked scope names types n) (s : State) (m : Values) (shows : Shows names s m) (text : List ℕ) (own : FlatVariable) (v : Value) (numbers : List ℕ) (holds : Holds own (Some v) numbers) where
   -- after a declaration
-  module _ (new : found scope text ≡ None) where
+  module _ (new : found scope.names text ≡ None) where
     declared_by : (other : List ℕ) (x : Numbered) (b : Bool) → bytes_eq other text ≡ b → found (naming names text n own) other ≡ Some x → Holds x.declaration (with_value s text v other) (flat.with_value m n numbers x.number)
     declared_by other x true e is =
         let same = same_Some (entry n own) x (sym (found-new names text (entry n own) other e (linked.none text new)) ∙ is) in

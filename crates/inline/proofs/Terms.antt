@@ -1,15 +1,16 @@
 -- A well-typed expression keeps its type, and comes to the same, once its names are numbers.
 use Rattle.std.proofs.Common.{◌≡◌, ℕ, ◌==◌, ◌&&◌, Bool, true, false, not, if◌then◌else◌, nat_lt, List, [], ◌∷◌, length, Option, Some, None, slice_index, refl, sym, ap, ap₂, ◌∙◌, subst}
 use Rattle.word.specs.declared.place.Place.{Place}
+use Rattle.word.specs.declared.profile.Profile.{Profile}
 use Rattle.word.specs.Operators.{rotated_left}
 use Rattle.inline.specs.declared.flat.FlatVariable.{FlatVariable}
 use Rattle.inline.specs.declared.numbering.Numbered.{Numbered}
 use Rattle.inline.specs.Flat.{array_as, numbers_in}
-use Rattle.inline.specs.FlatMeaning.{Values, value_in, path_in, division, ending_by}
+use Rattle.inline.specs.FlatMeaning.{Values, value_in, path_in, marks_of, ending_by}
 use Rattle.inline.specs.FlatTyping as flat
 use Rattle.inline.specs.FlatTyping.{Types, HasType, Suits}
 use Rattle.inline.specs.Numbering.{Numbers, number_of, size_of, kind_in, label_in, term}
-use Rattle.inline.specs.Path.{indexed, divided, either, first_fault}
+use Rattle.inline.specs.Path.{indexed, divided, multiplied, either, first_fault}
 use Rattle.names.specs.Scope.{found}
 use Rattle.language.specs.declared.signature.Kind.{Kind}
 use Rattle.language.specs.declared.signature.Kind.TheVariants.{Boolean, Uint32}
@@ -21,7 +22,7 @@ use Rattle.language.specs.declared.typing.WordType.{WordType}
 use Rattle.language.specs.ExprTyping.{operation_of, operation_kind}
 use Rattle.language.specs.Grammatical.{AreSmall}
 use Rattle.language.specs.Meaning.{Evaluates, EvaluatesAll, by_operands, operand_faults, none_left, one_more, this_faults, later_faults, gives, faults, word_held, element_held, operands, applied}
-use Rattle.language.specs.Operators.{divides, operated, prefix_value, width_of, binary_word}
+use Rattle.language.specs.Operators.{divides, multiplies, operated, prefix_value, width_of, binary_word}
 use Rattle.language.specs.State.{State, Value, single, array}
 use Rattle.language.specs.State as state
 use Rattle.language.specs.Tree.{ExprTree, number, truth, name, prefix, binary, rotate, convert, select, element}
@@ -91,25 +92,28 @@ element_found place kind words size i count =
     subst (λ n. element_held place (Some (array kind words)) i ≡ ending_by (first_fault (indexed place n i ∷ [])) (word_at kind (slice_index words i))) count
     (asked (nat_lt i (length words)) place (word_at kind (slice_index words i)))
 
-divided_found : {A : Type 0} (d : Bool) (place : Place) (a b : ℕ) (w : A) → (if d && (b == 0) then faults place else gives w) ≡ ending_by (first_fault (if d then divided place a b ∷ [] else [])) w
-divided_found true place a b w = refused (b == 0) place w
-divided_found false place a b w = refl
+-- a division may meet a fault, and a multiplication none
+marks_found : {A : Type 0} (d k : Bool) (place : Place) (a b : ℕ) (w : A)
+    → (if d && (b == 0) then faults place else gives w) ≡ ending_by (first_fault (if d then divided place a b ∷ [] else (if k then multiplied a b ∷ [] else []))) w
+marks_found true k place a b w = refused (b == 0) place w
+marks_found false true place a b w = refl
+marks_found false false place a b w = refl
 
 -- Types.
 
 -- the kind and the label of what is made of two words
-made_kind : {operation : Operation} {one other whole : WordType} → rules.Makes operation one other whole → operation_kind operation one.kind ≡ whole.kind
+made_kind : {profile : Profile} {operation : Operation} {one other whole : WordType} → rules.Makes profile operation one other whole → operation_kind operation one.kind ≡ whole.kind
 made_kind (rules.arithmetic numeric) = refl
-made_kind (rules.multiplication numeric) = refl
+made_kind (rules.multiplication numeric may) = refl
 made_kind (rules.division numeric) = refl
 made_kind (rules.shift numeric) = refl
 made_kind rules.equality = refl
 made_kind (rules.order numeric) = refl
 made_kind rules.logic = refl
 
-made_label : {operation : Operation} {one other whole : WordType} → rules.Makes operation one other whole → joined one.label other.label ≡ whole.label
+made_label : {profile : Profile} {operation : Operation} {one other whole : WordType} → rules.Makes profile operation one other whole → joined one.label other.label ≡ whole.label
 made_label (rules.arithmetic numeric) = refl
-made_label (rules.multiplication numeric) = refl
+made_label (rules.multiplication numeric may) = refl
 made_label (rules.division numeric) = refl
 made_label (rules.shift numeric) = refl
 made_label rules.equality = refl
@@ -147,7 +151,7 @@ module _ (scope : Scope) (names : Numbers) (types : Types) (n : ℕ) (linked : L
       record {
         kind = ap (λ (x : Numbered). x.declaration.word.kind) k.here;
         label = ap (λ (x : Numbered). x.declaration.word.label) k.here;
-        typed = flat.of_variable (ap (λ (x : Numbered). types x.number) k.here ∙ k.typed.is);
+        typed = flat.of_variable (ap (λ (x : Numbered). types.at x.number) k.here ∙ k.typed.is);
         value = λ s m shows.
             with_none s (name place text) _ refl
             (ap (λ o. gives (word_held o)) (shows text _ k.found).is ∙ ap (λ (x : Numbered). gives (word_at word.kind (slice_index (m x.number) 0))) (sym k.here));
@@ -170,7 +174,7 @@ module _ (scope : Scope) (names : Numbers) (types : Types) (n : ℕ) (linked : L
       record {
         kind = ap (operation_kind (operation_of operator)) a.kind ∙ kind;
         label = ap₂ joined a.label b.label ∙ made_label makes;
-        typed = flat.of_binary a.typed b.typed makes (ap width_of a.kind);
+        typed = flat.of_binary a.typed b.typed (subst (λ q. rules.Makes q (operation_of operator) one other whole) (sym linked.observed) makes) (ap width_of a.kind);
         value = λ s m shows.
             let x = value_in m (term names left) in
             let y = value_in m (term names right) in
@@ -178,11 +182,11 @@ module _ (scope : Scope) (names : Numbers) (types : Types) (n : ℕ) (linked : L
             let q = path_in m (term names right) in
             let e = binary place operator left right in
             let w = word_at whole.kind (operated operator (width_of (kind_in names left)) x y) in
-            let own = division place operator x y in
+            let own = marks_of place operator x y in
             let word : binary_word operator (word_at one.kind x) (word_at other.kind y) ≡ w =
             ap₂ (λ k u. word_at k (operated operator u x y)) kind (ap width_of (sym a.kind)) in
             let makes : applied s e (word_at one.kind x ∷ word_at other.kind y ∷ []) ≡ ending_by (first_fault own) w =
-            ap (λ u. if divides operator && (y == 0) then faults place else gives u) word ∙ divided_found (divides operator) place x y w in
+            ap (λ u. if divides operator && (y == 0) then faults place else gives u) word ∙ marks_found (divides operator) (multiplies operator) place x y w in
             subst (Comes (Evaluates s e) (λ v. v ≡ w)) (ap (λ f. either (either (first_fault p) f) (first_fault own)) (either-none (first_fault q)) ∙ sym (across₃ p q own))
             (at_node s e (word_at one.kind x ∷ word_at other.kind y ∷ []) w (either (first_fault p) (either (first_fault q) None)) (first_fault own)
             (more_values s (a.value s m shows) (more_values s (b.value s m shows) (no_values s))) makes);
@@ -239,7 +243,7 @@ module _ (scope : Scope) (names : Numbers) (types : Types) (n : ℕ) (linked : L
       record {
         kind = ap (λ (x : Numbered). x.declaration.word.kind) k.here;
         label = ap (λ (x : Numbered). x.declaration.word.label) k.here;
-        typed = flat.of_element (ap (λ (x : Numbered). types x.number) k.here ∙ (k.typed.is ∙ ap (λ (x : Numbered). Some (array_as own.element k.typed.free (numbers_in x.declaration.elements))) (sym k.here))) i.typed;
+        typed = flat.of_element (ap (λ (x : Numbered). types.at x.number) k.here ∙ (k.typed.is ∙ ap (λ (x : Numbered). Some (array_as own.element k.typed.free (numbers_in x.declaration.elements))) (sym k.here))) i.typed;
         value = λ s m shows.
             let v = value_in m (term names index) in
             let p = path_in m (term names index) in

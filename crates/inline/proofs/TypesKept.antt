@@ -8,11 +8,11 @@ use Rattle.language.specs.declared.signature.Label.{Label}
 use Rattle.inline.proofs.Linked.{with_type-other}
 
 -- what is new is none of what is in scope
-pub new_number : (types : Types) (x y : ℕ) (d : FlatVariable) → types x ≡ None → types y ≡ Some d → y ≡ x → ⊥
-new_number types x y d new known same = none-some d (sym new ∙ (ap types (sym same) ∙ known))
+pub new_number : (types : Types) (x y : ℕ) (d : FlatVariable) → types.at x ≡ None → types.at y ≡ Some d → y ≡ x → ⊥
+new_number types x y d new known same = none-some d (sym new ∙ (ap types.at (sym same) ∙ known))
 
 module _ (all : List FlatVariable) where
-  pub type_kept : (types : Types) (control : Label) (s : FlatTree) → IsTyped all types control s → (y : ℕ) (d : FlatVariable) → types y ≡ Some d → types_after types s y ≡ Some d
+  pub type_kept : (types : Types) (control : Label) (s : FlatTree) → IsTyped all types control s → (y : ℕ) (d : FlatVariable) → types.at y ≡ Some d → (types_after types s).at y ≡ Some d
   type_kept types control (declare x word mutable value) typed y d known = with_type-other types x y (word_as word mutable) (new_number types x y d typed.0.new known) ∙ known
   type_kept types control (array x word mutable size values) typed y d known = with_type-other types x y (array_as word mutable size) (new_number types x y d typed.0.new known) ∙ known
   type_kept types control (assign x value) typed y d known = known
@@ -22,6 +22,6 @@ module _ (all : List FlatVariable) where
   type_kept types control (branch label condition accepted otherwise) typed y d known = known
   type_kept types control (loop x low high body) typed y d known = known
 
-  pub types_kept : (types : Types) (control : Label) (b : FlatBlock) → AreTyped all types control b → (y : ℕ) (d : FlatVariable) → types y ≡ Some d → types_after_all types b y ≡ Some d
+  pub types_kept : (types : Types) (control : Label) (b : FlatBlock) → AreTyped all types control b → (y : ℕ) (d : FlatVariable) → types.at y ≡ Some d → (types_after_all types b).at y ≡ Some d
   types_kept types control nothing typed y d known = known
   types_kept types control (first s rest) typed y d known = types_kept (types_after types s) control rest typed.1 y d (type_kept types control s typed.0 y d known)

@@ -12,8 +12,10 @@ use Rattle.language.specs.contracts.tree.BinaryOperator as operator
 use Rattle.language.specs.contracts.tree.PrefixOperator as prefix_operator
 use Rattle.language.specs.contracts.typing.WordType as word
 use Rattle.word.specs.contracts.place.Place as place
+use Rattle.word.specs.contracts.profile.Profile as profile
 use Rattle.word.specs.contracts.width.Width as width
 use Rattle.word.specs.declared.place.Place.{Place}
+use Rattle.word.specs.declared.profile.Profile.{Profile}
 use Rattle.language.specs.declared.signature.Param.{Param}
 use Rattle.language.specs.declared.typing.WordType.{WordType}
 
@@ -154,9 +156,9 @@ coded_block = record { code = block_code; inj = block_inj }
 -- a program is stored as the tuple of its parts
 abbrev pub coded_program : Coded FlatProgram
 coded_program =
-    code_by (Place × (List Param × (Option WordType × (ℕ × (List FlatVariable × (FlatBlock × Option TermTree))))))
-    (coded× place.the_row.coded (coded× (coded_list param.the_row.coded) (coded× (coded_option word.the_row.coded)
-    (coded× coded_ℕ (coded× (coded_list flat_variable.the_row.coded) (coded× coded_block (coded_option coded_term)))))))
-    (λ p. (p.place, (p.parameters, (p.returned, (p.nodes, (p.declared, (p.body, p.value)))))))
-    (λ t. record { place = t.0; parameters = t.1.0; returned = t.1.1.0; nodes = t.1.1.1.0; declared = t.1.1.1.1.0; body = t.1.1.1.1.1.0; value = t.1.1.1.1.1.1 })
+    code_by (Profile × (Place × (List Param × (Option WordType × (ℕ × (List FlatVariable × (FlatBlock × Option TermTree)))))))
+    (coded× profile.the_row.coded (coded× place.the_row.coded (coded× (coded_list param.the_row.coded) (coded× (coded_option word.the_row.coded)
+    (coded× coded_ℕ (coded× (coded_list flat_variable.the_row.coded) (coded× coded_block (coded_option coded_term))))))))
+    (λ p. (p.profile, (p.place, (p.parameters, (p.returned, (p.nodes, (p.declared, (p.body, p.value))))))))
+    (λ t. record { profile = t.0; place = t.1.0; parameters = t.1.1.0; returned = t.1.1.1.0; nodes = t.1.1.1.1.0; declared = t.1.1.1.1.1.0; body = t.1.1.1.1.1.1.0; value = t.1.1.1.1.1.1.1 })
     (λ _. refl)

@@ -18,4 +18,4 @@ pub record IsHeld (d : FlatVariable) (numbers : List ℕ) : Type 0 where
 
 -- each variable in scope holds what it is declared as
 abbrev pub Fits : Types → Values → Type 0
-Fits types m = (x : ℕ) (d : FlatVariable) → types x ≡ Some d → IsHeld d (m x)
+Fits types m = (x : ℕ) (d : FlatVariable) → types.at x ≡ Some d → IsHeld d (m x)

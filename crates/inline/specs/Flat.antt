@@ -15,6 +15,7 @@ use Rattle.language.specs.declared.tree.PrefixOperator.{PrefixOperator}
 use Rattle.language.specs.declared.typing.WordType.{WordType}
 use Rattle.language.specs.Typing.{is_mutable}
 use Rattle.word.specs.declared.place.Place.{Place}
+use Rattle.word.specs.declared.profile.Profile.{Profile}
 use Rattle.word.specs.declared.width.Width.{Width}
 
 -- An expression; where the width of an operand decides what a node means, the node has it: the left operand's. A node
@@ -86,6 +87,8 @@ counter_type = record { kind = Uint32; label = Public }
 
 -- the export
 pub record FlatProgram : Type 0 where
+  -- for which observer it is
+  pub profile : Profile
   -- where its name stands
   pub place : Place
   pub parameters : List Param

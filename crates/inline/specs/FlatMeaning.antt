@@ -5,9 +5,9 @@ use Rattle.std.specs.Option.{option_map}
 use Rattle.arguments.specs.Within.{words_of}
 use Rattle.inline.specs.declared.flat.FlatVariable.{FlatVariable}
 use Rattle.inline.specs.Flat.{TermTree, number, truth, variable, prefix, binary, rotate, convert, select, element, FlatTree, declare, array, assign, put, hold, skip, branch, loop, FlatBlock, nothing, first, FlatProgram, numbers_in}
-use Rattle.inline.specs.Path.{bounded, indexed, divided, Path, first_fault}
+use Rattle.inline.specs.Path.{bounded, indexed, divided, multiplied, Path, first_fault}
 use Rattle.language.specs.Meaning.{Ending, gives, faults}
-use Rattle.language.specs.Operators.{divides, operated, prefix_value, width_of}
+use Rattle.language.specs.Operators.{divides, multiplies, operated, prefix_value, width_of}
 use Rattle.language.specs.Results.{Results}
 use Rattle.language.specs.declared.signature.Form.{Form}
 use Rattle.language.specs.declared.signature.Form.TheVariants.{SingleWord, FixedArray, MutableArray}
@@ -38,9 +38,10 @@ value_in m (convert kind operand) = converted (width_of kind) (value_in m operan
 value_in m (select condition accepted otherwise) = if value_in m condition == 0 then value_in m otherwise else value_in m accepted
 value_in m (element place x size index) = slice_index (m x) (value_in m index)
 
--- what an operator puts on the path
-abbrev pub division : Place → BinaryOperator → ℕ → ℕ → Path
-division place operator a b = if divides operator then divided place a b ∷ [] else []
+-- what an operator puts on the path: the operands of a division or a multiplication
+abbrev pub marks_of : Place → BinaryOperator → ℕ → ℕ → Path
+marks_of place operator a b =
+    if divides operator then divided place a b ∷ [] else (if multiplies operator then multiplied a b ∷ [] else [])
 
 -- the path of an expression: operands from left to right, then the node itself
 abbrev pub path_in : Values → TermTree → Path
@@ -49,7 +50,7 @@ path_in m (truth value) = []
 path_in m (variable x) = []
 path_in m (prefix operator width operand) = path_in m operand
 path_in m (binary place operator width left right) =
-    path_in m left ++ path_in m right ++ division place operator (value_in m left) (value_in m right)
+    path_in m left ++ path_in m right ++ marks_of place operator (value_in m left) (value_in m right)
 path_in m (rotate width operand amount) = path_in m operand
 path_in m (convert kind operand) = path_in m operand
 path_in m (select condition accepted otherwise) = path_in m condition ++ path_in m accepted ++ path_in m otherwise

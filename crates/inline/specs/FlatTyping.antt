@@ -17,18 +17,20 @@ use Rattle.language.specs.Operators.{width_of}
 use Rattle.language.specs.Types.{bits_of, joined}
 use Rattle.language.specs.WellTyped.{labelled, Makes, Takes}
 use Rattle.word.specs.declared.place.Place.{Place}
+use Rattle.word.specs.declared.profile.Profile.{Profile}
 use Rattle.word.specs.declared.width.Width.{Width}
 
--- what the variables in scope are declared as
-abbrev pub Types : Type 0
-Types = ℕ → Option FlatVariable
+-- the observer, and what the variables in scope are declared as
+pub record Types : Type 0 where
+  pub profile : Profile
+  pub at : ℕ → Option FlatVariable
 
 abbrev pub with_type : Types → ℕ → FlatVariable → Types
-with_type types x declaration = λ y. if y == x then Some declaration else types y
+with_type types x declaration = record { profile = types.profile; at = λ y. if y == x then Some declaration else types.at y }
 
 -- all variables of a list, each at its number
-abbrev pub types_of : List FlatVariable → Types
-types_of declared = λ x. slice_get declared x
+abbrev pub types_of : Profile → List FlatVariable → Types
+types_of profile declared = record { profile = profile; at = λ x. slice_get declared x }
 
 -- an expression of this type, by rules of inference
 pub data HasType (types : Types) : TermTree → WordType → Type 0 where
@@ -38,7 +40,7 @@ pub data HasType (types : Types) : TermTree → WordType → Type 0 where
   of_truth : {value : Bool}
       → HasType types (truth value) (labelled Boolean Public)
   of_variable : {x : ℕ} {word : WordType} {mutable : Bool}
-      → types x ≡ Some (word_as word mutable)
+      → types.at x ≡ Some (word_as word mutable)
       → HasType types (variable x) word
   of_prefix : {operator : PrefixOperator} {width : Width} {operand : TermTree} {kind : Kind} {label : Label}
       → HasType types operand (labelled kind label)
@@ -48,7 +50,7 @@ pub data HasType (types : Types) : TermTree → WordType → Type 0 where
   of_binary : {place : Place} {operator : BinaryOperator} {width : Width} {left right : TermTree} {one other whole : WordType}
       → HasType types left one
       → HasType types right other
-      → Makes (operation_of operator) one other whole
+      → Makes types.profile (operation_of operator) one other whole
       → width ≡ width_of one.kind
       → HasType types (binary place operator width left right) whole
   of_rotation : {width : Width} {operand : TermTree} {amount : ℕ} {kind : Kind} {label : Label}
@@ -68,7 +70,7 @@ pub data HasType (types : Types) : TermTree → WordType → Type 0 where
       → HasType types otherwise (labelled kind n)
       → HasType types (select condition accepted otherwise) (labelled kind (joined l (joined m n)))
   of_element : {place : Place} {x size : ℕ} {index : TermTree} {word : WordType} {mutable : Bool}
-      → types x ≡ Some (array_as word mutable size)
+      → types.at x ≡ Some (array_as word mutable size)
       → HasType types index (labelled Uint32 Public)
       → HasType types (element place x size index) word
 
@@ -108,21 +110,21 @@ types_after_all types (first statement rest) = types_after_all (types_after type
 -- a variable that may be assigned to under the control label, and a value for it
 pub record IsAssigned (types : Types) (control : Label) (x : ℕ) (value : TermTree) : Type 0 where
   pub word : WordType
-  pub known : types x ≡ Some (word_as word true)
+  pub known : types.at x ≡ Some (word_as word true)
   pub suits : Suits types word value
   pub hidden : control ≡ Secret → word.label ≡ Secret
 
 -- an array whose elements may be assigned to under the control label, an index, and a value for the element
 pub record IsPut (types : Types) (control : Label) (x size : ℕ) (index value : TermTree) : Type 0 where
   pub word : WordType
-  pub known : types x ≡ Some (array_as word true size)
+  pub known : types.at x ≡ Some (array_as word true size)
   pub index_type : HasType types index (labelled Uint32 Public)
   pub suits : Suits types word value
   pub hidden : control ≡ Secret → word.label ≡ Secret
 
 -- a variable that is new where it is declared, and is so declared in the list of all
 pub record IsNew (declared : List FlatVariable) (types : Types) (x : ℕ) (declaration : FlatVariable) : Type 0 where
-  pub new : types x ≡ None
+  pub new : types.at x ≡ None
   pub listed : slice_get declared x ≡ Some declaration
 
 abbrev mutual
@@ -180,8 +182,8 @@ abbrev mutual
   AreNumbered n (first statement rest) = IsNumbered n statement × AreNumbered (n + declarations_in statement) rest
 
 -- the parameters' types
-abbrev pub parameter_types : List Param → Types
-parameter_types parameters = types_of (map declaration_of parameters)
+abbrev pub parameter_types : Profile → List Param → Types
+parameter_types profile parameters = types_of profile (map declaration_of parameters)
 
 -- a value stands exactly where there is a result, and suits its type
 abbrev pub IsResult : Types → Option WordType → Option TermTree → Type 0
@@ -192,7 +194,7 @@ IsResult types (Some word) (Some value) = Suits types word value
 
 -- the types where the body has ended
 abbrev pub end_types : FlatProgram → Types
-end_types p = types_after_all (parameter_types p.parameters) p.body
+end_types p = types_after_all (parameter_types p.profile p.parameters) p.body
 
 -- a well-typed program
 pub record IsTypedProgram (p : FlatProgram) : Type 0 where
@@ -200,5 +202,5 @@ pub record IsTypedProgram (p : FlatProgram) : Type 0 where
   pub parameters : take (length p.parameters) p.declared ≡ map declaration_of p.parameters
   -- and what the body declares comes behind them
   pub numbered : AreNumbered (length p.parameters) p.body
-  pub body : AreTyped p.declared (parameter_types p.parameters) Public p.body
+  pub body : AreTyped p.declared (parameter_types p.profile p.parameters) Public p.body
   pub result : IsResult (end_types p) p.returned p.value

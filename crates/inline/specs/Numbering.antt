@@ -13,6 +13,7 @@ use Rattle.language.specs.declared.signature.Label.{Label}
 use Rattle.language.specs.declared.signature.Label.TheVariants.{Public}
 use Rattle.language.specs.declared.typing.WordType.{WordType}
 use Rattle.word.specs.declared.place.Place.{Place}
+use Rattle.word.specs.declared.profile.Profile.{Profile}
 use Rattle.language.specs.ExprTyping.{operation_of, operation_kind}
 use Rattle.language.specs.Operators.{width_of}
 pub use Rattle.language.specs.Signature.{param_of}
@@ -302,8 +303,9 @@ abbrev pub return_names : Callables → ProcedureTree → Numbers
 return_names known p = names_after_all known (parameter_names p) (length p.parameters) p.body
 
 -- a procedure behind those that it may call, as one body with numbered variables
-abbrev pub flattened : List ProcedureTree → ProcedureTree → FlatProgram
-flattened before p = record {
+abbrev pub flattened : Profile → List ProcedureTree → ProcedureTree → FlatProgram
+flattened profile before p = record {
+  profile = profile;
   place = p.place;
   parameters = map param_of p.parameters;
   returned = p.result;

@@ -2,6 +2,7 @@
 
 ghost use Rattle.std.specs.List.{AllByRecursion};
 ghost use Rattle.std.specs.Prelude.{◌≡◌, [], List, Some, length, map};
+ghost use Rattle.word.specs.declared.profile.Profile.{Profile};
 ghost use Rattle.arguments.specs.Within.{AreWithin};
 ghost use Rattle.inline.specs.declared.flat.FlatVariable.{FlatVariable};
 ghost use Rattle.inline.specs.Fitting.{Fits, IsWithinKind};
@@ -19,26 +20,27 @@ ghost use Rattle.language.specs.Size.{size_violations};
 ghost use Rattle.language.specs.Tree.{ProcedureTree, ProgramTree};
 ghost use Rattle.language.specs.Typing.{violations};
 
-/// The export of a program that violates no rule is well typed once its names are numbers, with the bodies that it calls in it.
+/// The export of a program that violates no rule is well typed for the same observer once its names are numbers, with the
+/// bodies that it calls in it.
 pub fn flat_is_typed()
-    ensures { (program : ProgramTree) (before : List ProcedureTree) (p : ProcedureTree) → length (violations program) ≡ 0
+    ensures { (profile : Profile) (program : ProgramTree) (before : List ProcedureTree) (p : ProcedureTree) → length (violations profile program) ≡ 0
         → exported [] program.procedures ≡ Some (before, p) → AllByRecursion IsGrammatical before → IsGrammatical p
-        → IsTypedProgram (flattened before p) }
+        → IsTypedProgram (flattened profile before p) }
 {}
 
 /// And it keeps the limits on size, where the procedure passes none.
 pub fn flat_is_sized()
-    ensures { (program : ProgramTree) (before : List ProcedureTree) (p : ProcedureTree) → length (violations program) ≡ 0
+    ensures { (profile : Profile) (program : ProgramTree) (before : List ProcedureTree) (p : ProcedureTree) → length (violations profile program) ≡ 0
         → exported [] program.procedures ≡ Some (before, p) → AllByRecursion IsGrammatical before → IsGrammatical p
-        → length (size_violations before p) ≡ 0 → IsSized (flattened before p) }
+        → length (size_violations before p) ≡ 0 → IsSized (flattened profile before p) }
 {}
 
 /// The program comes to what it came to: on arguments within the parameter types it has the flat program's
 /// outcome, or meets the first fault on that one's path.
 pub fn flat_keeps_meaning()
-    ensures { (program : ProgramTree) (before : List ProcedureTree) (p : ProcedureTree) (args : List Arg) → length (violations program) ≡ 0
+    ensures { (profile : Profile) (program : ProgramTree) (before : List ProcedureTree) (p : ProcedureTree) (args : List Arg) → length (violations profile program) ≡ 0
         → exported [] program.procedures ≡ Some (before, p) → AllByRecursion IsGrammatical before → IsGrammatical p
-        → AreWithin (map param_of p.parameters) args → Gives program args (ending_of (flattened before p) args) }
+        → AreWithin (map param_of p.parameters) args → Gives program args (ending_of (flattened profile before p) args) }
 {}
 
 /// Where each variable holds what it is declared as, each expression has a value of its own kind, and
@@ -57,7 +59,7 @@ pub fn typed_values_fit()
 /// So it is throughout a well-typed program, on arguments within its parameter types.
 pub fn flat_values_fit()
     ensures parameters { (p : FlatProgram) (args : List Arg) → IsTypedProgram p → AreWithin p.parameters args
-        → Fits (parameter_types p.parameters) (given p.declared args) }
+        → Fits (parameter_types p.profile p.parameters) (given p.declared args) }
     ensures end { (p : FlatProgram) (args : List Arg) → IsTypedProgram p → AreWithin p.parameters args → Fits (end_types p) (end_of p args) }
     ensures result { (p : FlatProgram) (args : List Arg) (word : WordType) (value : TermTree) → IsTypedProgram p → AreWithin p.parameters args
         → p.returned ≡ Some word → p.value ≡ Some value → IsWithinKind word.kind (value_in (end_of p args) value) }

@@ -4,13 +4,14 @@ ghost use Rattle.inline.specs.Flat.{FlatProgram, term_tree, flat_block};
 ghost use Rattle.inline.specs.Kept.{IsFlat};
 
 use crate::{FlatStatement, FlatVariable, Term};
-use language::{Param, Place, WordType};
+use language::{Param, Place, Profile, WordType};
 use std::marker::Model;
 
 /// The export as one body with numbered variables. Its parameters are the first variables. It is well typed, and within
 /// the limits on size.
 #[derive(Debug, Drop)]
 pub struct Flat {
+    profile: Profile,
     place: Place,
     parameters: Vec<Param>,
     returned: Option<WordType>,
@@ -30,14 +31,15 @@ impl Model for Flat {
 
     ghost coded = { coded_program };
 
-    ghost view = { λ f. record { place = f.place; parameters = f.parameters.items; returned = f.returned; nodes = f.nodes; declared = f.declared.items; body = flat_block f.body.items; value = option_map term_tree f.value } };
+    ghost view = { λ f. record { profile = f.profile; place = f.place; parameters = f.parameters.items; returned = f.returned; nodes = f.nodes; declared = f.declared.items; body = flat_block f.body.items; value = option_map term_tree f.value } };
 
-    ghost invariant = { λ f. IsFlat (record { place = f.place; parameters = f.parameters.items; returned = f.returned; nodes = f.nodes; declared = f.declared.items; body = flat_block f.body.items; value = option_map term_tree f.value }) };
+    ghost invariant = { λ f. IsFlat (record { profile = f.profile; place = f.place; parameters = f.parameters.items; returned = f.returned; nodes = f.nodes; declared = f.declared.items; body = flat_block f.body.items; value = option_map term_tree f.value }) };
 }
 
 impl Flat {
     /// A program of these parts.
     pub(crate) fn new(
+        profile: Profile,
         place: Place,
         parameters: Vec<Param>,
         returned: Option<WordType>,
@@ -46,10 +48,11 @@ impl Flat {
         body: Vec<FlatStatement>,
         value: Option<Term>,
     ) -> Self
-        requires { IsFlat (record { place = place; parameters = parameters.items; returned = returned; nodes = nodes; declared = declared.items; body = flat_block body.items; value = option_map term_tree value }) }
-        ensures { result ≡ record { place = place; parameters = parameters.items; returned = returned; nodes = nodes; declared = declared.items; body = flat_block body.items; value = option_map term_tree value } }
+        requires { IsFlat (record { profile = profile; place = place; parameters = parameters.items; returned = returned; nodes = nodes; declared = declared.items; body = flat_block body.items; value = option_map term_tree value }) }
+        ensures { result ≡ record { profile = profile; place = place; parameters = parameters.items; returned = returned; nodes = nodes; declared = declared.items; body = flat_block body.items; value = option_map term_tree value } }
     {
         Flat {
+            profile,
             place,
             parameters,
             returned,
@@ -58,6 +61,13 @@ impl Flat {
             body,
             value,
         }
+    }
+
+    /// For which observer it is.
+    pub fn profile(&self) -> Profile
+        ensures { result ≡ self.now.profile }
+    {
+        self.profile
     }
 
     /// Where the export's name stands.

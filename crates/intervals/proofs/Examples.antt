@@ -13,6 +13,7 @@ use Rattle.language.specs.declared.tree.BinaryOperator.TheVariants.{Both, Equal,
 use Rattle.language.specs.declared.tree.PrefixOperator.TheVariants.{Complement, Negate}
 use Rattle.language.specs.WellTyped.{labelled}
 use Rattle.word.specs.Places.{origin}
+use Rattle.word.specs.declared.profile.Profile.TheVariants.{P1}
 use Rattle.word.specs.declared.width.Width.TheVariants.{W8, W32}
 
 -- Operators.
@@ -200,6 +201,7 @@ no_turns = refl
 -- an empty loop from 0 up to a number
 abbrev long : ℕ → FlatProgram
 long n = record {
+  profile = P1;
   place = origin;
   parameters = [];
   returned = None;
@@ -224,6 +226,7 @@ too_much = refl
 -- a loop whose body reads an element at its counter
 abbrev reads : ℕ → ℕ → FlatProgram
 reads low high = record {
+  profile = P1;
   place = origin;
   parameters = [];
   returned = None;
@@ -251,6 +254,7 @@ no_turn_outside = refl
 -- a body whose variables are an array of 4 elements and three words
 abbrev with_calls : FlatBlock → FlatProgram
 with_calls body = record {
+  profile = P1;
   place = origin;
   parameters = [];
   returned = None;

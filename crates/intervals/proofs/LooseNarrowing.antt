@@ -24,6 +24,7 @@ use Rattle.language.specs.declared.tree.BinaryOperator.{BinaryOperator}
 use Rattle.language.specs.declared.tree.BinaryOperator.TheVariants.{Either, Both, Equal, Unequal, Less, LessOrEqual, Greater, GreaterOrEqual, BitOr, BitXor, BitAnd, ShiftLeft, ShiftRight, Add, Subtract, Multiply, Divide, Remainder}
 use Rattle.language.specs.declared.typing.WordType.{WordType}
 use Rattle.word.specs.Operators.{word_of}
+use Rattle.word.specs.declared.profile.Profile.{Profile}
 
 -- What is known of a variable after something was learned of one.
 
@@ -208,14 +209,14 @@ named_variable (select c a b) x is = absurd (none-some x is)
 named_variable (element p y n e) x is = absurd (none-some x is)
 
 module _ (declared : List FlatVariable) (types : Types) (bounds : Bounds) (m : Values) (holds : Holds declared types bounds m) where
-  public_value : {x v : ℕ} {p : Path} {w : WordType} → Comes (types_of declared) m (variable x) v p → HasType types (variable x) w → w.label ≡ Public → v ≡ slice_index (m x) 0
+  public_value : {profile : Profile} {x v : ℕ} {p : Path} {w : WordType} → Comes (types_of profile declared) m (variable x) v p → HasType types (variable x) w → w.label ≡ Public → v ≡ slice_index (m x) 0
   public_value to_variable t public = refl
   public_value {w = w} (to_anything {word = word} c t secret within) u public = absurd (secret_is_not w word (one_type declared types holds.listed u t) public secret)
 
-  named_value : {e : TermTree} {v : ℕ} {p : Path} {w : WordType} → Comes (types_of declared) m e v p → HasType types e w → w.label ≡ Public → (x : ℕ) → named e ≡ Some x → v ≡ slice_index (m x) 0
-  named_value {e = e} {v = v} {p = p} {w = w} c t public x is =
+  named_value : {profile : Profile} {e : TermTree} {v : ℕ} {p : Path} {w : WordType} → Comes (types_of profile declared) m e v p → HasType types e w → w.label ≡ Public → (x : ℕ) → named e ≡ Some x → v ≡ slice_index (m x) 0
+  named_value {profile = profile} {e = e} {v = v} {p = p} {w = w} c t public x is =
       let same = named_variable e x is in
-      public_value (subst (λ f. Comes (types_of declared) m f v p) same c) (subst (λ f. HasType types f w) same t) public
+      public_value (subst (λ f. Comes (types_of profile declared) m f v p) same c) (subst (λ f. HasType types f w) same t) public
 
   greatest_value : {x : ℕ} {w : WordType} → HasType types (variable x) w → slice_index (m x) 0 ≤ (full_at declared x).high
   greatest_value {x = x} (of_variable {word = word} {mutable = mutable} is) =
@@ -232,7 +233,7 @@ module _ (declared : List FlatVariable) (types : Types) (bounds : Bounds) (m : V
   comparison_false operator w (Some x) e a b value inside h =
       false_so m x b e inside operator w (full_at declared x).high (value x refl).1 (subst (λ v. operated operator w v b ≡ 0) (value x refl).0 h)
 
-  condition_true : {e : TermTree} {v : ℕ} {p : Path} {w : WordType} → Comes (types_of declared) m e v p → HasType types e w → w.label ≡ Public → v ≢ 0 → AreSo m (told_true declared bounds e)
+  condition_true : {profile : Profile} {e : TermTree} {v : ℕ} {p : Path} {w : WordType} → Comes (types_of profile declared) m e v p → HasType types e w → w.label ≡ Public → v ≢ 0 → AreSo m (told_true declared bounds e)
   condition_true to_number t public h = tt
   condition_true to_truth t public h = tt
   condition_true to_variable t public h = tt
@@ -254,7 +255,7 @@ module _ (declared : List FlatVariable) (types : Types) (bounds : Bounds) (m : V
   condition_true (to_element c) t public h = tt
   condition_true {w = w} (to_anything {word = word} c t secret within) u public h = absurd (secret_is_not w word (one_type declared types holds.listed u t) public secret)
 
-  condition_false : {e : TermTree} {v : ℕ} {p : Path} {w : WordType} → Comes (types_of declared) m e v p → HasType types e w → w.label ≡ Public → v ≡ 0 → AreSo m (option_to_list (told_false declared bounds e))
+  condition_false : {profile : Profile} {e : TermTree} {v : ℕ} {p : Path} {w : WordType} → Comes (types_of profile declared) m e v p → HasType types e w → w.label ≡ Public → v ≡ 0 → AreSo m (option_to_list (told_false declared bounds e))
   condition_false to_number t public h = tt
   condition_false to_truth t public h = tt
   condition_false to_variable t public h = tt
@@ -271,7 +272,7 @@ module _ (declared : List FlatVariable) (types : Types) (bounds : Bounds) (m : V
   condition_false {w = w} (to_anything {word = word} c t secret within) u public h = absurd (secret_is_not w word (one_type declared types holds.listed u t) public secret)
 
   -- what is known in an arm holds where a run takes it
-  pub holds_where_true : (label : Label) {e : TermTree} {v : ℕ} {p : Path} {w : WordType} → Comes (types_of declared) m e v p → HasType types e w → w.label ≡ label → v ≢ 0
+  pub holds_where_true : (label : Label) {profile : Profile} {e : TermTree} {v : ℕ} {p : Path} {w : WordType} → Comes (types_of profile declared) m e v p → HasType types e w → w.label ≡ label → v ≢ 0
       → Holds declared types (where_true declared bounds label e) m
   holds_where_true Public {e = e} c t public h = record {
     fits = holds.fits;
@@ -280,7 +281,7 @@ module _ (declared : List FlatVariable) (types : Types) (bounds : Bounds) (m : V
   }
   holds_where_true Secret c t label h = holds
 
-  pub holds_where_false : (label : Label) {e : TermTree} {v : ℕ} {p : Path} {w : WordType} → Comes (types_of declared) m e v p → HasType types e w → w.label ≡ label → v ≡ 0
+  pub holds_where_false : (label : Label) {profile : Profile} {e : TermTree} {v : ℕ} {p : Path} {w : WordType} → Comes (types_of profile declared) m e v p → HasType types e w → w.label ≡ label → v ≡ 0
       → Holds declared types (where_false declared bounds label e) m
   holds_where_false Public {e = e} c t public h = record {
     fits = holds.fits;

@@ -1,6 +1,6 @@
 -- What is known after a statement holds there in a loose run, variables that are not `mut` keep their values, and the path has
 -- no fault where the statement has no violation.
-use Rattle.std.proofs.Common.{◌≡◌, ◌≢◌, ◌⊎◌, inl, inr, ℕ, suc, ◌+◌, ◌-◌, ◌<◌, ◌≤◌, ◌==◌, ◌||◌, nat_lt, Bool, true, false, not, if◌then◌else◌, List, [], ◌∷◌, ◌++◌, length, All, Some, slice_set, slice_index, refl, sym, ap, ◌∙◌, subst, arith, eqb-true, ne_eqb, eq-eqb, ◌^◌}
+use Rattle.std.proofs.Common.{◌≡◌, ◌≢◌, ◌⊎◌, inl, inr, ℕ, suc, ◌+◌, ◌-◌, ◌<◌, ◌≤◌, ◌==◌, ◌||◌, nat_lt, Bool, true, false, not, if◌then◌else◌, List, [], ◌∷◌, ◌++◌, length, All, Some, slice_get, slice_set, slice_index, refl, sym, ap, ◌∙◌, subst, arith, eqb-true, ne_eqb, eq-eqb, ◌^◌}
 use Rattle.std.proofs.lemmas.Bool.Decides.{nat_tests}
 use Rattle.std.proofs.lemmas.List.{length-set, length-replicate}
 use Rattle.std.proofs.lemmas.List.Elements.{All-nil, All-cons, All-set, All-replicate}
@@ -28,6 +28,7 @@ use Rattle.language.specs.Types.{is_secret, joined}
 use Rattle.language.specs.declared.signature.Label.{Label}
 use Rattle.language.specs.declared.signature.Label.TheVariants.{Public, Secret}
 use Rattle.language.specs.declared.typing.WordType.{WordType}
+use Rattle.word.specs.declared.profile.Profile.{Profile}
 
 -- what a variable holds once it is set, and what another one does
 with_value-same : (m : Values) (x : ℕ) (v : List ℕ) → with_value m x v x ≡ v
@@ -54,9 +55,9 @@ steady_parts Public true h = absurd cc
 steady_parts Secret mutable h = absurd cc
 
 -- what may be assigned to is none of what keeps its value
-not_mutable : (types : Types) (x y : ℕ) (d : FlatVariable) (word : WordType) → types x ≡ Some d → d.mutable ≡ true → types y ≡ Some (word_as word false) → y ≡ x → ⊥
+not_mutable : (types : Types) (x y : ℕ) (d : FlatVariable) (word : WordType) → types.at x ≡ Some d → d.mutable ≡ true → types.at y ≡ Some (word_as word false) → y ≡ x → ⊥
 not_mutable types x y d word known may steady same =
-    let is = same_Some d (word_as word false) (sym known ∙ (ap types (sym same) ∙ steady)) in
+    let is = same_Some d (word_as word false) (sym known ∙ (ap types.at (sym same) ∙ steady)) in
     let other = ap (λ (e : FlatVariable). e.mutable) is in absurd cc
 
 -- a number of a counter
@@ -89,12 +90,12 @@ module _ (declared : List FlatVariable) (turns : List ℕ) where
   -- what a loose run leads to
   pub record Done (types after : Types) (bounds : Bounds) (m t : Values) (path : Path) : Type 0 where
     pub holds : Holds declared after bounds t
-    pub same : (x : ℕ) (word : WordType) → types x ≡ Some (word_as word false) → t x ≡ m x
+    pub same : (x : ℕ) (word : WordType) → types.at x ≡ Some (word_as word false) → t x ≡ m x
     pub fine : AreFine turns path
 
   -- at the end of an arm or a turn all is known that was known before
   back : (types after : Types) (before inside bounds : Bounds) (m t : Values) (path : Path) → Holds declared types before m → Done types after bounds m t path
-      → ((x : ℕ) (d : FlatVariable) → types x ≡ Some d → after x ≡ Some d) → Holds declared types before t
+      → ((x : ℕ) (d : FlatVariable) → types.at x ≡ Some d → after.at x ≡ Some d) → Holds declared types before t
   back types after before inside bounds m t path holds done kept = record {
     fits = λ x d is. done.holds.fits x d (kept x d is);
     kept = λ x i is.
@@ -110,12 +111,12 @@ module _ (declared : List FlatVariable) (turns : List ℕ) where
 
   module _ (types : Types) (bounds : Bounds) (m : Values) (holds : Holds declared types bounds m) where
     -- what suits is within the kind that is wanted
-    suited : {e : TermTree} {v : ℕ} {p : Path} (word : WordType) → Suits types word e → Comes (types_of declared) m e v p → IsWithinKind word.kind v
+    suited : {profile : Profile} {e : TermTree} {v : ℕ} {p : Path} (word : WordType) → Suits types word e → Comes (types_of profile declared) m e v p → IsWithinKind word.kind v
     suited {v = v} word suits c = subst (λ k. IsWithinKind k v) suits.kind (loose_fits declared types bounds m holds c suits.has_type)
 
     -- a new variable
     module _ (x : ℕ) (d : FlatVariable) (numbers : List ℕ) (new : IsNew declared types x d) (held : IsHeld d numbers) where
-      apart : (y : ℕ) (e : FlatVariable) → types y ≡ Some e → y ≡ x → ⊥
+      apart : (y : ℕ) (e : FlatVariable) → types.at y ≡ Some e → y ≡ x → ⊥
       apart y e is = new_number types x y e new.new is
 
       -- what was known of another one
@@ -133,14 +134,14 @@ module _ (declared : List FlatVariable) (turns : List ℕ) where
       listed_too : IsListed declared (with_type types x d)
       listed_too y e is = by (y == x) refl is
         where
-          by : (b : Bool) → (y == x) ≡ b → (if b then Some d else types y) ≡ Some e → types_of declared y ≡ Some e
-          by true same there = ap (types_of declared) (eqb-true y x same) ∙ (new.listed ∙ there)
+          by : (b : Bool) → (y == x) ≡ b → (if b then Some d else types.at y) ≡ Some e → slice_get declared y ≡ Some e
+          by true same there = ap (slice_get declared) (eqb-true y x same) ∙ (new.listed ∙ there)
           by false same there = holds.listed y e there
 
       new_holds : Holds declared (with_type types x d) bounds (with_value m x numbers)
       new_holds = record { fits = fits_declared types m x numbers d held holds.fits; kept = kept_other; listed = listed_too }
 
-      new_same : (y : ℕ) (word : WordType) → types y ≡ Some (word_as word false) → with_value m x numbers y ≡ m y
+      new_same : (y : ℕ) (word : WordType) → types.at y ≡ Some (word_as word false) → with_value m x numbers y ≡ m y
       new_same y word is = with_value-other m x y numbers (apart y (word_as word false) is)
 
       -- and its interval is known where it keeps its value
@@ -159,8 +160,8 @@ module _ (declared : List FlatVariable) (turns : List ℕ) where
               })
 
     -- a variable that may be assigned to
-    module _ (x : ℕ) (d : FlatVariable) (numbers : List ℕ) (there : types x ≡ Some d) (may : d.mutable ≡ true) (held : IsHeld d numbers) where
-      assigned_same : (y : ℕ) (word : WordType) → types y ≡ Some (word_as word false) → with_value m x numbers y ≡ m y
+    module _ (x : ℕ) (d : FlatVariable) (numbers : List ℕ) (there : types.at x ≡ Some d) (may : d.mutable ≡ true) (held : IsHeld d numbers) where
+      assigned_same : (y : ℕ) (word : WordType) → types.at y ≡ Some (word_as word false) → with_value m x numbers y ≡ m y
       assigned_same y word is = with_value-other m x y numbers (not_mutable types x y d word there may is)
 
       assigned_holds : Holds declared types bounds (with_value m x numbers)
@@ -178,26 +179,26 @@ module _ (declared : List FlatVariable) (turns : List ℕ) where
       }
 
     -- the elements of a new array
-    all_fit : (word : WordType) {es : List TermTree} {vs : List ℕ} {p : Path} → ComeAll (types_of declared) m es vs p → AllSuit types word es → All (IsWithinKind word.kind) vs
+    all_fit : (word : WordType) {profile : Profile} {es : List TermTree} {vs : List ℕ} {p : Path} → ComeAll (types_of profile declared) m es vs p → AllSuit types word es → All (IsWithinKind word.kind) vs
     all_fit word none_left suit = All-nil (IsWithinKind word.kind)
     all_fit word (one_more {v = v} {vs = vs} c cs) suit = All-cons (IsWithinKind word.kind) v vs (suited word suit.0 c) (all_fit word cs suit.1)
 
-    as_many : {es : List TermTree} {vs : List ℕ} {p : Path} → ComeAll (types_of declared) m es vs p → length vs ≡ length es
+    as_many : {profile : Profile} {es : List TermTree} {vs : List ℕ} {p : Path} → ComeAll (types_of profile declared) m es vs p → length vs ≡ length es
     as_many none_left = refl
     as_many (one_more c cs) = ap suc (as_many cs)
 
-    made_held : (word : WordType) (mutable : Bool) (size : ℕ) {es : List TermTree} {vs : List ℕ} {p : Path} → ComeAll (types_of declared) m es vs p → AllSuit types word es → HasCount size es → IsHeld (array_as word mutable size) (made size vs)
+    made_held : (word : WordType) (mutable : Bool) (size : ℕ) {profile : Profile} {es : List TermTree} {vs : List ℕ} {p : Path} → ComeAll (types_of profile declared) m es vs p → AllSuit types word es → HasCount size es → IsHeld (array_as word mutable size) (made size vs)
     made_held word mutable size none_left suit count = record { count = length-replicate size 0; within = All-replicate (IsWithinKind word.kind) size 0 (some_bit word.kind) }
     made_held word mutable size (one_more c cs) suit count = record { count = as_many (one_more c cs) ∙ count; within = all_fit word (one_more c cs) suit }
 
-    all_fine : (word : WordType) {es : List TermTree} {vs : List ℕ} {p : Path} → ComeAll (types_of declared) m es vs p → AllSuit types word es → terms_violations declared bounds es ≡ [] → AreFine turns p
+    all_fine : (word : WordType) {profile : Profile} {es : List TermTree} {vs : List ℕ} {p : Path} → ComeAll (types_of profile declared) m es vs p → AllSuit types word es → terms_violations declared bounds es ≡ [] → AreFine turns p
     all_fine word none_left suit none = tt
     all_fine word (one_more {e = e} {es = es} {p = p} {q = q} c cs) suit none =
         let parts = none_in (term_violations declared bounds e) (terms_violations declared bounds es) none in
         fine_both turns p q (loose_fine declared types bounds m holds turns c suit.0.has_type parts.0) (all_fine word cs suit.1 parts.1)
 
     -- a declared word
-    declared_done : (x : ℕ) (word : WordType) (mutable : Bool) {e : TermTree} {v : ℕ} {p : Path} → IsNew declared types x (word_as word mutable) → Suits types word e → Comes (types_of declared) m e v p
+    declared_done : (x : ℕ) (word : WordType) (mutable : Bool) {profile : Profile} {e : TermTree} {v : ℕ} {p : Path} → IsNew declared types x (word_as word mutable) → Suits types word e → Comes (types_of profile declared) m e v p
         → (b : Bool) → is_steady word mutable ≡ b
         → Holds declared (with_type types x (word_as word mutable)) (if b then with_bound bounds x (interval declared bounds e) else bounds) (with_value m x (v ∷ []))
     declared_done x word mutable {e = e} {v = v} new suits c true steady =
@@ -208,132 +209,133 @@ module _ (declared : List FlatVariable) (turns : List ℕ) where
 
   -- Runs.
 
-  mutual
-    pub loose_done : {types : Types} {bounds : Bounds} (control : Label) {m t : Values} {s : FlatTree} {path : Path}
-        → Leads (types_of declared) m s t path → IsTyped declared types control s → Holds declared types bounds m → violations declared bounds s ≡ [] → AreCounted bounds s
-        → Done types (types_after types s) (bounds_after declared bounds s) m t path
-    loose_done {types = types} {bounds = bounds} control {m = m} (declares {x = x} {word = word} {mutable = mutable} {v = v} c) typed holds none counted = record {
-      holds = declared_done types bounds m holds x word mutable typed.0 typed.1 c (is_steady word mutable) refl;
-      same = new_same types bounds m holds x (word_as word mutable) (v ∷ []) typed.0 (one_held word mutable v (suited types bounds m holds word typed.1 c));
-      fine = loose_fine declared types bounds m holds turns c typed.1.has_type none;
-    }
-    loose_done {types = types} {bounds = bounds} control {m = m} (declares_array {x = x} {size = size} {word = word} {mutable = mutable} {vs = vs} cs) typed holds none counted =
-        let held = made_held types bounds m holds word mutable size cs typed.1 typed.2 in
-        record {
-          holds = new_holds types bounds m holds x (array_as word mutable size) (made size vs) typed.0 held;
-          same = new_same types bounds m holds x (array_as word mutable size) (made size vs) typed.0 held;
-          fine = all_fine types bounds m holds word cs typed.1 none;
-        }
-    loose_done {types = types} {bounds = bounds} control {m = m} (assigns {x = x} {v = v} c) typed holds none counted =
-        let held = one_held typed.word true v (suited types bounds m holds typed.word typed.suits c) in
-        record {
-          holds = assigned_holds types bounds m holds x (word_as typed.word true) (v ∷ []) typed.known refl held;
-          same = assigned_same types bounds m holds x (word_as typed.word true) (v ∷ []) typed.known refl held;
-          fine = loose_fine declared types bounds m holds turns c typed.suits.has_type none;
-        }
-    loose_done {types = types} {bounds = bounds} control {m = m} (puts {place = place} {x = x} {size = size} {index = index} {value = value} {i = i} {v = v} {p = p} {q = q} c d) typed holds none counted =
-        let old = holds.fits x (array_as typed.word true size) typed.known in
-        let held : IsHeld (array_as typed.word true size) (slice_set (m x) i v) = record {
-          count = length-set (m x) i v ∙ old.count;
-          within = All-set (IsWithinKind typed.word.kind) (m x) i v (suited types bounds m holds typed.word typed.suits d) old.within;
-        } in
-        let parts = none_in (term_violations declared bounds index ++ index_violations place size (interval declared bounds index)) (term_violations declared bounds value) none in
-        let at = none_in (term_violations declared bounds index) (index_violations place size (interval declared bounds index)) parts.0 in
-        record {
-          holds = assigned_holds types bounds m holds x (array_as typed.word true size) (slice_set (m x) i v) typed.known refl held;
-          same = assigned_same types bounds m holds x (array_as typed.word true size) (slice_set (m x) i v) typed.known refl held;
-          fine = fine_both turns p (indexed place size i ∷ q) (loose_fine declared types bounds m holds turns c typed.index_type at.0)
-              (loose_below declared types bounds m holds turns place size c typed.index_type at.1, loose_fine declared types bounds m holds turns d typed.suits.has_type parts.1);
-        }
-    loose_done {types = types} {bounds = bounds} control {m = m} (holding {x = x} {place = place} {size = size} {index = index} {i = i} {path = p} c) typed known none counted =
-        let held = one_held counter_type false i (loose_fits declared types bounds m known c typed.1) in
-        let parts = none_in (term_violations declared bounds index) (index_violations place size (interval declared bounds index)) none in
-        record {
-          holds = known_holds types bounds m known x (word_as counter_type false) (i ∷ []) typed.0 held counter_type (interval declared bounds index) refl refl (loose_in declared types bounds m known c typed.1 refl);
-          same = new_same types bounds m known x (word_as counter_type false) (i ∷ []) typed.0 held;
-          fine = fine_both turns p (indexed place size i ∷ []) (loose_fine declared types bounds m known turns c typed.1 parts.0) (loose_below declared types bounds m known turns place size c typed.1 parts.1, tt);
-        }
-    loose_done control skips typed known none counted = record { holds = known; same = λ y word is. refl; fine = tt }
-    loose_done {types = types} {bounds = bounds} control {m = m} {t = t} (chooses {label = label} {condition = condition} {accepted = accepted} {otherwise = otherwise} {c = z} {p = p} {q = q} c arm) typed holds none counted =
-        let one = where_true declared bounds label condition in
-        let other = where_false declared bounds label condition in
-        let parts = none_in (term_violations declared bounds condition ++ violations_all declared one accepted) (violations_all declared other otherwise) none in
-        let firsts = none_in (term_violations declared bounds condition) (violations_all declared one accepted) parts.0 in
-        let b : Bool = z == 0 in
-        let block : FlatBlock = if b then otherwise else accepted in
-        let under = joined label control in
-        let inside : Bounds = if b then other else one in
-        let arm_typed = by_cases (λ k. AreTyped declared types under (if k then otherwise else accepted)) b (λ e. typed.2) (λ e. typed.1) in
-        let arm_holds = by_cases (λ k. Holds declared types (if k then other else one) m) b
-        (λ e. holds_where_false declared types bounds m holds label c typed.0 refl (is_zero z e))
-        (λ e. holds_where_true declared types bounds m holds label c typed.0 refl (not_zero z e)) in
-        let arm_none = by_cases (λ k. violations_all declared (if k then other else one) (if k then otherwise else accepted) ≡ []) b (λ e. parts.1) (λ e. firsts.1) in
-        let arm_counted = by_cases (λ k. AllCounted (if k then other else one) (if k then otherwise else accepted)) b (λ e. counted.1) (λ e. counted.0) in
-        let done = all_done {types = types} {bounds = inside} under arm arm_typed arm_holds arm_none arm_counted in
-        record {
-          holds = back types (types_after_all types block) bounds inside (bounds_after_all declared inside block) m t q holds done (types_kept declared types under block arm_typed);
-          same = done.same;
-          fine = fine_both turns p q (loose_fine declared types bounds m holds turns c typed.0 firsts.0) done.fine;
-        }
-    loose_done {types = types} {bounds = bounds} control {m = m} {t = t} (repeats {x = x} {low = low} {high = high} {body = body} {a = a} {b = b} {p = p} {q = q} {r = r} c d run) typed holds none counted =
-        let parts = none_in (term_violations declared bounds low ++ term_violations declared bounds high) (violations_all declared (in_loop declared bounds x low high) body) none in
-        let firsts = none_in (term_violations declared bounds low) (term_violations declared bounds high) parts.0 in
-        let least = loose_in declared types bounds m holds c typed.0 refl in
-        let most = loose_in declared types bounds m holds d typed.1 refl in
-        let below = loose_fits declared types bounds m holds d typed.1 in
-        let done = turns_done {types = types} {bounds = bounds} control low high b below most.1 run (λ some. omega (arith, some)) least.0 typed.2 typed.3 holds parts.1 counted.1 in
-        record {
-          holds = done.holds;
-          same = done.same;
-          fine = fine_both turns (p ++ q) (bounded x a b ∷ r)
-              (fine_both turns p q (loose_fine declared types bounds m holds turns c typed.0 firsts.0) (loose_fine declared types bounds m holds turns d typed.1 firsts.1))
-              (omega (arith, least, most, counted.0), done.fine);
-        }
+  module _ (profile : Profile) where
+    mutual
+      pub loose_done : {types : Types} {bounds : Bounds} (control : Label) {m t : Values} {s : FlatTree} {path : Path}
+          → Leads (types_of profile declared) m s t path → IsTyped declared types control s → Holds declared types bounds m → violations declared bounds s ≡ [] → AreCounted bounds s
+          → Done types (types_after types s) (bounds_after declared bounds s) m t path
+      loose_done {types = types} {bounds = bounds} control {m = m} (declares {x = x} {word = word} {mutable = mutable} {v = v} c) typed holds none counted = record {
+        holds = declared_done types bounds m holds x word mutable typed.0 typed.1 c (is_steady word mutable) refl;
+        same = new_same types bounds m holds x (word_as word mutable) (v ∷ []) typed.0 (one_held word mutable v (suited types bounds m holds word typed.1 c));
+        fine = loose_fine declared types bounds m holds turns c typed.1.has_type none;
+      }
+      loose_done {types = types} {bounds = bounds} control {m = m} (declares_array {x = x} {size = size} {word = word} {mutable = mutable} {vs = vs} cs) typed holds none counted =
+          let held = made_held types bounds m holds word mutable size cs typed.1 typed.2 in
+          record {
+            holds = new_holds types bounds m holds x (array_as word mutable size) (made size vs) typed.0 held;
+            same = new_same types bounds m holds x (array_as word mutable size) (made size vs) typed.0 held;
+            fine = all_fine types bounds m holds word cs typed.1 none;
+          }
+      loose_done {types = types} {bounds = bounds} control {m = m} (assigns {x = x} {v = v} c) typed holds none counted =
+          let held = one_held typed.word true v (suited types bounds m holds typed.word typed.suits c) in
+          record {
+            holds = assigned_holds types bounds m holds x (word_as typed.word true) (v ∷ []) typed.known refl held;
+            same = assigned_same types bounds m holds x (word_as typed.word true) (v ∷ []) typed.known refl held;
+            fine = loose_fine declared types bounds m holds turns c typed.suits.has_type none;
+          }
+      loose_done {types = types} {bounds = bounds} control {m = m} (puts {place = place} {x = x} {size = size} {index = index} {value = value} {i = i} {v = v} {p = p} {q = q} c d) typed holds none counted =
+          let old = holds.fits x (array_as typed.word true size) typed.known in
+          let held : IsHeld (array_as typed.word true size) (slice_set (m x) i v) = record {
+            count = length-set (m x) i v ∙ old.count;
+            within = All-set (IsWithinKind typed.word.kind) (m x) i v (suited types bounds m holds typed.word typed.suits d) old.within;
+          } in
+          let parts = none_in (term_violations declared bounds index ++ index_violations place size (interval declared bounds index)) (term_violations declared bounds value) none in
+          let at = none_in (term_violations declared bounds index) (index_violations place size (interval declared bounds index)) parts.0 in
+          record {
+            holds = assigned_holds types bounds m holds x (array_as typed.word true size) (slice_set (m x) i v) typed.known refl held;
+            same = assigned_same types bounds m holds x (array_as typed.word true size) (slice_set (m x) i v) typed.known refl held;
+            fine = fine_both turns p (indexed place size i ∷ q) (loose_fine declared types bounds m holds turns c typed.index_type at.0)
+                (loose_below declared types bounds m holds turns place size c typed.index_type at.1, loose_fine declared types bounds m holds turns d typed.suits.has_type parts.1);
+          }
+      loose_done {types = types} {bounds = bounds} control {m = m} (holding {x = x} {place = place} {size = size} {index = index} {i = i} {path = p} c) typed known none counted =
+          let held = one_held counter_type false i (loose_fits declared types bounds m known c typed.1) in
+          let parts = none_in (term_violations declared bounds index) (index_violations place size (interval declared bounds index)) none in
+          record {
+            holds = known_holds types bounds m known x (word_as counter_type false) (i ∷ []) typed.0 held counter_type (interval declared bounds index) refl refl (loose_in declared types bounds m known c typed.1 refl);
+            same = new_same types bounds m known x (word_as counter_type false) (i ∷ []) typed.0 held;
+            fine = fine_both turns p (indexed place size i ∷ []) (loose_fine declared types bounds m known turns c typed.1 parts.0) (loose_below declared types bounds m known turns place size c typed.1 parts.1, tt);
+          }
+      loose_done control skips typed known none counted = record { holds = known; same = λ y word is. refl; fine = tt }
+      loose_done {types = types} {bounds = bounds} control {m = m} {t = t} (chooses {label = label} {condition = condition} {accepted = accepted} {otherwise = otherwise} {c = z} {p = p} {q = q} c arm) typed holds none counted =
+          let one = where_true declared bounds label condition in
+          let other = where_false declared bounds label condition in
+          let parts = none_in (term_violations declared bounds condition ++ violations_all declared one accepted) (violations_all declared other otherwise) none in
+          let firsts = none_in (term_violations declared bounds condition) (violations_all declared one accepted) parts.0 in
+          let b : Bool = z == 0 in
+          let block : FlatBlock = if b then otherwise else accepted in
+          let under = joined label control in
+          let inside : Bounds = if b then other else one in
+          let arm_typed = by_cases (λ k. AreTyped declared types under (if k then otherwise else accepted)) b (λ e. typed.2) (λ e. typed.1) in
+          let arm_holds = by_cases (λ k. Holds declared types (if k then other else one) m) b
+          (λ e. holds_where_false declared types bounds m holds label c typed.0 refl (is_zero z e))
+          (λ e. holds_where_true declared types bounds m holds label c typed.0 refl (not_zero z e)) in
+          let arm_none = by_cases (λ k. violations_all declared (if k then other else one) (if k then otherwise else accepted) ≡ []) b (λ e. parts.1) (λ e. firsts.1) in
+          let arm_counted = by_cases (λ k. AllCounted (if k then other else one) (if k then otherwise else accepted)) b (λ e. counted.1) (λ e. counted.0) in
+          let done = all_done {types = types} {bounds = inside} under arm arm_typed arm_holds arm_none arm_counted in
+          record {
+            holds = back types (types_after_all types block) bounds inside (bounds_after_all declared inside block) m t q holds done (types_kept declared types under block arm_typed);
+            same = done.same;
+            fine = fine_both turns p q (loose_fine declared types bounds m holds turns c typed.0 firsts.0) done.fine;
+          }
+      loose_done {types = types} {bounds = bounds} control {m = m} {t = t} (repeats {x = x} {low = low} {high = high} {body = body} {a = a} {b = b} {p = p} {q = q} {r = r} c d run) typed holds none counted =
+          let parts = none_in (term_violations declared bounds low ++ term_violations declared bounds high) (violations_all declared (in_loop declared bounds x low high) body) none in
+          let firsts = none_in (term_violations declared bounds low) (term_violations declared bounds high) parts.0 in
+          let least = loose_in declared types bounds m holds c typed.0 refl in
+          let most = loose_in declared types bounds m holds d typed.1 refl in
+          let below = loose_fits declared types bounds m holds d typed.1 in
+          let done = turns_done {types = types} {bounds = bounds} control low high b below most.1 run (λ some. omega (arith, some)) least.0 typed.2 typed.3 holds parts.1 counted.1 in
+          record {
+            holds = done.holds;
+            same = done.same;
+            fine = fine_both turns (p ++ q) (bounded x a b ∷ r)
+                (fine_both turns p q (loose_fine declared types bounds m holds turns c typed.0 firsts.0) (loose_fine declared types bounds m holds turns d typed.1 firsts.1))
+                (omega (arith, least, most, counted.0), done.fine);
+          }
 
-    pub turns_done : {types : Types} {bounds : Bounds} (control : Label) {m t : Values} {x n i : ℕ} {body : FlatBlock} {path : Path} (low high : TermTree) (b : ℕ) → b < 2 ^ 32
-        → b ≤ (interval declared bounds high).high
-        → Turns (types_of declared) x body n i m t path → (0 < n → i + n ≤ b) → (interval declared bounds low).low ≤ i
-        → IsNew declared types x (word_as counter_type false) → AreTyped declared (with_type types x (word_as counter_type false)) control body
-        → Holds declared types bounds m → violations_all declared (in_loop declared bounds x low high) body ≡ [] → AllCounted (in_loop declared bounds x low high) body
-        → Done types types bounds m t path
-    turns_done control low high b below most no_turn count least new typed holds none counted = record { holds = holds; same = λ y word is. refl; fine = tt }
-    turns_done {types = types} {bounds = bounds} control {m = m} {t = t} {x = x} {body = body} low high b below most (a_turn {n = n} {i = i} {s = s} {p = p} {q = q} run rest) count least new typed holds none counted =
-        let own = word_as counter_type false in
-        let inside = in_loop declared bounds x low high in
-        let room : i + suc n ≤ b = count (omega arith) in
-        let held = one_held counter_type false i (omega (arith, room, below)) in
-        let here = counter_in (interval declared bounds low) (interval declared bounds high) i least (omega (arith, room, most)) in
-        let start = known_holds types bounds m holds x own (i ∷ []) new held counter_type (counter_interval (interval declared bounds low) (interval declared bounds high)) refl refl here in
-        let done = all_done {types = with_type types x own} {bounds = inside} control run typed start none counted in
-        let same = λ (y : ℕ) (word : WordType) (is : types y ≡ Some (word_as word false)).
-        done.same y word (with_type-other types x y own (new_number types x y (word_as word false) new.new is) ∙ is)
-        ∙ new_same types bounds m holds x own (i ∷ []) new held y word is in
-        let after : Holds declared types bounds s = record {
-          fits = λ y d is.
-              let there = with_type-other types x y own (new_number types x y d new.new is) ∙ is in
-              done.holds.fits y d (types_kept declared (with_type types x own) control body typed y d there);
-          kept = λ y j is.
-              let old = holds.kept y j is in
-              record { word = old.word; typed = old.typed; public = old.public; within = subst (λ v. IsIn j (slice_index v 0)) (sym (same y old.word old.typed)) old.within };
-          listed = holds.listed;
-        } in
-        let others = turns_done {types = types} {bounds = bounds} control low high b below most rest (λ some. omega (arith, room)) (omega (arith, least)) new typed after none counted in
-        record {
-          holds = others.holds;
-          same = λ y word is. others.same y word is ∙ same y word is;
-          fine = fine_both turns p q done.fine others.fine;
-        }
+      pub turns_done : {types : Types} {bounds : Bounds} (control : Label) {m t : Values} {x n i : ℕ} {body : FlatBlock} {path : Path} (low high : TermTree) (b : ℕ) → b < 2 ^ 32
+          → b ≤ (interval declared bounds high).high
+          → Turns (types_of profile declared) x body n i m t path → (0 < n → i + n ≤ b) → (interval declared bounds low).low ≤ i
+          → IsNew declared types x (word_as counter_type false) → AreTyped declared (with_type types x (word_as counter_type false)) control body
+          → Holds declared types bounds m → violations_all declared (in_loop declared bounds x low high) body ≡ [] → AllCounted (in_loop declared bounds x low high) body
+          → Done types types bounds m t path
+      turns_done control low high b below most no_turn count least new typed holds none counted = record { holds = holds; same = λ y word is. refl; fine = tt }
+      turns_done {types = types} {bounds = bounds} control {m = m} {t = t} {x = x} {body = body} low high b below most (a_turn {n = n} {i = i} {s = s} {p = p} {q = q} run rest) count least new typed holds none counted =
+          let own = word_as counter_type false in
+          let inside = in_loop declared bounds x low high in
+          let room : i + suc n ≤ b = count (omega arith) in
+          let held = one_held counter_type false i (omega (arith, room, below)) in
+          let here = counter_in (interval declared bounds low) (interval declared bounds high) i least (omega (arith, room, most)) in
+          let start = known_holds types bounds m holds x own (i ∷ []) new held counter_type (counter_interval (interval declared bounds low) (interval declared bounds high)) refl refl here in
+          let done = all_done {types = with_type types x own} {bounds = inside} control run typed start none counted in
+          let same = λ (y : ℕ) (word : WordType) (is : types.at y ≡ Some (word_as word false)).
+          done.same y word (with_type-other types x y own (new_number types x y (word_as word false) new.new is) ∙ is)
+          ∙ new_same types bounds m holds x own (i ∷ []) new held y word is in
+          let after : Holds declared types bounds s = record {
+            fits = λ y d is.
+                let there = with_type-other types x y own (new_number types x y d new.new is) ∙ is in
+                done.holds.fits y d (types_kept declared (with_type types x own) control body typed y d there);
+            kept = λ y j is.
+                let old = holds.kept y j is in
+                record { word = old.word; typed = old.typed; public = old.public; within = subst (λ v. IsIn j (slice_index v 0)) (sym (same y old.word old.typed)) old.within };
+            listed = holds.listed;
+          } in
+          let others = turns_done {types = types} {bounds = bounds} control low high b below most rest (λ some. omega (arith, room)) (omega (arith, least)) new typed after none counted in
+          record {
+            holds = others.holds;
+            same = λ y word is. others.same y word is ∙ same y word is;
+            fine = fine_both turns p q done.fine others.fine;
+          }
 
-    pub all_done : {types : Types} {bounds : Bounds} (control : Label) {m t : Values} {b : FlatBlock} {path : Path}
-        → LeadAll (types_of declared) m b t path → AreTyped declared types control b → Holds declared types bounds m → violations_all declared bounds b ≡ [] → AllCounted bounds b
-        → Done types (types_after_all types b) (bounds_after_all declared bounds b) m t path
-    all_done control ends typed holds none counted = record { holds = holds; same = λ x word is. refl; fine = tt }
-    all_done {types = types} {bounds = bounds} control (goes_on {statement = s} {rest = rest} {p = p} {q = q} run more) typed holds none counted =
-        let parts = none_in (violations declared bounds s) (violations_all declared (bounds_after declared bounds s) rest) none in
-        let one = loose_done {types = types} {bounds = bounds} control run typed.0 holds parts.0 counted.0 in
-        let others = all_done {types = types_after types s} {bounds = bounds_after declared bounds s} control more typed.1 one.holds parts.1 counted.1 in
-        record {
-          holds = others.holds;
-          same = λ x word is. others.same x word (type_kept declared types control s typed.0 x (word_as word false) is) ∙ one.same x word is;
-          fine = fine_both turns p q one.fine others.fine;
-        }
+      pub all_done : {types : Types} {bounds : Bounds} (control : Label) {m t : Values} {b : FlatBlock} {path : Path}
+          → LeadAll (types_of profile declared) m b t path → AreTyped declared types control b → Holds declared types bounds m → violations_all declared bounds b ≡ [] → AllCounted bounds b
+          → Done types (types_after_all types b) (bounds_after_all declared bounds b) m t path
+      all_done control ends typed holds none counted = record { holds = holds; same = λ x word is. refl; fine = tt }
+      all_done {types = types} {bounds = bounds} control (goes_on {statement = s} {rest = rest} {p = p} {q = q} run more) typed holds none counted =
+          let parts = none_in (violations declared bounds s) (violations_all declared (bounds_after declared bounds s) rest) none in
+          let one = loose_done {types = types} {bounds = bounds} control run typed.0 holds parts.0 counted.0 in
+          let others = all_done {types = types_after types s} {bounds = bounds_after declared bounds s} control more typed.1 one.holds parts.1 counted.1 in
+          record {
+            holds = others.holds;
+            same = λ x word is. others.same x word (type_kept declared types control s typed.0 x (word_as word false) is) ∙ one.same x word is;
+            fine = fine_both turns p q one.fine others.fine;
+          }

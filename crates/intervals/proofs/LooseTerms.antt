@@ -5,9 +5,9 @@ use Rattle.std.proofs.lemmas.Bool.Decides.{nat_tests}
 use Rattle.inline.specs.declared.flat.FlatVariable.{FlatVariable}
 use Rattle.inline.specs.Fitting.{IsWithinKind, Fits}
 use Rattle.inline.specs.Flat.{TermTree, word_as, array_as}
-use Rattle.inline.specs.FlatMeaning.{Values, division}
+use Rattle.inline.specs.FlatMeaning.{Values, marks_of}
 use Rattle.inline.specs.FlatTyping.{Types, types_of, HasType, of_number, of_truth, of_variable, of_prefix, of_binary, of_rotation, of_conversion, of_selection, of_element, counter_type}
-use Rattle.inline.specs.Path.{Path, AreFine, divided, indexed}
+use Rattle.inline.specs.Path.{Path, AreFine, divided, indexed, multiplied}
 use Rattle.inline.proofs.Fitting.{bit_fits, element_fits, either_fits, number_fits, operated_fits, prefix_fits, wrapped_fits}
 use Rattle.intervals.specs.declared.interval.Interval.{Interval}
 use Rattle.intervals.specs.Intervals.{Bounds, known, full_at, full_of, interval}
@@ -16,7 +16,7 @@ use Rattle.intervals.specs.Ranges.{index_violations, term_violations}
 use Rattle.intervals.proofs.LooseIntervals.{IsIn, truth_in, word_in, kind_in, prefix_in, operated_in, converted_in, hull_in, word_of_kind}
 use Rattle.intervals.proofs.LooseTypes.{IsListed, one_type, joined_public}
 use Rattle.language.specs.ExprTyping.{operation_of}
-use Rattle.language.specs.Operators.{divides, operated, prefix_value, width_of}
+use Rattle.language.specs.Operators.{divides, multiplies, operated, prefix_value, width_of}
 use Rattle.language.specs.Types.{at, joined, when}
 use Rattle.language.specs.declared.rule.Rule.TheVariants.{DivisorMayBeZero, IndexOutOfRange}
 use Rattle.language.specs.declared.signature.Kind.{Kind}
@@ -30,11 +30,12 @@ use Rattle.language.specs.WellTyped as typing
 use Rattle.word.specs.Operators.{rotated_left}
 use Rattle.word.specs.Widths.{IsWord}
 use Rattle.word.specs.declared.place.Place.{Place}
+use Rattle.word.specs.declared.profile.Profile.{Profile}
 
 -- a variable keeps its value, which lies within this interval
 pub record IsKept (types : Types) (m : Values) (x : ℕ) (i : Interval) : Type 0 where
   pub word : WordType
-  pub typed : types x ≡ Some (word_as word false)
+  pub typed : types.at x ≡ Some (word_as word false)
   pub public : word.label ≡ Public
   pub within : IsIn i (slice_index (m x) 0)
 
@@ -53,9 +54,9 @@ pub fine_both : (turns : List ℕ) (p q : Path) → AreFine turns p → AreFine 
 fine_both turns [] q one other = other
 fine_both turns (mark ∷ p) q one other = (one.0, fine_both turns p q one.1 other)
 
-pub both_public : {o : _} {a b c : WordType} → Makes o a b c → c.label ≡ Public → (a.label ≡ Public) × (b.label ≡ Public)
+pub both_public : {profile : Profile} {o : _} {a b c : WordType} → Makes profile o a b c → c.label ≡ Public → (a.label ≡ Public) × (b.label ≡ Public)
 both_public (arithmetic {l = l} {m = m} p) h = joined_public l m h
-both_public (multiplication {l = l} {m = m} p) h = joined_public l m h
+both_public (multiplication {l = l} {m = m} p may) h = joined_public l m h
 both_public (typing.division p) h = (refl, refl)
 both_public (shift {l = l} {m = m} p) h = joined_public l m h
 both_public (equality {l = l} {m = m}) h = joined_public l m h
@@ -69,9 +70,9 @@ bit_word Uint8 v h = omega (arith, h)
 bit_word Uint16 v h = omega (arith, h)
 bit_word Uint32 v h = omega (arith, h)
 
-made_word : {o : _} {a b c : WordType} → Makes o a b c → (v : ℕ) → IsWithinKind c.kind v → IsWord (width_of a.kind) v
+made_word : {profile : Profile} {o : _} {a b c : WordType} → Makes profile o a b c → (v : ℕ) → IsWithinKind c.kind v → IsWord (width_of a.kind) v
 made_word (arithmetic {kind = kind} p) v h = word_of_kind kind v h
-made_word (multiplication {kind = kind} p) v h = word_of_kind kind v h
+made_word (multiplication {kind = kind} p may) v h = word_of_kind kind v h
 made_word (typing.division {kind = kind} p) v h = word_of_kind kind v h
 made_word (shift {kind = kind} p) v h = word_of_kind kind v h
 made_word (equality {kind = kind}) v h = bit_word kind v h
@@ -79,7 +80,7 @@ made_word (order {kind = kind} p) v h = bit_word kind v h
 made_word logic v h = bit_word Boolean v h
 
 -- a divisor is public
-divisor_public : (operator : BinaryOperator) → divides operator ≡ true → {a b c : WordType} → Makes (operation_of operator) a b c → b.label ≡ Public
+divisor_public : (operator : BinaryOperator) → divides operator ≡ true → {profile : Profile} {a b c : WordType} → Makes profile (operation_of operator) a b c → b.label ≡ Public
 divisor_public Divide is (typing.division p) = refl
 divisor_public Remainder is (typing.division p) = refl
 divisor_public Either is makes = absurd cc
@@ -103,10 +104,10 @@ pub secret_is_not : (a b : WordType) → a ≡ b → a.label ≡ Public → b.la
 secret_is_not a b same public secret = let labels = ap (λ (t : WordType). t.label) same in absurd cc
 
 module _ (declared : List FlatVariable) (types : Types) (bounds : Bounds) (m : Values) (holds : Holds declared types bounds m) where
-  pub element_of : (x i : ℕ) (d : FlatVariable) → types x ≡ Some d → IsWithinKind d.word.kind (slice_index (m x) i)
+  pub element_of : (x i : ℕ) (d : FlatVariable) → types.at x ≡ Some d → IsWithinKind d.word.kind (slice_index (m x) i)
   element_of x i d is = element_fits d.word.kind (m x) i (holds.fits x d is).within
 
-  pub loose_fits : {e : TermTree} {v : ℕ} {p : Path} {w : WordType} → Comes (types_of declared) m e v p → HasType types e w → IsWithinKind w.kind v
+  pub loose_fits : {profile : Profile} {e : TermTree} {v : ℕ} {p : Path} {w : WordType} → Comes (types_of profile declared) m e v p → HasType types e w → IsWithinKind w.kind v
   loose_fits to_number (of_number below) = below
   loose_fits (to_truth {value = value}) of_truth = bit_fits value
   loose_fits (to_variable {x = x}) (of_variable {word = word} {mutable = mutable} is) = element_of x 0 (word_as word mutable) is
@@ -123,15 +124,15 @@ module _ (declared : List FlatVariable) (types : Types) (bounds : Bounds) (m : V
       subst (λ (k : WordType). IsWithinKind k.kind v) (sym (one_type declared types holds.listed u t)) within
 
   -- a variable's kind, by the list of all
-  pub full_of_variable : (x v : ℕ) (d : FlatVariable) → types x ≡ Some d → IsWithinKind d.word.kind v → IsIn (full_at declared x) v
+  pub full_of_variable : (x v : ℕ) (d : FlatVariable) → types.at x ≡ Some d → IsWithinKind d.word.kind v → IsIn (full_at declared x) v
   full_of_variable x v d is within =
       subst (λ (o : Option FlatVariable). IsIn (unwrap_or (option_map (λ (e : FlatVariable). full_of e.word.kind) o) (full_of Uint32)) v) (sym (holds.listed x d is)) (kind_in d.word.kind v within)
 
-  variable_in : (x : ℕ) (d : FlatVariable) → types x ≡ Some d → (o : Option Interval) → known bounds x ≡ o → IsIn (unwrap_or o (full_at declared x)) (slice_index (m x) 0)
+  variable_in : (x : ℕ) (d : FlatVariable) → types.at x ≡ Some d → (o : Option Interval) → known bounds x ≡ o → IsIn (unwrap_or o (full_at declared x)) (slice_index (m x) 0)
   variable_in x d is (Some i) there = (holds.kept x i there).within
   variable_in x d is None there = full_of_variable x (slice_index (m x) 0) d is (element_of x 0 d is)
 
-  pub loose_in : {e : TermTree} {v : ℕ} {p : Path} {w : WordType} → Comes (types_of declared) m e v p → HasType types e w → w.label ≡ Public → IsIn (interval declared bounds e) v
+  pub loose_in : {profile : Profile} {e : TermTree} {v : ℕ} {p : Path} {w : WordType} → Comes (types_of profile declared) m e v p → HasType types e w → w.label ≡ Public → IsIn (interval declared bounds e) v
   loose_in to_number (of_number below) public = (omega arith, omega arith)
   loose_in (to_truth {value = value}) of_truth public = truth_in value
   loose_in (to_variable {x = x}) (of_variable {word = word} {mutable = mutable} is) public = variable_in x (word_as word mutable) is (known bounds x) refl
@@ -167,20 +168,21 @@ module _ (declared : List FlatVariable) (types : Types) (bounds : Bounds) (m : V
         by true e n = absurd cc
         by false e n = grind (arith, nat_tests, e)
 
-    division_fine : (place : Place) (operator : BinaryOperator) (a b : ℕ) → (divides operator ≡ true → 0 < b) → AreFine turns (division place operator a b)
-    division_fine place operator a b some = by (divides operator) refl
+    marks_fine : (place : Place) (operator : BinaryOperator) (a b : ℕ) → (divides operator ≡ true → 0 < b) → AreFine turns (marks_of place operator a b)
+    marks_fine place operator a b some = by (divides operator) refl (multiplies operator)
       where
-        by : (d : Bool) → divides operator ≡ d → AreFine turns (if d then divided place a b ∷ [] else [])
-        by true e = (some e, tt)
-        by false e = tt
+        by : (d : Bool) → divides operator ≡ d → (m : Bool) → AreFine turns (if d then divided place a b ∷ [] else (if m then multiplied a b ∷ [] else []))
+        by true e m = (some e, tt)
+        by false e true = (tt, tt)
+        by false e false = tt
 
-    pub loose_below : (place : Place) (size : ℕ) {e : TermTree} {i : ℕ} {p : Path} → Comes (types_of declared) m e i p → HasType types e counter_type
+    pub loose_below : (place : Place) (size : ℕ) {profile : Profile} {e : TermTree} {i : ℕ} {p : Path} → Comes (types_of profile declared) m e i p → HasType types e counter_type
         → index_violations place size (interval declared bounds e) ≡ [] → i < size
     loose_below place size {e = e} c t none =
         let inside = loose_in c t refl in
         let high = index_below size (interval declared bounds e).high place none in omega (arith, inside, high)
 
-    pub loose_fine : {e : TermTree} {v : ℕ} {p : Path} {w : WordType} → Comes (types_of declared) m e v p → HasType types e w → term_violations declared bounds e ≡ [] → AreFine turns p
+    pub loose_fine : {profile : Profile} {e : TermTree} {v : ℕ} {p : Path} {w : WordType} → Comes (types_of profile declared) m e v p → HasType types e w → term_violations declared bounds e ≡ [] → AreFine turns p
     loose_fine to_number t none = tt
     loose_fine to_truth t none = tt
     loose_fine to_variable t none = tt
@@ -188,8 +190,8 @@ module _ (declared : List FlatVariable) (types : Types) (bounds : Bounds) (m : V
     loose_fine (to_binary {place = place} {operator = operator} {left = left} {right = right} {a = a} {b = b} {p = p} {q = q} c d) (of_binary t u makes width) none =
         let parts = none_in (term_violations declared bounds left ++ term_violations declared bounds right) _ none in
         let operands = none_in (term_violations declared bounds left) (term_violations declared bounds right) parts.0 in
-        fine_both turns (p ++ q) (division place operator a b) (fine_both turns p q (loose_fine c t operands.0) (loose_fine d u operands.1))
-        (division_fine place operator a b (λ divide.
+        fine_both turns (p ++ q) (marks_of place operator a b) (fine_both turns p q (loose_fine c t operands.0) (loose_fine d u operands.1))
+        (marks_fine place operator a b (λ divide.
         let some = divisor_some operator (interval declared bounds right).low place divide parts.1 in
         let inside = loose_in d u (divisor_public operator divide makes) in
         omega (arith, some, inside)))

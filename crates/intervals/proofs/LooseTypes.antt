@@ -1,5 +1,5 @@
--- An expression has one type.
-use Rattle.std.proofs.Common.{◌≡◌, ℕ, List, Some, refl, sym, ap, ap₂, ◌∙◌}
+-- An expression has one type, whoever the observer is.
+use Rattle.std.proofs.Common.{◌≡◌, ℕ, List, Some, slice_get, refl, sym, ap, ap₂, ◌∙◌}
 use Rattle.std.proofs.lemmas.Option.{same_Some}
 use Rattle.inline.specs.declared.flat.FlatVariable.{FlatVariable}
 use Rattle.inline.specs.Flat.{TermTree, word_as, array_as}
@@ -11,11 +11,12 @@ use Rattle.language.specs.declared.typing.Operation.{Operation}
 use Rattle.language.specs.declared.typing.WordType.{WordType}
 use Rattle.language.specs.WellTyped.{labelled, Makes, arithmetic, multiplication, division, shift, equality, order, logic}
 use Rattle.language.specs.declared.signature.Kind.TheVariants.{Boolean}
+use Rattle.word.specs.declared.profile.Profile.{Profile}
 
 -- what is made of two words of the same types is of one type
-one_made : {operation : Operation} {a b c d e f : WordType} → Makes operation a b c → Makes operation d e f → a ≡ d → b ≡ e → c ≡ f
+one_made : {one other : Profile} {operation : Operation} {a b c d e f : WordType} → Makes one operation a b c → Makes other operation d e f → a ≡ d → b ≡ e → c ≡ f
 one_made (arithmetic p) (arithmetic q) s t = ap₂ (λ (x y : WordType). labelled x.kind (joined x.label y.label)) s t
-one_made (multiplication p) (multiplication q) s t = ap₂ (λ (x y : WordType). labelled x.kind (joined x.label y.label)) s t
+one_made (multiplication p may) (multiplication q might) s t = ap₂ (λ (x y : WordType). labelled x.kind (joined x.label y.label)) s t
 one_made (division p) (division q) s t = s
 one_made (shift p) (shift q) s t = ap₂ (λ (x y : WordType). labelled x.kind (joined x.label y.label)) s t
 one_made equality equality s t = ap₂ (λ (x y : WordType). labelled Boolean (joined x.label y.label)) s t
@@ -24,10 +25,10 @@ one_made logic logic s t = ap₂ (λ (x y : WordType). labelled Boolean (joined 
 
 -- all that is in scope is listed
 abbrev pub IsListed : List FlatVariable → Types → Type 0
-IsListed declared types = (x : ℕ) (d : FlatVariable) → types x ≡ Some d → types_of declared x ≡ Some d
+IsListed declared types = (x : ℕ) (d : FlatVariable) → types.at x ≡ Some d → slice_get declared x ≡ Some d
 
 module _ (declared : List FlatVariable) (types : Types) (listed : IsListed declared types) where
-  pub one_type : {e : TermTree} {a b : WordType} → HasType types e a → HasType (types_of declared) e b → a ≡ b
+  pub one_type : {profile : Profile} {e : TermTree} {a b : WordType} → HasType types e a → HasType (types_of profile declared) e b → a ≡ b
   one_type (of_number p) (of_number q) = refl
   one_type of_truth of_truth = refl
   one_type (of_variable {x = x} {word = word} {mutable = mutable} p) (of_variable {word = word'} {mutable = mutable'} q) =

@@ -9,7 +9,7 @@ use Rattle.inline.specs.Fitting.{Fits}
 use Rattle.inline.specs.Flat.{FlatProgram, TermTree, declaration_of, elements_by}
 use Rattle.inline.specs.FlatMeaning.{Values, ending_by, ending_of, given, outcome_of, path_of}
 use Rattle.inline.specs.FlatTyping.{Types, types_of, IsResult, IsTypedProgram, end_types, parameter_types}
-use Rattle.inline.specs.Path.{Mark, decided, bounded, indexed, divided, Path, fault_at, either, first_fault, IsFine, AreFine}
+use Rattle.inline.specs.Path.{Mark, decided, bounded, indexed, divided, multiplied, Path, fault_at, either, first_fault, IsFine, AreFine}
 use Rattle.inline.proofs.Fitting.{element_fits}
 use Rattle.inline.proofs.FittingBodies.{parameters_fit}
 use Rattle.intervals.specs.declared.interval.Interval.{Interval}
@@ -31,6 +31,7 @@ use Rattle.language.specs.declared.signature.Label.TheVariants.{Public, Secret}
 use Rattle.language.specs.declared.signature.Param.{Param}
 use Rattle.language.specs.declared.typing.WordType.{WordType}
 use Rattle.language.specs.declared.values.Arg.{Arg}
+use Rattle.word.specs.declared.profile.Profile.{Profile}
 
 below : (a b : ℕ) → a < b → nat_lt a b ≡ true
 below a b h = grind (arith, nat_tests)
@@ -43,6 +44,7 @@ no_fault_at turns (decided value) fine = refl
 no_fault_at turns (bounded x low high) fine = refl
 no_fault_at turns (indexed place size index) fine = rw (below index size fine) refl
 no_fault_at turns (divided place left right) fine = rw (some right fine) refl
+no_fault_at turns (multiplied left right) fine = refl
 
 no_fault : (turns : List ℕ) (path : Path) → AreFine turns path → first_fault path ≡ None
 no_fault turns [] fine = refl
@@ -86,7 +88,7 @@ module _ (p : FlatProgram) (typed : IsTypedProgram p) (args : List Arg) (within 
   m = given p.declared args
 
   abbrev begun : Types
-  begun = parameter_types p.parameters
+  begun = parameter_types p.profile p.parameters
 
   fits : Fits begun m
   fits = parameters_fit p args typed within
@@ -97,7 +99,7 @@ module _ (p : FlatProgram) (typed : IsTypedProgram p) (args : List Arg) (within 
       let q = found.0 in
       let parts = bound_parts q.form q.label q.kind q.length i found.2 in
       let word : WordType = record { kind = q.kind; label = q.label } in
-      let there : begun x ≡ Some (declaration_of q) = slice_get-map declaration_of p.parameters x ∙ ap (option_map declaration_of) found.1 in
+      let there : begun.at x ≡ Some (declaration_of q) = slice_get-map declaration_of p.parameters x ∙ ap (option_map declaration_of) found.1 in
       record {
         word = word;
         typed = there ∙ ap₂ (λ (b : Bool) (o : Option ℕ). Some (record { word = word; mutable = b; elements = o })) parts.0 parts.1;
@@ -115,7 +117,7 @@ module _ (p : FlatProgram) (typed : IsTypedProgram p) (args : List Arg) (within 
 -- The result.
 
 result_fine : (declared : List FlatVariable) (turns : List ℕ) (types : Types) (bounds : Bounds) (m : Values) → Holds declared types bounds m
-    → {value : Option TermTree} {path : Path} → Returns (types_of declared) m value path → (returned : Option WordType) → IsResult types returned value → result_violations declared bounds value ≡ [] → AreFine turns path
+    → {profile : Profile} {value : Option TermTree} {path : Path} → Returns (types_of profile declared) m value path → (returned : Option WordType) → IsResult types returned value → result_violations declared bounds value ≡ [] → AreFine turns path
 result_fine declared turns types bounds m holds nothing_returned word suits none = tt
 result_fine declared turns types bounds m holds (returned c) None suits none = absurd suits
 result_fine declared turns types bounds m holds (returned c) (Some word) suits none = loose_fine declared types bounds m holds turns c suits.has_type none
@@ -127,12 +129,12 @@ empty (x ∷ xs) h = absurd (omega (arith, h))
 -- a well-typed program without violations is safe, with the turns that are counted for it
 pub accepted_is_safe : (p : FlatProgram) → IsTypedProgram p → length (range_violations p) ≡ 0 → IsSafe p (turns_of p)
 accepted_is_safe p typed in_range args path within run =
-    let types = parameter_types p.parameters in
+    let types = parameter_types p.profile p.parameters in
     let turns = turns_of p in
     let start = begins p typed args within in
     let last = bounds_after_all p.declared (first_bounds p) p.body in
     let parts = none_in (violations_all p.declared (first_bounds p) p.body) (result_violations p.declared last p.value) (empty (range_violations p) in_range) in
     let counted = enough_all p.declared turns p.body types Public (length p.parameters) (first_bounds p) (replicate (length p.declared) 0) typed.body typed.numbered (length-replicate (length p.declared) 0) (λ y low high. refl) in
-    let done = all_done p.declared turns {types = types} {bounds = first_bounds p} Public run.body typed.body start parts.0 counted in
+    let done = all_done p.declared turns p.profile {types = types} {bounds = first_bounds p} Public run.body typed.body start parts.0 counted in
     let back = result_fine p.declared turns (end_types p) last run.end done.holds run.result p.returned typed.result parts.1 in
     subst (AreFine turns) (sym run.whole) (fine_both turns run.front run.back done.fine back)

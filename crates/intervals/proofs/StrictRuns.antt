@@ -61,7 +61,7 @@ module _ (types : Types) where
 
 pub strict_is_loose : (p : FlatProgram) (args : List Arg) → IsLooseRun p args (path_of p args)
 strict_is_loose p args =
-    let types = types_of p.declared in
+    let types = types_of p.profile p.declared in
     record {
       end = end_of p args;
       front = path_along (given p.declared args) p.body;

@@ -4,7 +4,7 @@ use Rattle.std.specs.Prelude.{◌≡◌, ℕ, zero, suc, ◌+◌, ◌-◌, ◌==
 use Rattle.arguments.specs.Within.{AreWithin}
 use Rattle.inline.specs.Fitting.{IsWithinKind}
 use Rattle.inline.specs.Flat.{TermTree, number, truth, variable, prefix, binary, rotate, convert, select, element, FlatTree, declare, array, assign, put, hold, skip, branch, loop, FlatBlock, nothing, first, FlatProgram}
-use Rattle.inline.specs.FlatMeaning.{Values, with_value, division, given}
+use Rattle.inline.specs.FlatMeaning.{Values, with_value, marks_of, given}
 use Rattle.inline.specs.FlatTyping.{Types, types_of, HasType}
 use Rattle.inline.specs.Path.{Path, bounded, indexed, AreFine}
 use Rattle.language.specs.Operators.{operated, prefix_value, width_of}
@@ -30,7 +30,7 @@ pub data Comes (types : Types) (m : Values) : TermTree → ℕ → Path → Type
   to_binary : {place : Place} {operator : BinaryOperator} {width : Width} {left right : TermTree} {a b : ℕ} {p q : Path}
       → Comes types m left a p
       → Comes types m right b q
-      → Comes types m (binary place operator width left right) (operated operator width a b) (p ++ q ++ division place operator a b)
+      → Comes types m (binary place operator width left right) (operated operator width a b) (p ++ q ++ marks_of place operator a b)
   to_rotation : {width : Width} {operand : TermTree} {amount a : ℕ} {path : Path}
       → Comes types m operand a path
       → Comes types m (rotate width operand amount) (rotated_left width a amount) path
@@ -122,8 +122,8 @@ pub record IsLooseRun (p : FlatProgram) (args : List Arg) (path : Path) : Type 0
   pub end : Values
   pub front : Path
   pub back : Path
-  pub body : LeadAll (types_of p.declared) (given p.declared args) p.body end front
-  pub result : Returns (types_of p.declared) end p.value back
+  pub body : LeadAll (types_of p.profile p.declared) (given p.declared args) p.body end front
+  pub result : Returns (types_of p.profile p.declared) end p.value back
   pub whole : path ≡ front ++ back
 
 -- no loose run on arguments within the parameter types meets a fault, or makes more turns in a loop than these

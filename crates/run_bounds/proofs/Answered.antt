@@ -25,6 +25,7 @@ use Rattle.source_eval.specs.Answer.{ending_answer, run_answer}
 use Rattle.source_eval.specs.declared.fault.EvalFault.TheVariants.{Budget}
 use Rattle.source_eval.proofs.Opening.{program_opens}
 use Rattle.source_eval.proofs.WorkedOut.{worked-out}
+use Rattle.word.specs.declared.profile.Profile.{Profile}
 use Rattle.run_bounds.proofs.Programs.{program_spends}
 
 not_above : (a b : ℕ) → b ≤ a → nat_lt a b ≡ false
@@ -35,16 +36,16 @@ within_budget : (r : Run Results) (budget : ℕ) (outcome : Results) → r.nodes
 within_budget r budget outcome few shallow is =
     ap₂ (λ (a b : Bool). if a || b then Err Budget else ending_answer r.ends) (not_above budget r.nodes few) (not_above 64 r.bodies shallow) ∙ ap ending_answer is
 
-pub answered : (program : ProgramTree) (before : List ProcedureTree) (p : ProcedureTree) (args : List Arg) (budget : ℕ) → length (violations program) ≡ 0 → exported [] program.procedures ≡ Some (before, p)
-    → AllByRecursion IsGrammatical before → IsGrammatical p → IsTypedProgram (flattened before p)
-    → bodies_of (extents_of before) p ≤ MOST_BODIES → length (range_violations (flattened before p)) ≡ 0 → work_of (flattened before p) ≤ MOST_WORK
+pub answered : (profile : Profile) (program : ProgramTree) (before : List ProcedureTree) (p : ProcedureTree) (args : List Arg) (budget : ℕ) → length (violations profile program) ≡ 0 → exported [] program.procedures ≡ Some (before, p)
+    → AllByRecursion IsGrammatical before → IsGrammatical p → IsTypedProgram (flattened profile before p)
+    → bodies_of (extents_of before) p ≤ MOST_BODIES → length (range_violations (flattened profile before p)) ≡ 0 → work_of (flattened profile before p) ≤ MOST_WORK
     → AreWithin (map param_of p.parameters) args → MOST_WORK ≤ budget
-    → run_answer (program_run program args) budget ≡ Ok (outcome_of (flattened before p) args)
-answered program before p args budget h is grammatical plain typed shallow in_range worked within enough =
-    let flat = flattened before p in
+    → run_answer (program_run program args) budget ≡ Ok (outcome_of (flattened profile before p) args)
+answered profile program before p args budget h is grammatical plain typed shallow in_range worked within enough =
+    let flat = flattened profile before p in
     let safe = accepted_is_safe flat typed in_range in
-    let spent = program_spends program before p args h is grammatical plain within in
+    let spent = program_spends profile program before p args h is grammatical plain within in
     let few = safe_runs_are_within_work flat (turns_of flat) args safe within in
     let opened = program_opens program args before p is in
-    let meant = subst (Gives program args) (safe_runs_meet_no_fault flat (turns_of flat) args safe within) (flat_keeps_meaning program before p args h is grammatical plain within) in
+    let meant = subst (Gives program args) (safe_runs_meet_no_fault flat (turns_of flat) args safe within) (flat_keeps_meaning profile program before p args h is grammatical plain within) in
     within_budget (program_run program args) budget (outcome_of flat args) (omega (arith, spent, few, worked, enough)) (omega (arith, opened, shallow)) (worked-out program args (gives (outcome_of flat args)) meant)

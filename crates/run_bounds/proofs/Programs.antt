@@ -19,6 +19,7 @@ use Rattle.language.specs.Tree.{ProcedureTree, ProgramTree}
 use Rattle.language.specs.Types.{Scope}
 use Rattle.language.specs.Typing.{violations, with_procedure}
 use Rattle.language.specs.WellTyped as rules
+use Rattle.word.specs.declared.profile.Profile.{Profile}
 use Rattle.run_bounds.proofs.Counts.{then_within, inside_within, return_spends}
 use Rattle.run_bounds.proofs.Spending.{Spends, HasBound, block_spends}
 
@@ -31,10 +32,10 @@ module _ (before : List ProcedureTree) (scope : Scope) (p : ProcedureTree) (stan
     new = stand.new;
     callable = λ text c q is there.
         let known = stand.callable text c q is there in
-        record { before = known.before; at = known.at; is = known.is; quiet = known.quiet; good = known.good.behaves };
+        record { before = known.before; at = known.at; observed = known.observed; is = known.is; quiet = known.quiet; good = known.good.behaves };
   }
 
-  abbrev body_spends : Spends before p
+  abbrev body_spends : Spends scope.profile before p
   body_spends = record {
     behaves = behaves before scope p meant typed plain;
     spends = λ names types n s m linked shows.
@@ -47,10 +48,10 @@ module _ (before : List ProcedureTree) (scope : Scope) (p : ProcedureTree) (stan
   }
 
 -- The program.
-export_spends : (program : ProgramTree) (before : List ProcedureTree) (p : ProcedureTree) (args : List Arg) → length (violations program) ≡ 0 → exported [] program.procedures ≡ Some (before, p)
-    → AllByRecursion IsGrammatical before → IsGrammatical p → AreWithin (map param_of p.parameters) args → (export_run before p args).nodes ≤ evaluated_by (flattened before p) args
-export_spends program before p args h is grammatical plain within =
-    let e = own_typing HasBound IsGrammatical body_spends program before p h is grammatical in
+export_spends : (profile : Profile) (program : ProgramTree) (before : List ProcedureTree) (p : ProcedureTree) (args : List Arg) → length (violations profile program) ≡ 0 → exported [] program.procedures ≡ Some (before, p)
+    → AllByRecursion IsGrammatical before → IsGrammatical p → AreWithin (map param_of p.parameters) args → (export_run before p args).nodes ≤ evaluated_by (flattened profile before p) args
+export_spends profile program before p args h is grammatical plain within =
+    let e = own_typing HasBound IsGrammatical body_spends profile program before p h is grammatical in
     let known = callables before in
     let scope = with_procedure e.scope (length before) p in
     let variables = variables_within HasBound before e.scope e.stand p e.typed.is_new in
@@ -58,12 +59,12 @@ export_spends program before p args h is grammatical plain within =
     let names = parameter_names p in
     let start = holding p.parameters args in
     let from = given (all_own p.parameters ++ declared_in_all known p.body) args in
-    let linked = linked_parameters scope variables p.parameters e.typed.parameters in
-    let spent = (body_spends before e.scope p e.stand e.typed plain).spends names (parameter_types (map param_of p.parameters)) n start from linked (shows_arguments p.parameters (declared_in_all known p.body) args within) in
-    then_within (inside (body_run (runnables before) p start)) _ (evaluated_by (flattened before p) args) 0 _
-    (inside_within (body_run (runnables before) p start) (evaluated_by (flattened before p) args) spent) (λ r is'. omega arith) (omega arith)
+    let linked = linked_parameters profile scope e.observed variables p.parameters e.typed.parameters in
+    let spent = (body_spends before e.scope p e.stand e.typed plain).spends names (parameter_types profile (map param_of p.parameters)) n start from linked (shows_arguments p.parameters (declared_in_all known p.body) args within) in
+    then_within (inside (body_run (runnables before) p start)) _ (evaluated_by (flattened profile before p) args) 0 _
+    (inside_within (body_run (runnables before) p start) (evaluated_by (flattened profile before p) args) spent) (λ r is'. omega arith) (omega arith)
 
-pub program_spends : (program : ProgramTree) (before : List ProcedureTree) (p : ProcedureTree) (args : List Arg) → length (violations program) ≡ 0 → exported [] program.procedures ≡ Some (before, p)
-    → AllByRecursion IsGrammatical before → IsGrammatical p → AreWithin (map param_of p.parameters) args → (program_run program args).nodes ≤ evaluated_by (flattened before p) args
-program_spends program before p args h is grammatical plain within =
-    subst (λ (found : Option (List ProcedureTree × ProcedureTree)). (found_run found args).nodes ≤ evaluated_by (flattened before p) args) (sym is) (export_spends program before p args h is grammatical plain within)
+pub program_spends : (profile : Profile) (program : ProgramTree) (before : List ProcedureTree) (p : ProcedureTree) (args : List Arg) → length (violations profile program) ≡ 0 → exported [] program.procedures ≡ Some (before, p)
+    → AllByRecursion IsGrammatical before → IsGrammatical p → AreWithin (map param_of p.parameters) args → (program_run program args).nodes ≤ evaluated_by (flattened profile before p) args
+program_spends profile program before p args h is grammatical plain within =
+    subst (λ (found : Option (List ProcedureTree × ProcedureTree)). (found_run found args).nodes ≤ evaluated_by (flattened profile before p) args) (sym is) (export_spends profile program before p args h is grammatical plain within)

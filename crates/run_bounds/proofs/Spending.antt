@@ -1,5 +1,5 @@
 -- A well-typed statement evaluates no more nodes than are counted for what it becomes.
-use Rattle.std.proofs.Common.{◌≡◌, ℕ, zero, suc, ◌+◌, ◌-◌, ◌≤◌, ◌==◌, Bool, true, false, not, if◌then◌else◌, List, [], ◌∷◌, length, Option, Some, None, refl, sym, ap, subst, arith}
+use Rattle.std.proofs.Common.{◌≡◌, ℕ, zero, suc, ◌+◌, ◌-◌, ◌≤◌, ◌==◌, Bool, true, false, not, if◌then◌else◌, List, [], ◌∷◌, length, Option, Some, None, refl, sym, ap, ◌∙◌, subst, arith}
 use Rattle.inline.specs.declared.numbering.Numbered.{Numbered}
 use Rattle.inline.specs.Flat.{chain, word_as}
 use Rattle.inline.specs.Flat as flat_tree
@@ -40,6 +40,7 @@ use Rattle.language.specs.WellTyped as rules
 use Rattle.names.specs.Scope.{found}
 use Rattle.language.proofs.KnownLemmas.{known-named}
 use Rattle.source_eval.proofs.WorkedOut.{value-worked, passed-worked, statement-worked, block-worked}
+use Rattle.word.specs.declared.profile.Profile.{Profile}
 use Rattle.run_bounds.proofs.Counts.{then_within, tick_within, inside_within, reached, value_spends, values_spend, passed_spends, given_nodes, evaluated_chain, passed_evaluated}
 
 -- Procedures that may be called.
@@ -51,13 +52,13 @@ BodySpends before p names n s m =
     ≤ evaluated_all m (block (callables before) names n p.body) + value_nodes (value_of (names_after_all (callables before) names n p.body) p.returned)
 
 -- wherever its names go together with numbers
-pub record Spends (before : List ProcedureTree) (p : ProcedureTree) : Type 0 where
-  pub behaves : Behaves before p
+pub record Spends (profile : Profile) (before : List ProcedureTree) (p : ProcedureTree) : Type 0 where
+  pub behaves : Behaves profile before p
   pub spends : (names : Numbers) (types : Types) (n : ℕ) (s : State) (m : Values) → Linked (with_parameters behaves.scope p.parameters) names types n → Shows names s m → BodySpends before p names n s m
 
 -- the statement that each procedure meets, in the scope of those before it
 abbrev pub HasBound : List ProcedureTree → Scope → ProcedureTree → Type 0
-HasBound before scope p = Spends before p
+HasBound before scope p = Spends scope.profile before p
 
 abbrev pub CallsSpend : List ProcedureTree → Scope → Type 0
 CallsSpend earlier scope = EachCallable earlier (IsCallable HasBound earlier) scope
@@ -87,7 +88,7 @@ dropped_evaluated k (Some word) value m none = omega (arith, given_nodes value)
 module _ (ps : List ProcedureTree) where
   module _ (scope : Scope) (names : Numbers) (n : ℕ) (ready : Ready ps scope names n) where
     -- a call
-    module _ (c : CallTree) (callee : Callee) (p : ProcedureTree) (counted : IsCallable HasBound ps c.name callee p) (passed_are : rules.ArePassed scope p.parameters c.arguments) where
+    module _ (c : CallTree) (callee : Callee) (p : ProcedureTree) (counted : IsCallable HasBound ps scope.profile c.name callee p) (passed_are : rules.ArePassed scope p.parameters c.arguments) where
       abbrev own : Numbers
       own = begun_names names [] n p.parameters c.arguments
 
@@ -100,7 +101,7 @@ module _ (ps : List ProcedureTree) where
       entered : Enters counted.good.behaves.scope names p.parameters c.arguments own own_types start
       entered =
           enters scope names passed_are counted.good.behaves.scope [] ready.types n counted.good.behaves.parameters ready.linked
-          (no_names counted.good.behaves.scope counted.good.behaves.procedures ready.types n ready.linked.fresh) (distinct_none names p.parameters c.arguments)
+          (no_names counted.good.behaves.scope counted.good.behaves.procedures ready.types n (ready.linked.observed ∙ sym (counted.good.behaves.observed ∙ counted.observed)) ready.linked.fresh) (distinct_none names p.parameters c.arguments)
 
       abbrev CallSpends : Option Runnable → Option Callable → State → Values → Type 0
       CallSpends known there s m = (call_run known s c).nodes ≤ 1 + evaluated_all m (call_block there names n c.arguments) + value_nodes (call_value there names n c.arguments)

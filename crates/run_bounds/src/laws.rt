@@ -19,21 +19,22 @@ ghost use Rattle.language.specs.Size.{bodies_of, extents_of};
 ghost use Rattle.language.specs.Tree.{ProcedureTree, ProgramTree};
 ghost use Rattle.language.specs.Typing.{violations};
 ghost use Rattle.source_eval.specs.Answer.{run_answer};
+ghost use Rattle.word.specs.declared.profile.Profile.{Profile};
 
 /// A run of a program that violates no rule evaluates no more nodes than are counted for a run of the one body that it
 /// becomes.
 pub fn runs_evaluate_what_is_counted()
-    ensures { (program : ProgramTree) (before : List ProcedureTree) (p : ProcedureTree) (args : List Arg) → length (violations program) ≡ 0
+    ensures { (profile : Profile) (program : ProgramTree) (before : List ProcedureTree) (p : ProcedureTree) (args : List Arg) → length (violations profile program) ≡ 0
         → exported [] program.procedures ≡ Some (before, p) → AllByRecursion IsGrammatical before → IsGrammatical p → AreWithin (map param_of p.parameters) args
-        → (program_run program args).nodes ≤ evaluated_by (flattened before p) args }
+        → (program_run program args).nodes ≤ evaluated_by (flattened profile before p) args }
 {}
 
 /// A program that all passes accept is answered by its outcome, with any budget that the most work fits: it meets no fault,
 /// and it uses no budget up.
 pub fn accepted_programs_are_answered()
-    ensures { (program : ProgramTree) (before : List ProcedureTree) (p : ProcedureTree) (args : List Arg) (budget : ℕ) → length (violations program) ≡ 0
-        → exported [] program.procedures ≡ Some (before, p) → AllByRecursion IsGrammatical before → IsGrammatical p → IsTypedProgram (flattened before p)
-        → bodies_of (extents_of before) p ≤ MOST_BODIES → length (range_violations (flattened before p)) ≡ 0 → work_of (flattened before p) ≤ MOST_WORK
+    ensures { (profile : Profile) (program : ProgramTree) (before : List ProcedureTree) (p : ProcedureTree) (args : List Arg) (budget : ℕ) → length (violations profile program) ≡ 0
+        → exported [] program.procedures ≡ Some (before, p) → AllByRecursion IsGrammatical before → IsGrammatical p → IsTypedProgram (flattened profile before p)
+        → bodies_of (extents_of before) p ≤ MOST_BODIES → length (range_violations (flattened profile before p)) ≡ 0 → work_of (flattened profile before p) ≤ MOST_WORK
         → AreWithin (map param_of p.parameters) args → MOST_WORK ≤ budget
-        → run_answer (program_run program args) budget ≡ Ok (outcome_of (flattened before p) args) }
+        → run_answer (program_run program args) budget ≡ Ok (outcome_of (flattened profile before p) args) }
 {}
