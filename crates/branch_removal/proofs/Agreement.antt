@@ -18,21 +18,21 @@ abbrev pub what_is_public : Sees
 what_is_public d = d.word.label ≡ Public
 
 abbrev pub Agree : Sees → Types → Values → Values → Type 0
-Agree sees types m n = (y : ℕ) (d : FlatVariable) → types y ≡ Some d → sees d → m y ≡ n y
+Agree sees types m n = (y : ℕ) (d : FlatVariable) → types.at y ≡ Some d → sees d → m y ≡ n y
 
 module _ (sees : Sees) (types : Types) (m n : Values) (x : ℕ) (v w : List ℕ) (new : FlatVariable) (equal : sees new → v ≡ w) (agree : Agree sees types m n) where
   -- the same is put into a variable that is in scope
-  pub set_in_both : types x ≡ Some new → Agree sees types (with_value m x v) (with_value n x w)
+  pub set_in_both : types.at x ≡ Some new → Agree sees types (with_value m x v) (with_value n x w)
   set_in_both there y d known seen = by_number (y == x) refl
     where
       by_number : (b : Bool) → (y == x) ≡ b → cond b v (m y) ≡ cond b w (n y)
-      by_number true is = equal (subst sees (same_Some d new (sym known ∙ (ap types (eqb-true y x is) ∙ there))) seen)
+      by_number true is = equal (subst sees (same_Some d new (sym known ∙ (ap types.at (eqb-true y x is) ∙ there))) seen)
       by_number false is = agree y d known seen
 
   -- the same is the first value of a variable
   pub declared_in_both : Agree sees (with_type types x new) (with_value m x v) (with_value n x w)
   declared_in_both y d known seen = by_number (y == x) known
     where
-      by_number : (b : Bool) → cond b (Some new) (types y) ≡ Some d → cond b v (m y) ≡ cond b w (n y)
+      by_number : (b : Bool) → cond b (Some new) (types.at y) ≡ Some d → cond b v (m y) ≡ cond b w (n y)
       by_number true is = equal (subst sees (sym (same_Some new d is)) seen)
       by_number false is = agree y d is seen

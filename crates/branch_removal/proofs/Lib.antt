@@ -1,5 +1,6 @@
 pub mod Scopes
 pub mod Agreement
+pub mod SeenLemmas
 pub mod Values
 pub mod Runs
 pub mod Unchanged

@@ -10,6 +10,7 @@ use Rattle.language.specs.WellTyped.{labelled}
 use Rattle.language.specs.declared.signature.Kind.TheVariants.{Boolean}
 use Rattle.language.specs.declared.signature.Label.{Label}
 use Rattle.language.specs.declared.signature.Label.TheVariants.{Public, Secret}
+use Rattle.word.specs.declared.profile.Profile.{Profile}
 use Rattle.branch_removal.specs.private.Removal.{take_within, removed, removed_all}
 use Rattle.branch_removal.specs.Straight.{take, StraightBlock}
 use Rattle.branch_removal.specs.Straight as straight
@@ -26,9 +27,9 @@ use Rattle.branch_removal.proofs.Values.{public_value, public_suited, public_all
 abbrev pub holding : Values → StraightState
 holding m = record { variables = m; controls = λ c. false }
 
-module _ (declared : List FlatVariable) where
+module _ (profile : Profile) (declared : List FlatVariable) where
   -- an expression comes to its value
-  pub comes : (m : Values) (e : TermTree) → Comes (types_of declared) m e (value_in m e) (path_in m e)
+  pub comes : (m : Values) (e : TermTree) → Comes (types_of profile declared) m e (value_in m e) (path_in m e)
   comes m (number value kind) = to_number
   comes m (truth value) = to_truth
   comes m (variable x) = to_variable
@@ -39,11 +40,11 @@ module _ (declared : List FlatVariable) where
   comes m (select condition accepted otherwise) = to_selection (comes m condition) (comes m accepted) (comes m otherwise)
   comes m (element place x size index) = to_element (comes m index)
 
-  pub come_all : (m : Values) (es : List TermTree) → ComeAll (types_of declared) m es (map (value_in m) es) (path_in_all m es)
+  pub come_all : (m : Values) (es : List TermTree) → ComeAll (types_of profile declared) m es (map (value_in m) es) (path_in_all m es)
   come_all m [] = none_left
   come_all m (e ∷ es) = one_more (comes m e) (come_all m es)
 
-  pub returns : (m : Values) (value : Option TermTree) → Returns (types_of declared) m value (path_of_result m value)
+  pub returns : (m : Values) (value : Option TermTree) → Returns (types_of profile declared) m value (path_of_result m value)
   returns m None = nothing_returned
   returns m (Some value) = returned (comes m value)
 
@@ -51,19 +52,19 @@ module _ (declared : List FlatVariable) where
   pub record Followed (types : Types) (s : StraightState) (m : Values) (statement : FlatTree) : Type 0 where
     pub end : Values
     pub path : Path
-    pub leads : Leads (types_of declared) m statement end path
+    pub leads : Leads (types_of profile declared) m statement end path
     pub agree : Agree what_is_public types s.variables end
 
   pub record FollowedAll (types : Types) (s : StraightState) (m : Values) (body : FlatBlock) : Type 0 where
     pub end : Values
     pub path : Path
-    pub leads : LeadAll (types_of declared) m body end path
+    pub leads : LeadAll (types_of profile declared) m body end path
     pub agree : Agree what_is_public types s.variables end
 
   pub record FollowedTurns (types : Types) (s : StraightState) (m : Values) (x : ℕ) (body : FlatBlock) (n i : ℕ) : Type 0 where
     pub end : Values
     pub path : Path
-    pub leads : Turns (types_of declared) x body n i m end path
+    pub leads : Turns (types_of profile declared) x body n i m end path
     pub agree : Agree what_is_public types s.variables end
 
   -- where each turn has a loose run beside it, so have all turns
@@ -78,7 +79,7 @@ module _ (declared : List FlatVariable) where
       record { end = more.end; path = one.path ++ more.path; leads = a_turn one.leads more.leads; agree = more.agree }
 
   -- a secret that is set or kept in the straight run, and set in the loose one
-  set_beside : (types : Types) (label : Label) (c x : ℕ) (v w : List ℕ) (new : FlatVariable) → types x ≡ Some new → (label ≡ Secret → new.word.label ≡ Secret)
+  set_beside : (types : Types) (label : Label) (c x : ℕ) (v w : List ℕ) (new : FlatVariable) → types.at x ≡ Some new → (label ≡ Secret → new.word.label ≡ Secret)
       → label ≡ Secret → (s : StraightState) (m : Values) → Agree what_is_public types s.variables m
       → Agree what_is_public types (cond (s.controls c) (with_variable s x v) s).variables (with_value m x w)
   set_beside types label c x v w new known secret under s m agree y d there public =
@@ -87,19 +88,19 @@ module _ (declared : List FlatVariable) where
       ∙ sym (set_quietly what_is_public types label None 0 (holding m) x w new known secret (hidden under (λ e p. p)) y d there public))
 
   -- a condition on a secret may be true, or false
-  pub either_way : (types : Types) → AreAmong types (types_of declared) → (m : Values) (condition : TermTree) (accepted otherwise : FlatBlock)
+  pub either_way : (types : Types) → AreAmong types (types_of profile declared) → (m : Values) (condition : TermTree) (accepted otherwise : FlatBlock)
       → HasType types condition (labelled Boolean Secret)
-      → (bit : ℕ) → bit < 2 → (t : Values) (q : Path) → LeadAll (types_of declared) m (if bit == 0 then otherwise else accepted) t q
-      → Leads (types_of declared) m (branch Secret condition accepted otherwise) t (path_in m condition ++ q)
+      → (bit : ℕ) → bit < 2 → (t : Values) (q : Path) → LeadAll (types_of profile declared) m (if bit == 0 then otherwise else accepted) t q
+      → Leads (types_of profile declared) m (branch Secret condition accepted otherwise) t (path_in m condition ++ q)
   either_way types among m condition accepted otherwise has bit small t q run =
-      chooses (to_anything (comes m condition) (has_type_among types (types_of declared) among has) refl small) run
+      chooses (to_anything (comes m condition) (has_type_among types (types_of profile declared) among has) refl small) run
 
   -- a condition on what is public is what it is
   pub that_way : (m : Values) (label : Label) (condition : TermTree) (accepted otherwise : FlatBlock) (b : Bool) → (value_in m condition == 0) ≡ b
-      → (t : Values) (q : Path) → LeadAll (types_of declared) m (cond b otherwise accepted) t q
-      → Leads (types_of declared) m (branch label condition accepted otherwise) t (path_in m condition ++ q)
+      → (t : Values) (q : Path) → LeadAll (types_of profile declared) m (cond b otherwise accepted) t q
+      → Leads (types_of profile declared) m (branch label condition accepted otherwise) t (path_in m condition ++ q)
   that_way m label condition accepted otherwise b is t q run =
-      chooses (comes m condition) (subst (λ test. LeadAll (types_of declared) m (cond test otherwise accepted) t q) (sym is) run)
+      chooses (comes m condition) (subst (λ test. LeadAll (types_of profile declared) m (cond test otherwise accepted) t q) (sym is) run)
 
   -- what agrees after an arm agrees on what was in scope before it
   pub in_scope : (types : Types) (label : Label) (body : FlatBlock) → AreTyped declared types label body
@@ -141,7 +142,7 @@ module _ (declared : List FlatVariable) where
 
   mutual
     pub follow : (types : Types) (label : Label) (statement : FlatTree) → IsTyped declared types label statement
-        → AreAmong types (types_of declared) → (within : Option ℕ) (control : ℕ) → IsUnder declared within label
+        → AreAmong types (types_of profile declared) → (within : Option ℕ) (control : ℕ) → IsUnder declared within label
         → (s : StraightState) (m : Values) → Agree what_is_public types s.variables m
         → Followed (types_after types statement) (after_all s (removed within control statement)) m statement
     follow types label (declare x word mutable value) typed among within control under s m agree = record {
@@ -228,7 +229,7 @@ module _ (declared : List FlatVariable) where
         let turn : ℕ → StraightState → StraightState = λ i t. after_all (counted x i t) (removed_all within control body) in
         let made = follow_turns types x body turn
         (λ i t n so_far.
-        let one = follow_all inner label body typed.3 (among_beside declared types x _ typed.2.listed among) within control under (counted x i t) (with_value n x (i ∷ []))
+        let one = follow_all inner label body typed.3 (among_beside profile declared types x _ typed.2.listed among) within control under (counted x i t) (with_value n x (i ∷ []))
         (declared_in_both what_is_public types t.variables n x (i ∷ []) (i ∷ []) (word_as counter_type false) (λ public. refl) so_far) in
         record {
           end = one.end;
@@ -247,13 +248,13 @@ module _ (declared : List FlatVariable) where
         }
 
     pub follow_all : (types : Types) (label : Label) (body : FlatBlock) → AreTyped declared types label body
-        → AreAmong types (types_of declared) → (within : Option ℕ) (control : ℕ) → IsUnder declared within label
+        → AreAmong types (types_of profile declared) → (within : Option ℕ) (control : ℕ) → IsUnder declared within label
         → (s : StraightState) (m : Values) → Agree what_is_public types s.variables m
         → FollowedAll (types_after_all types body) (after_all s (removed_all within control body)) m body
     follow_all types label nothing typed among within control under s m agree = record { end = m; path = []; leads = ends; agree = agree }
     follow_all types label (first statement rest) typed among within control under s m agree =
         let one = follow types label statement typed.0 among within control under s m agree in
-        let more = follow_all (types_after types statement) label rest typed.1 (among_after declared types label statement typed.0 among) within control under
+        let more = follow_all (types_after types statement) label rest typed.1 (among_after profile declared types label statement typed.0 among) within control under
         (after_all s (removed within control statement)) one.end one.agree in
         record {
           end = more.end;

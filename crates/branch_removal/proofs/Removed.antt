@@ -1,5 +1,5 @@
 -- Straight code is what is promised of it.
-use Rattle.std.proofs.Common.{◌≡◌, ℕ, ◌≤◌, List, ◌++◌, Option, None, Some, slice_get, refl, ap₂, subst, sym, arith}
+use Rattle.std.proofs.Common.{◌≡◌, ℕ, ◌≤◌, List, Option, None, Some, slice_get, refl, ap₂, subst, sym, arith}
 use Rattle.arguments.specs.Agreement as arguments
 use Rattle.arguments.specs.Within.{AreWithin}
 use Rattle.inline.specs.Flat.{FlatProgram, declaration_of}
@@ -8,7 +8,7 @@ use Rattle.inline.specs.FlatMeaning as flat
 use Rattle.inline.specs.FlatSize.{IsSized}
 use Rattle.inline.specs.FlatTyping.{types_of, end_types, parameter_types, IsTypedProgram}
 use Rattle.inline.specs.Kept.{IsFlat}
-use Rattle.inline.specs.Path.{Path, AreFine}
+use Rattle.inline.specs.Path.{AreFine, seen}
 use Rattle.intervals.specs.Kept.{IsRanged}
 use Rattle.intervals.specs.Loose.{IsSafe}
 use Rattle.intervals.specs.Ranged.{RangedProgram}
@@ -26,38 +26,39 @@ use Rattle.branch_removal.proofs.Agreement.{Agree, everything, what_is_public}
 use Rattle.branch_removal.proofs.BoundLemmas.{bounded}
 use Rattle.branch_removal.proofs.Fine.{fine_all, fine_both, fine_front, fine_back}
 use Rattle.branch_removal.proofs.Loose.{returns, follow_all}
-use Rattle.branch_removal.proofs.Public.{in_step_all, same_path_all}
+use Rattle.branch_removal.proofs.Public.{in_step_all, same_seen_all}
 use Rattle.branch_removal.proofs.Results.{parameters_among, parameter_at, given_in_step, all_arrays, all_public_arrays, same_return}
 use Rattle.branch_removal.proofs.Same.{same_all}
 use Rattle.branch_removal.proofs.Scopes.{AreAmong, among_after_all, result_among, stays_all}
 use Rattle.branch_removal.proofs.Typed.{AreHidden, hidden_all, typed_all}
-use Rattle.branch_removal.proofs.Values.{one_result, one_path_of_result}
+use Rattle.branch_removal.proofs.SeenLemmas.{both_seen, fine_alike}
+use Rattle.branch_removal.proofs.Values.{one_result, result_seen}
 
 module _ (p : FlatProgram) (typed : IsTypedProgram p) where
-  first_among : AreAmong (parameter_types p.parameters) (types_of p.declared)
-  first_among = parameters_among p.parameters p.declared typed.parameters
+  first_among : AreAmong (parameter_types p.profile p.parameters) (types_of p.profile p.declared)
+  first_among = parameters_among p.profile p.parameters p.declared typed.parameters
 
-  end_among : AreAmong (end_types p) (types_of p.declared)
-  end_among = among_after_all p.declared (parameter_types p.parameters) Public p.body typed.body first_among
+  end_among : AreAmong (end_types p) (types_of p.profile p.declared)
+  end_among = among_after_all p.profile p.declared (parameter_types p.profile p.parameters) Public p.body typed.body first_among
 
   typed_straight : IsTypedStraight (straightened (ranged p))
   typed_straight = record {
     parameters = typed.parameters;
-    body = typed_all p.declared (controls_in_all p.body) (parameter_types p.parameters) Public p.body typed.body first_among None 0 tt (omega arith);
-    result = result_among (end_types p) (types_of p.declared) end_among p.returned p.value typed.result;
+    body = typed_all p.profile p.declared (controls_in_all p.body) (parameter_types p.profile p.parameters) Public p.body typed.body first_among None 0 tt (omega arith);
+    result = result_among (end_types p) (types_of p.profile p.declared) end_among p.returned p.value typed.result;
   }
 
   hidden_straight : AreHidden p.declared (removed_all None 0 p.body)
-  hidden_straight = hidden_all p.declared (parameter_types p.parameters) Public p.body typed.body first_among None 0 tt
+  hidden_straight = hidden_all p.profile p.declared (parameter_types p.profile p.parameters) Public p.body typed.body first_among None 0 tt
 
   -- a parameter is in scope at the end
-  parameter_stays : (k : ℕ) (parameter : Param) → slice_get p.parameters k ≡ Some parameter → end_types p k ≡ Some (declaration_of parameter)
+  parameter_stays : (k : ℕ) (parameter : Param) → slice_get p.parameters k ≡ Some parameter → (end_types p).at k ≡ Some (declaration_of parameter)
   parameter_stays k parameter there =
-      stays_all p.declared (parameter_types p.parameters) Public p.body typed.body k (declaration_of parameter) (parameter_at p.parameters k parameter there)
+      stays_all p.declared (parameter_types p.profile p.parameters) Public p.body typed.body k (declaration_of parameter) (parameter_at p.parameters k parameter there)
 
   module _ (args : List Arg) where
     same_end : Agree everything (end_types p) (end_of (straightened (ranged p)) args) (flat.end_of p args)
-    same_end = same_all p.declared (parameter_types p.parameters) Public p.body typed.body None 0 tt
+    same_end = same_all p.declared (parameter_types p.profile p.parameters) Public p.body typed.body None 0 tt
         (start (straightened (ranged p)) args) (given p.declared args) refl (λ y d known seen. refl)
 
     same_outcome : outcome_of (straightened (ranged p)) args ≡ flat.outcome_of p args
@@ -69,32 +70,38 @@ module _ (p : FlatProgram) (typed : IsTypedProgram p) where
     fine_path : (turns : List ℕ) → IsSafe p turns → AreWithin p.parameters args → AreFine turns (path_of (straightened (ranged p)) args)
     fine_path turns safe within =
         let s = start (straightened (ranged p)) args in
-        let run = follow_all p.declared (parameter_types p.parameters) Public p.body typed.body first_among None 0 tt s (given p.declared args) (λ y d known public. refl) in
+        let run = follow_all p.profile p.declared (parameter_types p.profile p.parameters) Public p.body typed.body first_among None 0 tt s (given p.declared args) (λ y d known public. refl) in
         fine_both turns (path_along s (removed_all None 0 p.body)) (path_of_result (end_of (straightened (ranged p)) args) p.value)
-        (fine_all p.declared turns (parameter_types p.parameters) Public p.body typed.body first_among None 0 tt s (given p.declared args) (λ y d known public. refl)
+        (fine_all p.profile p.declared turns (parameter_types p.profile p.parameters) Public p.body typed.body first_among None 0 tt s (given p.declared args) (λ y d known public. refl)
         (λ t q leads. fine_front turns q (path_of_result t p.value)
-        (safe args _ within (record { end = t; front = q; back = path_of_result t p.value; body = leads; result = returns p.declared t p.value; whole = refl }))))
-        (subst (AreFine turns) (sym (one_path_of_result (end_types p) _ _ run.agree p.returned p.value typed.result))
+        (safe args _ within (record { end = t; front = q; back = path_of_result t p.value; body = leads; result = returns p.profile p.declared t p.value; whole = refl }))))
+        (fine_alike turns (end_types p).profile (path_of_result (end_of (straightened (ranged p)) args) p.value) (path_of_result run.end p.value)
+        (result_seen (end_types p) _ _ run.agree p.returned p.value typed.result)
         (fine_back turns run.path (path_of_result run.end p.value)
-        (safe args _ within (record { end = run.end; front = run.path; back = path_of_result run.end p.value; body = run.leads; result = returns p.declared run.end p.value; whole = refl }))))
+        (safe args _ within (record { end = run.end; front = run.path; back = path_of_result run.end p.value; body = run.leads; result = returns p.profile p.declared run.end p.value; whole = refl }))))
 
   module _ (one other : List Arg) (agree : arguments.Agree p.parameters one other) where
-    first_agree : Agree what_is_public (types_of p.declared) (given p.declared one) (given p.declared other)
-    first_agree = given_in_step p.parameters p.declared one other typed.parameters agree.one_within agree.other_within agree.equal
+    first_agree : Agree what_is_public (types_of p.profile p.declared) (given p.declared one) (given p.declared other)
+    first_agree = given_in_step p.profile p.parameters p.declared one other typed.parameters agree.one_within agree.other_within agree.equal
 
-    end_agree : Agree what_is_public (types_of p.declared) (end_of (straightened (ranged p)) one) (end_of (straightened (ranged p)) other)
-    end_agree = in_step_all p.declared (controls_in_all p.body) (removed_all None 0 p.body) typed_straight.body hidden_straight
+    end_agree : Agree what_is_public (types_of p.profile p.declared) (end_of (straightened (ranged p)) one) (end_of (straightened (ranged p)) other)
+    end_agree = in_step_all p.profile p.declared (controls_in_all p.body) (removed_all None 0 p.body) typed_straight.body hidden_straight
         (start (straightened (ranged p)) one) (start (straightened (ranged p)) other) first_agree
 
-    same_paths : path_of (straightened (ranged p)) one ≡ path_of (straightened (ranged p)) other
+    same_paths : seen p.profile (path_of (straightened (ranged p)) one) ≡ seen p.profile (path_of (straightened (ranged p)) other)
     same_paths =
-        ap₂ (λ (front back : Path). front ++ back)
-        (same_path_all p.declared (controls_in_all p.body) (removed_all None 0 p.body) typed_straight.body hidden_straight
-        (start (straightened (ranged p)) one) (start (straightened (ranged p)) other) first_agree)
-        (one_path_of_result (types_of p.declared) _ _ end_agree p.returned p.value typed_straight.result)
+        let s = start (straightened (ranged p)) one in
+        let t = start (straightened (ranged p)) other in
+        let code = removed_all None 0 p.body in
+        both_seen p.profile
+        (path_along s code) (path_of_result (end_of (straightened (ranged p)) one) p.value)
+        (path_along t code) (path_of_result (end_of (straightened (ranged p)) other) p.value)
+        (same_seen_all p.profile p.declared (controls_in_all p.body) code typed_straight.body hidden_straight s t first_agree)
+        (result_seen (types_of p.profile p.declared) _ _ end_agree p.returned p.value typed_straight.result)
 
 is_removed : (p : FlatProgram) → IsTypedProgram p → IsSized p → IsSafe p (ranged p).turns → (ranged p).work ≤ MOST_WORK → IsRemoved (ranged p) (straightened (ranged p))
 is_removed p typed sized safe fits = record {
+  profile = refl;
   parameters = refl;
   returned = refl;
   nodes = refl;
@@ -105,15 +112,16 @@ is_removed p typed sized safe fits = record {
   fine = λ args within. fine_path p typed args (ranged p).turns safe within;
   paths = λ one other agree. same_paths p typed one other agree;
   public = λ one other agree. record {
-    returned_equal = λ public. same_return (types_of p.declared) _ _ (end_agree p typed one other agree) p.returned p.value (typed_straight p typed).result public;
+    returned_equal = λ public. same_return (types_of p.profile p.declared) _ _ (end_agree p typed one other agree) p.returned p.value (typed_straight p typed).result public;
     arrays_equal = all_public_arrays p.parameters _ _ (λ k parameter there public.
-        end_agree p typed one other agree k (declaration_of parameter) (first_among p typed k (declaration_of parameter) (parameter_at p.parameters k parameter there)) public);
+        end_agree p typed one other agree k (declaration_of parameter) ((first_among p typed).at k (declaration_of parameter) (parameter_at p.parameters k parameter there)) public);
   };
 }
 
 -- straight code of these controls and statements
 pub straight_of : (r : RangedProgram) (controls : ℕ) (body : StraightBlock) → controls ≡ controls_in_all r.flat.body → body ≡ removed_all None 0 r.flat.body
     → record {
+      profile = r.flat.profile;
       parameters = r.flat.parameters;
       returned = r.flat.returned;
       nodes = r.flat.nodes;

@@ -17,6 +17,7 @@ use Rattle.language.specs.declared.signature.Param.{Param}
 use Rattle.language.specs.declared.typing.WordType.{WordType}
 use Rattle.language.specs.declared.values.Arg.{Arg}
 use Rattle.language.specs.Typing.{is_mutable}
+use Rattle.word.specs.declared.profile.Profile.{Profile}
 use Rattle.branch_removal.proofs.Agreement.{Agree, what_is_public}
 use Rattle.branch_removal.proofs.Scopes.{AreAmong}
 use Rattle.branch_removal.proofs.Values.{public_suited}
@@ -29,10 +30,12 @@ front_get (suc n) [] x d there = there
 front_get (suc n) (y ∷ xs) zero d there = there
 front_get (suc n) (y ∷ xs) (suc x) d there = front_get n xs x d there
 
-pub parameters_among : (parameters : List Param) (declared : List FlatVariable) → take (length parameters) declared ≡ map declaration_of parameters
-    → AreAmong (types_of (map declaration_of parameters)) (types_of declared)
-parameters_among parameters declared first x d there =
-    front_get (length parameters) declared x d (ap (λ (ds : List FlatVariable). slice_get ds x) first ∙ there)
+pub parameters_among : (profile : Profile) (parameters : List Param) (declared : List FlatVariable) → take (length parameters) declared ≡ map declaration_of parameters
+    → AreAmong (types_of profile (map declaration_of parameters)) (types_of profile declared)
+parameters_among profile parameters declared first = record {
+  profile = refl;
+  at = λ x d there. front_get (length parameters) declared x d (ap (λ (ds : List FlatVariable). slice_get ds x) first ∙ there);
+}
 
 pub parameter_at : (parameters : List Param) (k : ℕ) (p : Param) → slice_get parameters k ≡ Some p → slice_get (map declaration_of parameters) k ≡ Some (declaration_of p)
 parameter_at [] k p there = absurd (none-some p there)
@@ -40,21 +43,21 @@ parameter_at (q ∷ parameters) zero p there = ap (λ r. Some (declaration_of r)
 parameter_at (q ∷ parameters) (suc k) p there = parameter_at parameters k p there
 
 -- arguments that agree are given to both
-pub given_in_step : (parameters : List Param) (declared : List FlatVariable) (one other : List Arg) → take (length parameters) declared ≡ map declaration_of parameters
+pub given_in_step : (profile : Profile) (parameters : List Param) (declared : List FlatVariable) (one other : List Arg) → take (length parameters) declared ≡ map declaration_of parameters
     → AreWithin parameters one → AreWithin parameters other → EqualWherePublic parameters one other
-    → Agree what_is_public (types_of declared) (given declared one) (given declared other)
-given_in_step [] declared [] [] first a b equal x d there public = refl
-given_in_step [] declared [] (w ∷ other) first a b equal x d there public = absurd b
-given_in_step [] declared (v ∷ one) other first a b equal x d there public = absurd a
-given_in_step (p ∷ ps) declared [] other first a b equal x d there public = absurd a
-given_in_step (p ∷ ps) declared (v ∷ one) [] first a b equal x d there public = absurd b
-given_in_step (p ∷ ps) [] (v ∷ one) (w ∷ other) first a b equal x d there public = refl
-given_in_step (p ∷ ps) (e ∷ declared) (v ∷ one) (w ∷ other) first a b equal zero d there public =
+    → Agree what_is_public (types_of profile declared) (given declared one) (given declared other)
+given_in_step profile [] declared [] [] first a b equal x d there public = refl
+given_in_step profile [] declared [] (w ∷ other) first a b equal x d there public = absurd b
+given_in_step profile [] declared (v ∷ one) other first a b equal x d there public = absurd a
+given_in_step profile (p ∷ ps) declared [] other first a b equal x d there public = absurd a
+given_in_step profile (p ∷ ps) declared (v ∷ one) [] first a b equal x d there public = absurd b
+given_in_step profile (p ∷ ps) [] (v ∷ one) (w ∷ other) first a b equal x d there public = refl
+given_in_step profile (p ∷ ps) (e ∷ declared) (v ∷ one) (w ∷ other) first a b equal zero d there public =
     let same : e ≡ declaration_of p = cc in
     ap words_of (equal.0 (ap (λ (f : FlatVariable). f.word.label) (sym same ∙ same_Some e d there) ∙ public))
-given_in_step (p ∷ ps) (e ∷ declared) (v ∷ one) (w ∷ other) first a b equal (suc x) d there public =
+given_in_step profile (p ∷ ps) (e ∷ declared) (v ∷ one) (w ∷ other) first a b equal (suc x) d there public =
     let rest : take (length ps) declared ≡ map declaration_of ps = cc in
-    given_in_step ps declared one other rest a.1 b.1 equal.1 x d there public
+    given_in_step profile ps declared one other rest a.1 b.1 equal.1 x d there public
 
 -- Results.
 

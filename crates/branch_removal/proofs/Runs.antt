@@ -1,14 +1,16 @@
 -- Runs of straight code one after the other, turns of loops, and the control values that statements leave alone.
-use Rattle.std.proofs.Common.{◌≡◌, ℕ, zero, suc, ◌+◌, ◌-◌, ◌<◌, ◌==◌, Bool, true, false, cond, List, [], ◌∷◌, ◌++◌, Option, None, Some, slice_set, refl, sym, ap, ap₂, ◌∙◌, append_assoc, subst, arith}
+use Rattle.std.proofs.Common.{◌≡◌, ℕ, zero, suc, ◌+◌, ◌-◌, ◌<◌, ◌==◌, Bool, true, false, cond, List, [], ◌∷◌, ◌++◌, Option, None, Some, slice_set, refl, sym, ap, ◌∙◌, append_assoc, subst, arith}
 use Rattle.std.proofs.lemmas.Bool.{cond-false, cond-true, ne_eqb, eq-eqb}
 use Rattle.inline.specs.Flat.{FlatTree, declare, array, assign, put, hold, skip, branch, loop, FlatBlock, nothing, first}
 use Rattle.inline.specs.FlatMeaning.{turns, path_of_turns}
-use Rattle.inline.specs.Path.{Path}
+use Rattle.inline.specs.Path.{Path, seen}
 use Rattle.language.specs.declared.signature.Label.TheVariants.{Public, Secret}
+use Rattle.word.specs.declared.profile.Profile.{Profile}
 use Rattle.branch_removal.specs.private.Removal.{take_within, removed, removed_all}
 use Rattle.branch_removal.specs.Straight.{StraightTree, take, StraightBlock, chain}
 use Rattle.branch_removal.specs.Straight as straight
 use Rattle.branch_removal.specs.StraightMeaning.{StraightState, with_variable, with_controls, value_at, counted, after, after_all, path_at, path_along}
+use Rattle.branch_removal.proofs.SeenLemmas.{both_seen}
 
 -- One block and then another.
 
@@ -45,14 +47,15 @@ pub turns_relate_from : {S T : Type 0} (R : S → T → Type 0) (f : ℕ → S �
 turns_relate_from R f g keep n k i j many from s t r =
     subst (λ l. R (turns n i f s) (turns l j g t)) many (subst (λ l. R (turns n i f s) (turns n l g t)) from (turns_relate R f g keep n i s t r))
 
--- two loops whose turns have one path have one path
-pub one_path_of_turns : {S : Type 0} (R : S → S → Type 0) (turn : ℕ → S → S) (path : ℕ → S → Path)
+-- where the same is seen of the turns of two loops, it is of the loops
+pub turns_seen : (profile : Profile) {S : Type 0} (R : S → S → Type 0) (turn : ℕ → S → S) (path : ℕ → S → Path)
     → ((i : ℕ) (s t : S) → R s t → R (turn i s) (turn i t))
-    → ((i : ℕ) (s t : S) → R s t → path i s ≡ path i t)
-    → (n i : ℕ) (s t : S) → R s t → path_of_turns n i turn path s ≡ path_of_turns n i turn path t
-one_path_of_turns R turn path keep one zero i s t r = refl
-one_path_of_turns R turn path keep one (suc n) i s t r =
-    ap₂ (λ (p q : Path). p ++ q) (one i s t r) (one_path_of_turns R turn path keep one n (i + 1) (turn i s) (turn i t) (keep i s t r))
+    → ((i : ℕ) (s t : S) → R s t → seen profile (path i s) ≡ seen profile (path i t))
+    → (n i : ℕ) (s t : S) → R s t → seen profile (path_of_turns n i turn path s) ≡ seen profile (path_of_turns n i turn path t)
+turns_seen profile R turn path keep one zero i s t r = refl
+turns_seen profile R turn path keep one (suc n) i s t r =
+    both_seen profile (path i s) (path_of_turns n (i + 1) turn path (turn i s)) (path i t) (path_of_turns n (i + 1) turn path (turn i t))
+    (one i s t r) (turns_seen profile R turn path keep one n (i + 1) (turn i s) (turn i t) (keep i s t r))
 
 -- Control values.
 

@@ -1,5 +1,5 @@
 -- What is in scope stays in scope, as it is declared, and is declared so in the list of all variables.
-use Rattle.std.proofs.Common.{◌≡◌, ℕ, ◌==◌, Bool, true, false, cond, List, [], ◌∷◌, Option, None, Some, slice_get, refl, sym, ap, ◌∙◌}
+use Rattle.std.proofs.Common.{◌≡◌, ℕ, ◌==◌, Bool, true, false, cond, List, [], ◌∷◌, Option, None, Some, slice_get, refl, sym, ap, ◌∙◌, subst}
 use Rattle.std.proofs.lemmas.Bool.{eqb-true, false_from_ne_true, cond-false}
 use Rattle.std.proofs.lemmas.Option.{none-some}
 use Rattle.inline.specs.declared.flat.FlatVariable.{FlatVariable}
@@ -8,21 +8,24 @@ use Rattle.inline.specs.FlatTyping.{Types, with_type, types_of, HasType, of_numb
 use Rattle.branch_removal.specs.StraightTyping.{types_but}
 use Rattle.language.specs.declared.signature.Label.{Label}
 use Rattle.language.specs.declared.typing.WordType.{WordType}
+use Rattle.language.specs.ExprTyping.{operation_of}
+use Rattle.language.specs.WellTyped.{Makes}
+use Rattle.word.specs.declared.profile.Profile.{Profile}
 
 -- a new variable is none of those in scope
-pub apart : (types : Types) (x y : ℕ) (d : FlatVariable) → types x ≡ None → types y ≡ Some d → (y == x) ≡ false
+pub apart : (types : Types) (x y : ℕ) (d : FlatVariable) → types.at x ≡ None → types.at y ≡ Some d → (y == x) ≡ false
 apart types x y d new known =
-    false_from_ne_true (y == x) (λ equal. none-some d (sym new ∙ (ap types (sym (eqb-true y x equal)) ∙ known)))
+    false_from_ne_true (y == x) (λ equal. none-some d (sym new ∙ (ap types.at (sym (eqb-true y x equal)) ∙ known)))
 
 -- what is in scope is as it was where a new variable is declared
-pub stays_beside : (types : Types) (x : ℕ) (new : FlatVariable) → types x ≡ None
-    → (y : ℕ) (d : FlatVariable) → types y ≡ Some d → with_type types x new y ≡ Some d
-stays_beside types x new absent y d known = cond-false (y == x) (Some new) (types y) (apart types x y d absent known) ∙ known
+pub stays_beside : (types : Types) (x : ℕ) (new : FlatVariable) → types.at x ≡ None
+    → (y : ℕ) (d : FlatVariable) → types.at y ≡ Some d → (with_type types x new).at y ≡ Some d
+stays_beside types x new absent y d known = cond-false (y == x) (Some new) (types.at y) (apart types x y d absent known) ∙ known
 
 module _ (declared : List FlatVariable) where
   mutual
     pub stays : (types : Types) (label : Label) (statement : FlatTree) → IsTyped declared types label statement
-        → (y : ℕ) (d : FlatVariable) → types y ≡ Some d → types_after types statement y ≡ Some d
+        → (y : ℕ) (d : FlatVariable) → types.at y ≡ Some d → (types_after types statement).at y ≡ Some d
     stays types label (declare x word mutable value) typed y d known = stays_beside types x _ typed.0.new y d known
     stays types label (array x word mutable size values) typed y d known = stays_beside types x _ typed.0.new y d known
     stays types label (assign x value) typed y d known = known
@@ -33,27 +36,29 @@ module _ (declared : List FlatVariable) where
     stays types label (loop x low high body) typed y d known = known
 
     pub stays_all : (types : Types) (label : Label) (body : FlatBlock) → AreTyped declared types label body
-        → (y : ℕ) (d : FlatVariable) → types y ≡ Some d → types_after_all types body y ≡ Some d
+        → (y : ℕ) (d : FlatVariable) → types.at y ≡ Some d → (types_after_all types body).at y ≡ Some d
     stays_all types label nothing typed y d known = known
     stays_all types label (first statement rest) typed y d known =
         stays_all (types_after types statement) label rest typed.1 y d (stays types label statement typed.0 y d known)
 
--- one is declared as the other says, wherever it says something
-abbrev pub AreAmong : Types → Types → Type 0
-AreAmong types all = (x : ℕ) (d : FlatVariable) → types x ≡ Some d → all x ≡ Some d
+-- both are for one observer, and one is declared as the other says, wherever it says something
+pub record AreAmong (types all : Types) : Type 0 where
+  pub profile : types.profile ≡ all.profile
+  pub at : (x : ℕ) (d : FlatVariable) → types.at x ≡ Some d → all.at x ≡ Some d
 
 module _ (types all : Types) (among : AreAmong types all) where
   -- so an expression has its type among more variables too
   pub has_type_among : {e : TermTree} {word : WordType} → HasType types e word → HasType all e word
   has_type_among (of_number below) = of_number below
   has_type_among of_truth = of_truth
-  has_type_among (of_variable {x = x} {mutable = mutable} is) = of_variable {mutable = mutable} (among x _ is)
+  has_type_among (of_variable {x = x} {mutable = mutable} is) = of_variable {mutable = mutable} (among.at x _ is)
   has_type_among (of_prefix has takes even) = of_prefix (has_type_among has) takes even
-  has_type_among (of_binary has more makes even) = of_binary (has_type_among has) (has_type_among more) makes even
+  has_type_among (of_binary {operator = operator} {one = one} {other = other} {whole = whole} has more makes even) =
+      of_binary (has_type_among has) (has_type_among more) (subst (λ profile. Makes profile (operation_of operator) one other whole) among.profile makes) even
   has_type_among (of_rotation has numeric low high even) = of_rotation (has_type_among has) numeric low high even
   has_type_among (of_conversion has numeric) = of_conversion (has_type_among has) numeric
   has_type_among (of_selection chooser has more) = of_selection (has_type_among chooser) (has_type_among has) (has_type_among more)
-  has_type_among (of_element {x = x} {mutable = mutable} is index) = of_element {mutable = mutable} (among x _ is) (has_type_among index)
+  has_type_among (of_element {x = x} {mutable = mutable} is index) = of_element {mutable = mutable} (among.at x _ is) (has_type_among index)
 
   pub suits_among : (wanted : WordType) (e : TermTree) → Suits types wanted e → Suits all wanted e
   suits_among wanted e suits = record { word = suits.word; has_type = has_type_among suits.has_type; kind = suits.kind; label = suits.label }
@@ -69,41 +74,47 @@ module _ (types all : Types) (among : AreAmong types all) where
   result_among (Some word) (Some value) result = suits_among word value result
 
 -- a variable that is listed as it is declared
-pub among_beside : (declared : List FlatVariable) (types : Types) (x : ℕ) (new : FlatVariable) → slice_get declared x ≡ Some new
-    → AreAmong types (types_of declared) → AreAmong (with_type types x new) (types_of declared)
-among_beside declared types x new listed among y d known = by_number (y == x) refl known
+pub among_beside : (profile : Profile) (declared : List FlatVariable) (types : Types) (x : ℕ) (new : FlatVariable) → slice_get declared x ≡ Some new
+    → AreAmong types (types_of profile declared) → AreAmong (with_type types x new) (types_of profile declared)
+among_beside profile declared types x new listed among = record { profile = among.profile; at = λ y d known. beside y d known }
   where
-    by_number : (b : Bool) → (y == x) ≡ b → cond b (Some new) (types y) ≡ Some d → slice_get declared y ≡ Some d
-    by_number true is known = ap (slice_get declared) (eqb-true y x is) ∙ (listed ∙ known)
-    by_number false is known = among y d known
+    beside : (y : ℕ) (d : FlatVariable) → (with_type types x new).at y ≡ Some d → slice_get declared y ≡ Some d
+    beside y d known = by_number (y == x) refl known
+      where
+        by_number : (b : Bool) → (y == x) ≡ b → cond b (Some new) (types.at y) ≡ Some d → slice_get declared y ≡ Some d
+        by_number true is known = ap (slice_get declared) (eqb-true y x is) ∙ (listed ∙ known)
+        by_number false is known = among.at y d known
 
-module _ (declared : List FlatVariable) where
+module _ (profile : Profile) (declared : List FlatVariable) where
   mutual
     pub among_after : (types : Types) (label : Label) (statement : FlatTree) → IsTyped declared types label statement
-        → AreAmong types (types_of declared) → AreAmong (types_after types statement) (types_of declared)
-    among_after types label (declare x word mutable value) typed among = among_beside declared types x _ typed.0.listed among
-    among_after types label (array x word mutable size values) typed among = among_beside declared types x _ typed.0.listed among
+        → AreAmong types (types_of profile declared) → AreAmong (types_after types statement) (types_of profile declared)
+    among_after types label (declare x word mutable value) typed among = among_beside profile declared types x _ typed.0.listed among
+    among_after types label (array x word mutable size values) typed among = among_beside profile declared types x _ typed.0.listed among
     among_after types label (assign x value) typed among = among
     among_after types label (put place x size index value) typed among = among
-    among_after types label (hold x place size index) typed among = among_beside declared types x _ typed.0.listed among
+    among_after types label (hold x place size index) typed among = among_beside profile declared types x _ typed.0.listed among
     among_after types label skip typed among = among
     among_after types label (branch own condition accepted otherwise) typed among = among
     among_after types label (loop x low high body) typed among = among
 
     pub among_after_all : (types : Types) (label : Label) (body : FlatBlock) → AreTyped declared types label body
-        → AreAmong types (types_of declared) → AreAmong (types_after_all types body) (types_of declared)
+        → AreAmong types (types_of profile declared) → AreAmong (types_after_all types body) (types_of profile declared)
     among_after_all types label nothing typed among = among
     among_after_all types label (first statement rest) typed among =
         among_after_all (types_after types statement) label rest typed.1 (among_after types label statement typed.0 among)
 
 -- what is in scope is among all variables but a new one
-pub among_but : (declared : List FlatVariable) (types : Types) (x : ℕ) → types x ≡ None → AreAmong types (types_of declared) → AreAmong types (types_but declared x)
-among_but declared types x new among y d known = cond-false (y == x) None (slice_get declared y) (apart types x y d new known) ∙ among y d known
+pub among_but : (profile : Profile) (declared : List FlatVariable) (types : Types) (x : ℕ) → types.at x ≡ None → AreAmong types (types_of profile declared) → AreAmong types (types_but profile declared x)
+among_but profile declared types x new among = record {
+  profile = among.profile;
+  at = λ y d known. cond-false (y == x) None (slice_get declared y) (apart types x y d new known) ∙ among.at y d known;
+}
 
 -- and these are among all
-pub but_among : (declared : List FlatVariable) (x : ℕ) → AreAmong (types_but declared x) (types_of declared)
-but_among declared x y d known = by_number (y == x) known
+pub but_among : (profile : Profile) (declared : List FlatVariable) (x : ℕ) → AreAmong (types_but profile declared x) (types_of profile declared)
+but_among profile declared x = record { profile = refl; at = λ y d known. by_number y d (y == x) known }
   where
-    by_number : (b : Bool) → cond b None (slice_get declared y) ≡ Some d → slice_get declared y ≡ Some d
-    by_number true known = absurd (none-some d known)
-    by_number false known = known
+    by_number : (y : ℕ) (d : FlatVariable) (b : Bool) → cond b None (slice_get declared y) ≡ Some d → slice_get declared y ≡ Some d
+    by_number y d true known = absurd (none-some d known)
+    by_number y d false known = known

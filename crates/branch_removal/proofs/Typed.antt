@@ -8,6 +8,7 @@ use Rattle.inline.specs.FlatTyping.{Types, with_type, types_of, types_after, cou
 use Rattle.inline.specs.FlatTyping as flat
 use Rattle.language.specs.declared.signature.Label.{Label}
 use Rattle.language.specs.declared.signature.Label.TheVariants.{Public, Secret}
+use Rattle.word.specs.declared.profile.Profile.{Profile}
 use Rattle.branch_removal.specs.private.Removal.{removed, removed_all, controls_in, controls_in_all}
 use Rattle.branch_removal.specs.Straight.{StraightTree, set, clear, fill, take, set_under, put_under, repeats, StraightBlock, chain}
 use Rattle.branch_removal.specs.Straight as straight
@@ -51,15 +52,16 @@ module _ (declared : List FlatVariable) where
   IsUnder None label = Unit {0}
   IsUnder (Some control) label = label ≡ Secret
 
+module _ (profile : Profile) (declared : List FlatVariable) where
   -- an assigned variable
-  assigned_secret : (types : Types) (x : ℕ) (new : FlatVariable) → AreAmong types (types_of declared) → types x ≡ Some new → new.word.label ≡ Secret → IsSecret x
+  assigned_secret : (types : Types) (x : ℕ) (new : FlatVariable) → AreAmong types (types_of profile declared) → types.at x ≡ Some new → new.word.label ≡ Secret → IsSecret declared x
   assigned_secret types x new among known secret d listed =
-      subst (λ (e : FlatVariable). e.word.label ≡ Secret) (same_Some new d (sym (among x new known) ∙ listed)) secret
+      subst (λ (e : FlatVariable). e.word.label ≡ Secret) (same_Some new d (sym (among.at x new known) ∙ listed)) secret
 
   mutual
     pub hidden : (types : Types) (label : Label) (statement : FlatTree) → flat.IsTyped declared types label statement
-        → AreAmong types (types_of declared)
-        → (within : Option ℕ) (control : ℕ) → IsUnder within label → AreHidden (removed within control statement)
+        → AreAmong types (types_of profile declared)
+        → (within : Option ℕ) (control : ℕ) → IsUnder declared within label → AreHidden declared (removed within control statement)
     hidden types label (declare x word mutable value) typed among within control under = (tt, tt)
     hidden types label (array x word mutable size []) typed among within control under = (tt, tt)
     hidden types label (array x word mutable size (e ∷ es)) typed among within control under = (tt, tt)
@@ -71,7 +73,7 @@ module _ (declared : List FlatVariable) where
     hidden types label skip typed among within control under = tt
     hidden types label (branch Secret condition accepted otherwise) typed among within control under = (
       tt,
-      hidden-chain (removed_all (Some control) (control + 2) accepted) (removed_all (Some (control + 1)) (control + 2) otherwise)
+      hidden-chain declared (removed_all (Some control) (control + 2) accepted) (removed_all (Some (control + 1)) (control + 2) otherwise)
           (hidden_all types Secret accepted typed.1 among (Some control) (control + 2) refl)
           (hidden_all types Secret otherwise typed.2 among (Some (control + 1)) (control + 2) refl),
     )
@@ -80,31 +82,31 @@ module _ (declared : List FlatVariable) where
       tt,
     )
     hidden types label (loop x low high body) typed among within control under = (
-      hidden_all (with_type types x (word_as counter_type false)) label body typed.3 (among_beside declared types x _ typed.2.listed among) within control under,
+      hidden_all (with_type types x (word_as counter_type false)) label body typed.3 (among_beside profile declared types x _ typed.2.listed among) within control under,
       tt,
     )
 
     pub hidden_all : (types : Types) (label : Label) (body : FlatBlock) → flat.AreTyped declared types label body
-        → AreAmong types (types_of declared)
-        → (within : Option ℕ) (control : ℕ) → IsUnder within label → AreHidden (removed_all within control body)
+        → AreAmong types (types_of profile declared)
+        → (within : Option ℕ) (control : ℕ) → IsUnder declared within label → AreHidden declared (removed_all within control body)
     hidden_all types label nothing typed among within control under = tt
     hidden_all types label (first statement rest) typed among within control under =
-        hidden-chain (removed within control statement) (removed_all within control rest)
+        hidden-chain declared (removed within control statement) (removed_all within control rest)
         (hidden types label statement typed.0 among within control under)
-        (hidden_all (types_after types statement) label rest typed.1 (among_after declared types label statement typed.0 among) within control under)
+        (hidden_all (types_after types statement) label rest typed.1 (among_after profile declared types label statement typed.0 among) within control under)
 
-module _ (declared : List FlatVariable) (controls : ℕ) where
-  typed-chain : (these those : StraightBlock) → AreTyped declared controls these → AreTyped declared controls those → AreTyped declared controls (chain these those)
+module _ (profile : Profile) (declared : List FlatVariable) (controls : ℕ) where
+  typed-chain : (these those : StraightBlock) → AreTyped profile declared controls these → AreTyped profile declared controls those → AreTyped profile declared controls (chain these those)
   typed-chain straight.nothing those one other = other
   typed-chain (straight.first statement these) those one other = (one.0, typed-chain these those one.1 other)
 
   mutual
     pub typed : (types : Types) (label : Label) (statement : FlatTree) → flat.IsTyped declared types label statement
-        → AreAmong types (types_of declared)
+        → AreAmong types (types_of profile declared)
         → (within : Option ℕ) (control : ℕ) → IsAmong controls within → control + controls_in statement ≤ controls
-        → AreTyped declared controls (removed within control statement)
+        → AreTyped profile declared controls (removed within control statement)
     typed types label (declare x word mutable value) is among within control inside free =
-        (record { word = word; mutable = mutable; known = is.0.listed; suits = suits_among types (types_of declared) among word value is.1 }, tt)
+        (record { word = word; mutable = mutable; known = is.0.listed; suits = suits_among types (types_of profile declared) among word value is.1 }, tt)
     typed types label (array x word mutable size []) is among within control inside free =
         (record { word = word; mutable = mutable; known = is.0.listed; suit = tt }, tt)
     typed types label (array x word mutable size (e ∷ es)) is among within control inside free = (
@@ -112,21 +114,21 @@ module _ (declared : List FlatVariable) (controls : ℕ) where
         word = word;
         mutable = mutable;
         known = counted_as word mutable size declared x (e ∷ es) is.2 is.0.listed;
-        suit = suit_among types (types_but declared x) (among_but declared types x is.0.new among) word (e ∷ es) is.1;
+        suit = suit_among types (types_but profile declared x) (among_but profile declared types x is.0.new among) word (e ∷ es) is.1;
       },
       tt,
     )
     typed types label (assign x value) is among None control inside free =
-        (record { word = is.word; mutable = _; known = among x _ is.known; suits = suits_among types (types_of declared) among is.word value is.suits }, tt)
+        (record { word = is.word; mutable = _; known = among.at x _ is.known; suits = suits_among types (types_of profile declared) among is.word value is.suits }, tt)
     typed types label (assign x value) is among (Some c) control inside free =
-        ((inside, record { word = is.word; mutable = _; known = among x _ is.known; suits = suits_among types (types_of declared) among is.word value is.suits }), tt)
+        ((inside, record { word = is.word; mutable = _; known = among.at x _ is.known; suits = suits_among types (types_of profile declared) among is.word value is.suits }), tt)
     typed types label (put place x size index value) is among None control inside free = (
       record {
         word = is.word;
         mutable = _;
-        known = among x _ is.known;
-        index_type = has_type_among types (types_of declared) among is.index_type;
-        suits = suits_among types (types_of declared) among is.word value is.suits;
+        known = among.at x _ is.known;
+        index_type = has_type_among types (types_of profile declared) among is.index_type;
+        suits = suits_among types (types_of profile declared) among is.word value is.suits;
       },
       tt,
     )
@@ -136,9 +138,9 @@ module _ (declared : List FlatVariable) (controls : ℕ) where
         record {
           word = is.word;
           mutable = _;
-          known = among x _ is.known;
-          index_type = has_type_among types (types_of declared) among is.index_type;
-          suits = suits_among types (types_of declared) among is.word value is.suits;
+          known = among.at x _ is.known;
+          index_type = has_type_among types (types_of profile declared) among is.index_type;
+          suits = suits_among types (types_of profile declared) among is.word value is.suits;
         },
       ),
       tt,
@@ -148,7 +150,7 @@ module _ (declared : List FlatVariable) (controls : ℕ) where
         word = counter_type;
         mutable = false;
         known = is.0.listed;
-        suits = record { word = counter_type; has_type = has_type_among types (types_of declared) among is.1; kind = refl; label = λ public. refl };
+        suits = record { word = counter_type; has_type = has_type_among types (types_of profile declared) among is.1; kind = refl; label = λ public. refl };
       },
       tt,
     )
@@ -156,7 +158,7 @@ module _ (declared : List FlatVariable) (controls : ℕ) where
     typed types label (branch Secret condition accepted otherwise) is among within control inside free =
         let left = le-max_left (controls_in_all accepted) (controls_in_all otherwise) in
         let right = le-max_right (controls_in_all accepted) (controls_in_all otherwise) in (
-          (omega (arith, free), inside, (Secret, has_type_among types (types_of declared) among is.0)),
+          (omega (arith, free), inside, (Secret, has_type_among types (types_of profile declared) among is.0)),
           typed-chain (removed_all (Some control) (control + 2) accepted) (removed_all (Some (control + 1)) (control + 2) otherwise)
               (typed_all types Secret accepted is.1 among (Some control) (control + 2) (omega (arith, free)) (omega (arith, free, left)))
               (typed_all types Secret otherwise is.2 among (Some (control + 1)) (control + 2) (omega (arith, free)) (omega (arith, free, right))),
@@ -165,7 +167,7 @@ module _ (declared : List FlatVariable) (controls : ℕ) where
         let left = le-max_left (controls_in_all accepted) (controls_in_all otherwise) in
         let right = le-max_right (controls_in_all accepted) (controls_in_all otherwise) in (
           (
-            has_type_among types (types_of declared) among is.0,
+            has_type_among types (types_of profile declared) among is.0,
             typed_all types label accepted is.1 among within control inside (omega (arith, free, left)),
             typed_all types label otherwise is.2 among within control inside (omega (arith, free, right)),
           ),
@@ -173,22 +175,22 @@ module _ (declared : List FlatVariable) (controls : ℕ) where
         )
     typed types label (loop x low high body) is among within control inside free = (
       (
-        has_type_among types (types_of declared) among is.0,
-        has_type_among types (types_of declared) among is.1,
+        has_type_among types (types_of profile declared) among is.0,
+        has_type_among types (types_of profile declared) among is.1,
         is.2.listed,
-        typed_all (with_type types x (word_as counter_type false)) label body is.3 (among_beside declared types x _ is.2.listed among) within control inside free,
+        typed_all (with_type types x (word_as counter_type false)) label body is.3 (among_beside profile declared types x _ is.2.listed among) within control inside free,
       ),
       tt,
     )
 
     pub typed_all : (types : Types) (label : Label) (body : FlatBlock) → flat.AreTyped declared types label body
-        → AreAmong types (types_of declared)
+        → AreAmong types (types_of profile declared)
         → (within : Option ℕ) (control : ℕ) → IsAmong controls within → control + controls_in_all body ≤ controls
-        → AreTyped declared controls (removed_all within control body)
+        → AreTyped profile declared controls (removed_all within control body)
     typed_all types label nothing is among within control inside free = tt
     typed_all types label (first statement rest) is among within control inside free =
         let left = le-max_left (controls_in statement) (controls_in_all rest) in
         let right = le-max_right (controls_in statement) (controls_in_all rest) in
         typed-chain (removed within control statement) (removed_all within control rest)
         (typed types label statement is.0 among within control inside (omega (arith, free, left)))
-        (typed_all (types_after types statement) label rest is.1 (among_after declared types label statement is.0 among) within control inside (omega (arith, free, right)))
+        (typed_all (types_after types statement) label rest is.1 (among_after profile declared types label statement is.0 among) within control inside (omega (arith, free, right)))

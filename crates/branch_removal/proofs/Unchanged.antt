@@ -47,7 +47,7 @@ quiet_second sees label within control condition accepted s (hidden secret publi
 
 -- a variable that is set under a false control value, or is secret
 pub set_quietly : (sees : Sees) (types : Types) (label : Label) (within : Option ℕ) (control : ℕ) (s : StraightState) (x : ℕ) (v : List ℕ) (new : FlatVariable)
-    → types x ≡ Some new → (label ≡ Secret → new.word.label ≡ Secret) → Quiet sees label within control s
+    → types.at x ≡ Some new → (label ≡ Secret → new.word.label ≡ Secret) → Quiet sees label within control s
     → Agree sees types (cond (holds s within) (with_variable s x v) s).variables s.variables
 set_quietly sees types label within control s x v new known secret (switched_off {c = c} below off) y d there seen =
     ap (λ (t : StraightState). t.variables y) (cond-false (s.controls c) (with_variable s x v) s off)
@@ -56,7 +56,7 @@ set_quietly sees types label within control s x v new known secret (hidden is pu
   where
     other : (y == x) ≡ false
     other = false_from_ne_true (y == x) (λ equal.
-        let one : d ≡ new = same_Some d new (sym there ∙ (ap types (eqb-true y x equal) ∙ known)) in
+        let one : d ≡ new = same_Some d new (sym there ∙ (ap types.at (eqb-true y x equal) ∙ known)) in
         secret≢public (sym (secret is) ∙ (ap (λ (e : FlatVariable). e.word.label) (sym one) ∙ public d seen)))
 
     by_control : (b : Bool) → (cond b (with_variable s x v) s).variables y ≡ s.variables y

@@ -1,13 +1,15 @@
--- Where two states hold the same in public variables, a public expression has one value in both, and any expression one path.
--- Where they hold the same in all variables, any expression has one value.
-use Rattle.std.proofs.Common.{◌≡◌, ◌≢◌, ℕ, ◌==◌, List, [], ◌∷◌, ◌++◌, map, if◌then◌else◌, slice_index, Bool, true, false, Option, None, Some, refl, sym, ap, ap₂, ◌∙◌, true≢false}
+-- Where two states hold the same in public variables, a public expression has one value in both, and of the path of any
+-- expression the same is seen. Where they hold the same in all variables, any expression has one value and one path.
+use Rattle.std.proofs.Common.{◌≡◌, ◌≢◌, ℕ, ◌==◌, List, [], ◌∷◌, ◌++◌, map, if◌then◌else◌, slice_index, Option, None, Some, refl, ap, ap₂, ◌∙◌, true≢false}
 use Rattle.std.specs.Option.{option_map}
 use Rattle.word.specs.Operators.{converted, rotated_left}
 use Rattle.word.specs.declared.place.Place.{Place}
+use Rattle.word.specs.declared.profile.Profile.{Profile}
+use Rattle.word.specs.declared.profile.Profile.TheVariants.{P1, P2}
 use Rattle.inline.specs.Flat.{TermTree}
-use Rattle.inline.specs.FlatMeaning.{Values, value_in, path_in, path_in_all, division, path_of_result}
+use Rattle.inline.specs.FlatMeaning.{Values, value_in, path_in, path_in_all, marks_of, path_of_result}
 use Rattle.inline.specs.FlatTyping.{Types, HasType, of_number, of_truth, of_variable, of_prefix, of_binary, of_rotation, of_conversion, of_selection, of_element, Suits, AllSuit, IsResult}
-use Rattle.inline.specs.Path.{Path, indexed, divided}
+use Rattle.inline.specs.Path.{Path, indexed, divided, multiplied, seen}
 use Rattle.language.specs.declared.signature.Label.{Label}
 use Rattle.language.specs.declared.signature.Label.TheVariants.{Public, Secret}
 use Rattle.language.specs.declared.tree.BinaryOperator.{BinaryOperator}
@@ -15,57 +17,52 @@ use Rattle.language.specs.declared.tree.BinaryOperator.TheVariants.{Either, Both
 use Rattle.language.specs.declared.typing.Operation.{Operation}
 use Rattle.language.specs.declared.typing.WordType.{WordType}
 use Rattle.language.specs.ExprTyping.{operation_of}
-use Rattle.language.specs.Operators.{divides, operated, prefix_value, width_of}
+use Rattle.language.specs.Operators.{operated, prefix_value, width_of}
 use Rattle.language.specs.Types.{joined, is_secret}
-use Rattle.language.specs.WellTyped.{Makes, arithmetic, multiplication, division as divides_public, shift, equality, order, logic}
+use Rattle.language.specs.WellTyped.{Makes, arithmetic, multiplication, division as divides_public, shift, equality, order, logic, both_public as public_factors}
+use Rattle.branch_removal.proofs.SeenLemmas.{both_seen}
 use Rattle.branch_removal.proofs.Agreement.{Agree, everything, what_is_public}
 
 pub secret≢public : Secret ≢ Public
 secret≢public h = true≢false (ap is_secret h)
 
-both_public : (m n : Label) → joined m n ≡ Public → (m ≡ Public) × (n ≡ Public)
-both_public Public n h = (refl, h)
-both_public Secret n h = absurd (secret≢public h)
+joined_public : (m n : Label) → joined m n ≡ Public → (m ≡ Public) × (n ≡ Public)
+joined_public Public n h = (refl, h)
+joined_public Secret n h = absurd (secret≢public h)
 
 -- what is made of two words is public only where both are
-public_operands : {operation : Operation} {a b whole : WordType} → Makes operation a b whole → whole.label ≡ Public → (a.label ≡ Public) × (b.label ≡ Public)
-public_operands (arithmetic {l = l} {m = m} numeric) label = both_public l m label
-public_operands (multiplication {l = l} {m = m} numeric) label = both_public l m label
+public_operands : {profile : Profile} {operation : Operation} {a b whole : WordType} → Makes profile operation a b whole → whole.label ≡ Public → (a.label ≡ Public) × (b.label ≡ Public)
+public_operands (arithmetic {l = l} {m = m} numeric) label = joined_public l m label
+public_operands (multiplication {l = l} {m = m} numeric may) label = joined_public l m label
 public_operands (divides_public numeric) label = (refl, refl)
-public_operands (shift {l = l} {m = m} numeric) label = both_public l m label
-public_operands (equality {l = l} {m = m}) label = both_public l m label
-public_operands (order {l = l} {m = m} numeric) label = both_public l m label
-public_operands (logic {l = l} {m = m}) label = both_public l m label
+public_operands (shift {l = l} {m = m} numeric) label = joined_public l m label
+public_operands (equality {l = l} {m = m}) label = joined_public l m label
+public_operands (order {l = l} {m = m} numeric) label = joined_public l m label
+public_operands (logic {l = l} {m = m}) label = joined_public l m label
 
--- the operands of a division are public
-divided_public : (operator : BinaryOperator) {a b whole : WordType} → Makes (operation_of operator) a b whole → divides operator ≡ true
-    → (a.label ≡ Public) × (b.label ≡ Public)
-divided_public Divide (divides_public numeric) is = (refl, refl)
-divided_public Remainder (divides_public numeric) is = (refl, refl)
-divided_public Either makes is = absurd (true≢false (sym is))
-divided_public Both makes is = absurd (true≢false (sym is))
-divided_public Equal makes is = absurd (true≢false (sym is))
-divided_public Unequal makes is = absurd (true≢false (sym is))
-divided_public Less makes is = absurd (true≢false (sym is))
-divided_public LessOrEqual makes is = absurd (true≢false (sym is))
-divided_public Greater makes is = absurd (true≢false (sym is))
-divided_public GreaterOrEqual makes is = absurd (true≢false (sym is))
-divided_public BitOr makes is = absurd (true≢false (sym is))
-divided_public BitXor makes is = absurd (true≢false (sym is))
-divided_public BitAnd makes is = absurd (true≢false (sym is))
-divided_public ShiftLeft makes is = absurd (true≢false (sym is))
-divided_public ShiftRight makes is = absurd (true≢false (sym is))
-divided_public Add makes is = absurd (true≢false (sym is))
-divided_public Subtract makes is = absurd (true≢false (sym is))
-divided_public Multiply makes is = absurd (true≢false (sym is))
-
-same_division : (place : Place) (operator : BinaryOperator) (a b c d : ℕ) → (divides operator ≡ true → (a ≡ c) × (b ≡ d))
-    → division place operator a b ≡ division place operator c d
-same_division place operator a b c d equal = by_test (divides operator) equal
-  where
-    by_test : (t : Bool) → (t ≡ true → (a ≡ c) × (b ≡ d)) → (if t then divided place a b ∷ [] else []) ≡ (if t then divided place c d ∷ [] else [])
-    by_test true equal = ap₂ (λ u v. divided place u v ∷ []) (equal refl).0 (equal refl).1
-    by_test false equal = refl
+-- of two operations the same is seen where their public operands are the same: what an observer sees of an operation is public
+same_marks : (profile : Profile) (place : Place) (operator : BinaryOperator) {one other whole : WordType} → Makes profile (operation_of operator) one other whole
+    → (a b c d : ℕ) → (one.label ≡ Public → a ≡ c) → (other.label ≡ Public → b ≡ d)
+    → seen profile (marks_of place operator a b) ≡ seen profile (marks_of place operator c d)
+same_marks P1 place Multiply makes a b c d left right = refl
+same_marks P2 place Multiply (multiplication numeric public_factors) a b c d left right = ap₂ (λ u v. multiplied u v ∷ []) (left refl) (right refl)
+same_marks profile place Divide (divides_public numeric) a b c d left right = ap₂ (λ u v. divided place u v ∷ []) (left refl) (right refl)
+same_marks profile place Remainder (divides_public numeric) a b c d left right = ap₂ (λ u v. divided place u v ∷ []) (left refl) (right refl)
+same_marks profile place Either makes a b c d left right = refl
+same_marks profile place Both makes a b c d left right = refl
+same_marks profile place Equal makes a b c d left right = refl
+same_marks profile place Unequal makes a b c d left right = refl
+same_marks profile place Less makes a b c d left right = refl
+same_marks profile place LessOrEqual makes a b c d left right = refl
+same_marks profile place Greater makes a b c d left right = refl
+same_marks profile place GreaterOrEqual makes a b c d left right = refl
+same_marks profile place BitOr makes a b c d left right = refl
+same_marks profile place BitXor makes a b c d left right = refl
+same_marks profile place BitAnd makes a b c d left right = refl
+same_marks profile place ShiftLeft makes a b c d left right = refl
+same_marks profile place ShiftRight makes a b c d left right = refl
+same_marks profile place Add makes a b c d left right = refl
+same_marks profile place Subtract makes a b c d left right = refl
 
 module _ (types : Types) (one other : Values) where
   module _ (agree : Agree what_is_public types one other) where
@@ -80,8 +77,8 @@ module _ (types : Types) (one other : Values) where
     public_value (of_rotation {width = width} {amount = amount} has numeric low high even) label = ap (λ v. rotated_left width v amount) (public_value has label)
     public_value (of_conversion {kind = kind} has numeric) label = ap (converted (width_of kind)) (public_value has label)
     public_value (of_selection {condition = condition} {accepted = accepted} {otherwise = otherwise} {l = l} {m = m} {n = n} chooser has more) label =
-        let outer = both_public l (joined m n) label in
-        let labels = both_public m n outer.1 in
+        let outer = joined_public l (joined m n) label in
+        let labels = joined_public m n outer.1 in
         ap (λ z. if z == 0 then value_in one otherwise else value_in one accepted) (public_value chooser outer.0)
         ∙ ap₂ (λ z u. if value_in other condition == 0 then z else u) (public_value more labels.1) (public_value has labels.0)
     public_value (of_element {x = x} is index) label = ap₂ slice_index (agree x _ is label) (public_value index refl)
@@ -94,34 +91,42 @@ module _ (types : Types) (one other : Values) where
     public_all wanted [] suits label = refl
     public_all wanted (e ∷ es) suits label = ap₂ (λ (v : ℕ) (vs : List ℕ). v ∷ vs) (public_suited wanted e suits.0 label) (public_all wanted es suits.1 label)
 
-    -- what is on the path is public
-    pub one_path : {e : TermTree} {whole : WordType} → HasType types e whole → path_in one e ≡ path_in other e
-    one_path (of_number below) = refl
-    one_path of_truth = refl
-    one_path (of_variable is) = refl
-    one_path (of_prefix has takes even) = one_path has
-    one_path (of_binary {place = place} {operator = operator} {left = left} {right = right} has more makes even) =
-        ap₂ (λ (p q : Path). p ++ q) (ap₂ (λ (p q : Path). p ++ q) (one_path has) (one_path more))
-        (same_division place operator (value_in one left) (value_in one right) (value_in other left) (value_in other right) (λ is.
-        let labels = divided_public operator makes is in
-        (public_value has labels.0, public_value more labels.1)))
-    one_path (of_rotation has numeric low high even) = one_path has
-    one_path (of_conversion has numeric) = one_path has
-    one_path (of_selection chooser has more) =
-        ap₂ (λ (p q : Path). p ++ q) (ap₂ (λ (p q : Path). p ++ q) (one_path chooser) (one_path has)) (one_path more)
-    one_path (of_element {place = place} {size = size} is index) =
-        ap₂ (λ (p : Path) (i : ℕ). p ++ indexed place size i ∷ []) (one_path index) (public_value index refl)
+    -- what is seen of the path is public
+    pub one_seen : {e : TermTree} {whole : WordType} → HasType types e whole → seen types.profile (path_in one e) ≡ seen types.profile (path_in other e)
+    one_seen (of_number below) = refl
+    one_seen of_truth = refl
+    one_seen (of_variable is) = refl
+    one_seen (of_prefix has takes even) = one_seen has
+    one_seen (of_binary {place = place} {operator = operator} {left = left} {right = right} has more makes even) =
+        let a = value_in one left in
+        let b = value_in one right in
+        let c = value_in other left in
+        let d = value_in other right in
+        both_seen types.profile (path_in one left ++ path_in one right) (marks_of place operator a b) (path_in other left ++ path_in other right) (marks_of place operator c d)
+        (both_seen types.profile (path_in one left) (path_in one right) (path_in other left) (path_in other right) (one_seen has) (one_seen more))
+        (same_marks types.profile place operator makes a b c d (λ label. public_value has label) (λ label. public_value more label))
+    one_seen (of_rotation has numeric low high even) = one_seen has
+    one_seen (of_conversion has numeric) = one_seen has
+    one_seen (of_selection {condition = condition} {accepted = accepted} {otherwise = otherwise} chooser has more) =
+        both_seen types.profile (path_in one condition ++ path_in one accepted) (path_in one otherwise) (path_in other condition ++ path_in other accepted) (path_in other otherwise)
+        (both_seen types.profile (path_in one condition) (path_in one accepted) (path_in other condition) (path_in other accepted) (one_seen chooser) (one_seen has))
+        (one_seen more)
+    one_seen (of_element {place = place} {size = size} {index = index} is has) =
+        both_seen types.profile (path_in one index) (indexed place size (value_in one index) ∷ []) (path_in other index) (indexed place size (value_in other index) ∷ [])
+        (one_seen has) (ap (λ i. indexed place size i ∷ []) (public_value has refl))
 
-    pub one_path_all : (wanted : WordType) (es : List TermTree) → AllSuit types wanted es → path_in_all one es ≡ path_in_all other es
-    one_path_all wanted [] suits = refl
-    one_path_all wanted (e ∷ es) suits = ap₂ (λ (p q : Path). p ++ q) (one_path suits.0.has_type) (one_path_all wanted es suits.1)
+    pub all_seen : (wanted : WordType) (es : List TermTree) → AllSuit types wanted es
+        → seen types.profile (path_in_all one es) ≡ seen types.profile (path_in_all other es)
+    all_seen wanted [] suits = refl
+    all_seen wanted (e ∷ es) suits =
+        both_seen types.profile (path_in one e) (path_in_all one es) (path_in other e) (path_in_all other es) (one_seen suits.0.has_type) (all_seen wanted es suits.1)
 
-    pub one_path_of_result : (returned : Option WordType) (value : Option TermTree) → IsResult types returned value
-        → path_of_result one value ≡ path_of_result other value
-    one_path_of_result None None result = refl
-    one_path_of_result None (Some value) result = absurd result
-    one_path_of_result (Some word) None result = absurd result
-    one_path_of_result (Some word) (Some value) result = one_path result.has_type
+    pub result_seen : (returned : Option WordType) (value : Option TermTree) → IsResult types returned value
+        → seen types.profile (path_of_result one value) ≡ seen types.profile (path_of_result other value)
+    result_seen None None result = refl
+    result_seen None (Some value) result = absurd result
+    result_seen (Some word) None result = absurd result
+    result_seen (Some word) (Some value) result = one_seen result.has_type
 
   module _ (agree : Agree everything types one other) where
     pub one_value : {e : TermTree} {whole : WordType} → HasType types e whole → value_in one e ≡ value_in other e
@@ -140,6 +145,26 @@ module _ (types : Types) (one other : Values) where
     pub all_values : (wanted : WordType) (es : List TermTree) → AllSuit types wanted es → map (value_in one) es ≡ map (value_in other) es
     all_values wanted [] suits = refl
     all_values wanted (e ∷ es) suits = ap₂ (λ (v : ℕ) (vs : List ℕ). v ∷ vs) (one_value suits.0.has_type) (all_values wanted es suits.1)
+
+    -- and any expression one path
+    pub one_path : {e : TermTree} {whole : WordType} → HasType types e whole → path_in one e ≡ path_in other e
+    one_path (of_number below) = refl
+    one_path of_truth = refl
+    one_path (of_variable is) = refl
+    one_path (of_prefix has takes even) = one_path has
+    one_path (of_binary {place = place} {operator = operator} has more makes even) =
+        ap₂ (λ (p q : Path). p ++ q) (ap₂ (λ (p q : Path). p ++ q) (one_path has) (one_path more))
+        (ap₂ (marks_of place operator) (one_value has) (one_value more))
+    one_path (of_rotation has numeric low high even) = one_path has
+    one_path (of_conversion has numeric) = one_path has
+    one_path (of_selection chooser has more) =
+        ap₂ (λ (p q : Path). p ++ q) (ap₂ (λ (p q : Path). p ++ q) (one_path chooser) (one_path has)) (one_path more)
+    one_path (of_element {place = place} {size = size} is index) =
+        ap₂ (λ (p : Path) (i : ℕ). p ++ indexed place size i ∷ []) (one_path index) (one_value index)
+
+    pub one_path_all : (wanted : WordType) (es : List TermTree) → AllSuit types wanted es → path_in_all one es ≡ path_in_all other es
+    one_path_all wanted [] suits = refl
+    one_path_all wanted (e ∷ es) suits = ap₂ (λ (p q : Path). p ++ q) (one_path suits.0.has_type) (one_path_all wanted es suits.1)
 
     pub one_result : (returned : Option WordType) (value : Option TermTree) → IsResult types returned value
         → option_map (value_in one) value ≡ option_map (value_in other) value

@@ -6,6 +6,7 @@ use Rattle.inline.specs.Flat.{TermTree, term_tree}
 use Rattle.language.specs.declared.signature.Param.{Param}
 use Rattle.language.specs.declared.typing.WordType.{WordType}
 use Rattle.word.specs.declared.place.Place.{Place}
+use Rattle.word.specs.declared.profile.Profile.{Profile}
 
 mutual
   pub data StraightTree : Type 0 where
@@ -39,6 +40,8 @@ chain nothing next = next
 chain (first statement rest) next = first statement (chain rest next)
 
 pub record StraightProgram : Type 0 where
+  -- for which observer it is
+  pub profile : Profile
   pub parameters : List Param
   -- the type of its result, where it has one
   pub returned : Option WordType

@@ -8,7 +8,7 @@ use inline::{FlatVariable, Term};
 use intervals::Ranged;
 use language::{Param, WordType};
 use std::marker::Model;
-use word::Place;
+use word::{Place, Profile};
 
 /// A statement of straight code. Branches and loops are left only where what decides them is public.
 #[derive(Debug, Drop)]
@@ -38,6 +38,7 @@ pub enum StraightStatement<'f> {
 /// within the limits on size.
 #[derive(Debug, Drop)]
 pub struct Straight<'f> {
+    profile: Profile,
     parameters: &'f [Param],
     returned: Option<WordType>,
     nodes: u32,
@@ -60,9 +61,9 @@ impl<'f> Model for Straight<'f> {
 
     ghost coded = { coded_straight };
 
-    ghost view = { λ s. record { parameters = s.parameters.now; returned = s.returned; nodes = s.nodes; work = s.work; turns = s.turns.now; declared = s.declared.now; controls = s.controls; body = straight_block s.body.items; value = option_map (λ term. term_tree term.now) s.value } };
+    ghost view = { λ s. record { profile = s.profile; parameters = s.parameters.now; returned = s.returned; nodes = s.nodes; work = s.work; turns = s.turns.now; declared = s.declared.now; controls = s.controls; body = straight_block s.body.items; value = option_map (λ term. term_tree term.now) s.value } };
 
-    ghost invariant = { λ s. IsStraight (record { parameters = s.parameters.now; returned = s.returned; nodes = s.nodes; work = s.work; turns = s.turns.now; declared = s.declared.now; controls = s.controls; body = straight_block s.body.items; value = option_map (λ term. term_tree term.now) s.value }) };
+    ghost invariant = { λ s. IsStraight (record { profile = s.profile; parameters = s.parameters.now; returned = s.returned; nodes = s.nodes; work = s.work; turns = s.turns.now; declared = s.declared.now; controls = s.controls; body = straight_block s.body.items; value = option_map (λ term. term_tree term.now) s.value }) };
 }
 
 impl<'f> Straight<'f> {
@@ -72,11 +73,12 @@ impl<'f> Straight<'f> {
         controls: u32,
         body: Vec<StraightStatement<'f>>,
     ) -> Self
-        requires { IsStraight (record { parameters = ranged.now.flat.parameters; returned = ranged.now.flat.returned; nodes = ranged.now.flat.nodes; work = ranged.now.work; turns = ranged.now.turns; declared = ranged.now.flat.declared; controls = controls; body = straight_block body.items; value = ranged.now.flat.value }) }
-        ensures { result ≡ record { parameters = ranged.now.flat.parameters; returned = ranged.now.flat.returned; nodes = ranged.now.flat.nodes; work = ranged.now.work; turns = ranged.now.turns; declared = ranged.now.flat.declared; controls = controls; body = straight_block body.entry.items; value = ranged.now.flat.value } }
+        requires { IsStraight (record { profile = ranged.now.flat.profile; parameters = ranged.now.flat.parameters; returned = ranged.now.flat.returned; nodes = ranged.now.flat.nodes; work = ranged.now.work; turns = ranged.now.turns; declared = ranged.now.flat.declared; controls = controls; body = straight_block body.items; value = ranged.now.flat.value }) }
+        ensures { result ≡ record { profile = ranged.now.flat.profile; parameters = ranged.now.flat.parameters; returned = ranged.now.flat.returned; nodes = ranged.now.flat.nodes; work = ranged.now.work; turns = ranged.now.turns; declared = ranged.now.flat.declared; controls = controls; body = straight_block body.entry.items; value = ranged.now.flat.value } }
     {
         let flat = ranged.flat();
         Straight {
+            profile: flat.profile(),
             parameters: flat.parameters(),
             returned: flat.returned(),
             nodes: flat.nodes(),
@@ -87,6 +89,13 @@ impl<'f> Straight<'f> {
             body,
             value: flat.value(),
         }
+    }
+
+    /// For which observer it is.
+    pub fn profile(&self) -> Profile
+        ensures { result ≡ self.now.profile }
+    {
+        self.profile
     }
 
     /// The parameters, without their names.

@@ -76,6 +76,7 @@ abbrev mutual
 
 abbrev pub straightened : RangedProgram → StraightProgram
 straightened ranged = record {
+  profile = ranged.flat.profile;
   parameters = ranged.flat.parameters;
   returned = ranged.flat.returned;
   nodes = ranged.flat.nodes;

@@ -11,6 +11,8 @@ use Rattle.language.specs.contracts.typing.WordType as word
 use Rattle.language.specs.declared.signature.Param.{Param}
 use Rattle.language.specs.declared.typing.WordType.{WordType}
 use Rattle.word.specs.contracts.place.Place as place
+use Rattle.word.specs.contracts.profile.Profile as profile
+use Rattle.word.specs.declared.profile.Profile.{Profile}
 use Rattle.branch_removal.specs.Straight.{StraightTree, set, clear, fill, put, take, set_under, put_under, branch, repeats, StraightBlock, nothing, first, StraightProgram}
 
 abbrev head : Gv → Gv
@@ -95,8 +97,8 @@ coded_block = record { code = block_code; inj = block_inj }
 -- a program is stored as the tuple of its parts
 abbrev pub coded_straight : Coded StraightProgram
 coded_straight =
-    code_by (List Param × (Option WordType × (ℕ × (ℕ × (List ℕ × (List FlatVariable × (ℕ × (StraightBlock × Option TermTree))))))))
-    (coded× (coded_list param.the_row.coded) (coded× (coded_option word.the_row.coded) (coded× coded_ℕ (coded× coded_ℕ (coded× (coded_list coded_ℕ) (coded× (coded_list variable.the_row.coded) (coded× coded_ℕ (coded× coded_block (coded_option coded_term)))))))))
-    (λ p. (p.parameters, (p.returned, (p.nodes, (p.work, (p.turns, (p.declared, (p.controls, (p.body, p.value)))))))))
-    (λ t. record { parameters = t.0; returned = t.1.0; nodes = t.1.1.0; work = t.1.1.1.0; turns = t.1.1.1.1.0; declared = t.1.1.1.1.1.0; controls = t.1.1.1.1.1.1.0; body = t.1.1.1.1.1.1.1.0; value = t.1.1.1.1.1.1.1.1 })
+    code_by (Profile × (List Param × (Option WordType × (ℕ × (ℕ × (List ℕ × (List FlatVariable × (ℕ × (StraightBlock × Option TermTree)))))))))
+    (coded× profile.the_row.coded (coded× (coded_list param.the_row.coded) (coded× (coded_option word.the_row.coded) (coded× coded_ℕ (coded× coded_ℕ (coded× (coded_list coded_ℕ) (coded× (coded_list variable.the_row.coded) (coded× coded_ℕ (coded× coded_block (coded_option coded_term))))))))))
+    (λ p. (p.profile, (p.parameters, (p.returned, (p.nodes, (p.work, (p.turns, (p.declared, (p.controls, (p.body, p.value))))))))))
+    (λ t. record { profile = t.0; parameters = t.1.0; returned = t.1.1.0; nodes = t.1.1.1.0; work = t.1.1.1.1.0; turns = t.1.1.1.1.1.0; declared = t.1.1.1.1.1.1.0; controls = t.1.1.1.1.1.1.1.0; body = t.1.1.1.1.1.1.1.1.0; value = t.1.1.1.1.1.1.1.1.1 })
     (λ _. refl)
