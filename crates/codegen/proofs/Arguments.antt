@@ -23,6 +23,7 @@ use Rattle.language.specs.declared.values.Arg.{Arg}
 use Rattle.language.specs.declared.values.Arg.TheVariants.{Word, Array}
 use Rattle.language.specs.Size.{element_bytes, array_words}
 use Rattle.language.specs.Types.{bits_of}
+use Rattle.word.specs.declared.profile.Profile.{Profile}
 use Rattle.rv_machine.specs.Bytes.{ByteMap, number_at, with_number, zeros}
 use Rattle.rv_machine.proofs.ByteLaws.{number_at_same, number_at-with_number, with_number_below, with_number_above, is_some-with_number}
 use Rattle.rv_machine.specs.Machine.{State}
@@ -245,15 +246,15 @@ pub held_zeros : (d : FlatVariable) → IsHeld d (replicate (numbers_in d.elemen
 held_zeros d = record { count = length-replicate (numbers_in d.elements) 0; within = All-replicate (IsWithinKind d.word.kind) (numbers_in d.elements) 0 (zero_fits d.word.kind) }
 
 -- each variable holds what it is declared as in the beginning
-pub given_fits : (ps : List Param) (args : List Arg) (declared : List FlatVariable) → AreWithin ps args → take (length ps) declared ≡ map declaration_of ps → Fits (types_of declared) (given declared args)
-given_fits [] [] declared within first x d is = subst (λ (l : List ℕ). IsHeld d l) (sym (given_none declared x d is)) (held_zeros d)
-given_fits [] (arg ∷ args) declared within first x d is = absurd within
-given_fits (p ∷ ps) [] declared within first x d is = absurd within
-given_fits (p ∷ ps) (arg ∷ args) [] within first x d is = absurd (no_cons (declaration_of p) (map declaration_of ps) first)
-given_fits (p ∷ ps) (arg ∷ args) (e ∷ ds) within first zero d is =
+pub given_fits : (profile : Profile) (ps : List Param) (args : List Arg) (declared : List FlatVariable) → AreWithin ps args → take (length ps) declared ≡ map declaration_of ps → Fits (types_of profile declared) (given declared args)
+given_fits profile [] [] declared within first x d is = subst (λ (l : List ℕ). IsHeld d l) (sym (given_none declared x d is)) (held_zeros d)
+given_fits profile [] (arg ∷ args) declared within first x d is = absurd within
+given_fits profile (p ∷ ps) [] declared within first x d is = absurd within
+given_fits profile (p ∷ ps) (arg ∷ args) [] within first x d is = absurd (no_cons (declaration_of p) (map declaration_of ps) first)
+given_fits profile (p ∷ ps) (arg ∷ args) (e ∷ ds) within first zero d is =
     subst (λ (f : FlatVariable). IsHeld f (words_of arg)) (sym (head_is e (declaration_of p) (take (length ps) ds) (map declaration_of ps) first) ∙ same_Some e d is) (held_argument p arg within.0)
-given_fits (p ∷ ps) (arg ∷ args) (e ∷ ds) within first (suc x) d is =
-    given_fits ps args ds within.1 (tail_is e (declaration_of p) (take (length ps) ds) (map declaration_of ps) first) x d is
+given_fits profile (p ∷ ps) (arg ∷ args) (e ∷ ds) within first (suc x) d is =
+    given_fits profile ps args ds within.1 (tail_is e (declaration_of p) (take (length ps) ds) (map declaration_of ps) first) x d is
 
 -- the parameters end where the other variables begin, or before
 words_first : (ps : List Param) (declared : List FlatVariable) → take (length ps) declared ≡ map declaration_of ps → declared_words (map declaration_of ps) ≤ declared_words declared
@@ -284,7 +285,7 @@ module _ (z : Setting) (ps : List Param) (args : List Arg) (first : take (length
   pub loaded : Ready z (record { variables = given z.declared args; controls = λ c. false }) s
   loaded = record {
     held = record { base = base; data_there = λ o inside. ap (λ (b : ByteMap). is_some (b (z.frame + o))) bytes ∙ all_data o inside };
-    fits = given_fits ps args z.declared within first;
+    fits = given_fits z.code.profile ps args z.declared within first;
     variables_there = λ x d i is below.
         let w = place_within z.declared x d i below in
         let e = ends_before_result z.declared x d is in

@@ -24,7 +24,7 @@ record Tested (z : Setting) (condition : TermTree) (env : StraightState) (s : ma
   there : s.regs 5 ≡ value_in env.variables condition
 
 module _ (z : Setting) (depth : ℕ) (condition : TermTree) (word : WordType) (accepted otherwise : StraightBlock) (m n : ℕ) {xs ys : List Instr}
-    (has : HasType (types_of z.declared) condition word) (room : base_of z + 4 * slots_to (height_of condition) ≤ z.size) (within : depth ≤ z.depths)
+    (has : HasType (types_of z.code.profile z.declared) condition word) (room : base_of z + 4 * slots_to (height_of condition) ≤ z.size) (within : depth ≤ z.depths)
     (near : 2 * (length xs + length ys) + 8 < 2 ^ 19)
     (one : Runs z m (λ env. path_along env accepted) xs (Ready z) (Shown z depth (λ env. after_all env accepted)))
     (two : Runs z n (λ env. path_along env otherwise) ys (Ready z) (Shown z depth (λ env. after_all env otherwise))) where

@@ -307,7 +307,7 @@ words_few Uint8 size = omega arith
 words_few Uint16 size = omega arith
 words_few Uint32 size = omega arith
 
-module _ (z : Setting) (depth x size : ℕ) (typed : IsFilled z.declared x size []) (within : depth ≤ z.depths) where
+module _ (z : Setting) (depth x size : ℕ) (typed : IsFilled z.code.profile z.declared x size []) (within : depth ≤ z.depths) where
   abbrev d : FlatVariable
   d = array_as typed.word typed.mutable size
 

@@ -23,6 +23,7 @@ use Rattle.expression_code.specs.TermCode.{upper_part, lower_part, expr_code, he
 use Rattle.language.specs.declared.signature.Kind.{Kind}
 use Rattle.language.specs.declared.typing.WordType.{WordType}
 use Rattle.language.specs.Size.{element_bytes}
+use Rattle.word.specs.declared.profile.Profile.{Profile}
 use Rattle.rv_code.specs.declared.instructions.Instr.TheVariants as instr
 use Rattle.rv_code.specs.declared.operations.RegisterOperation.TheVariants.{Add}
 use Rattle.rv_code.specs.declared.operations.UpperOperation.TheVariants.{Lui}
@@ -122,8 +123,8 @@ module _ (z : Setting) (kind : Kind) (o : ℕ) (inside : o + element_bytes kind 
   element_runs = element_by (nat_lt o 2048) refl
 
 -- a variable that is not known by its type is not read
-unread : (declared : List FlatVariable) (x : ℕ) (m : Values) (l : List ℕ) (y : ℕ) (d : FlatVariable) → types_but declared x y ≡ Some d → m y ≡ with_value m x l y
-unread declared x m l y d known = by_number (y == x) known
+unread : (profile : Profile) (declared : List FlatVariable) (x : ℕ) (m : Values) (l : List ℕ) (y : ℕ) (d : FlatVariable) → (types_but profile declared x).at y ≡ Some d → m y ≡ with_value m x l y
+unread profile declared x m l y d known = by_number (y == x) known
   where
     by_number : (b : Bool) → cond b None (slice_get declared y) ≡ Some d → m y ≡ cond b l (m y)
     by_number true h = absurd cc
@@ -144,17 +145,17 @@ module _ (z : Setting) (depth : ℕ) (within : depth ≤ z.depths) (x size : ℕ
   filled k [] env = env
   filled k (e ∷ es) env = filled (k + 1) es (step k e env)
 
-  one_runs : (k : ℕ) (e : TermTree) → k < size → Suits (types_but z.declared x) word e → base_of z + 4 * slots_to (height_of e) ≤ z.size
+  one_runs : (k : ℕ) (e : TermTree) → k < size → Suits (types_but z.code.profile z.declared x) word e → base_of z + 4 * slots_to (height_of e) ≤ z.size
       → Runs z (16 * term_nodes e + 3) (steps_of e) (expr_code z.declared (base_of z) 0 e ++ element_store_code word.kind (at k)) (Ready z) (Shown z depth (step k e))
   one_runs k e below suits room =
-      let every = suits_among (types_but z.declared x) (types_of z.declared) (but_among z.declared x) word e suits in
+      let every = suits_among (types_but z.code.profile z.declared x) (types_of z.code.profile z.declared) (but_among z.code.profile z.declared x) word e suits in
       let before = element_before z x size word mutable known k below in
       let n = element_bytes word.kind in
       gives z
       (λ env s t fine ready done.
       let m = done.middle in
       let v = value_in env.variables e in
-      let fits = suits_fits z.declared word e env.variables ready.fits every in
+      let fits = suits_fits z.code.profile z.declared word e env.variables ready.fits every in
       let wrote = wrote_as z n (at k) (m.regs 5) v m t done.first.there done.second in
       record {
         ready = ready_put z x k v v d known below fits env m t (ready_valued z e env s m ready done.first) wrote (cut_element word.kind size v fits);
@@ -164,7 +165,7 @@ module _ (z : Setting) (depth : ℕ) (within : depth ≤ z.depths) (x size : ℕ
       (element_runs z word.kind (at k) (element_inside z x size word mutable known k below) (place_aligned z.declared x d k z.frame z.even))
       (λ env s t ready valued. valued.held))
 
-  fill_from : (k o : ℕ) (es : List TermTree) → o ≡ at k → AllSuit (types_but z.declared x) word es → k + length es ≤ size → base_of z + 4 * slots_to (height_of_all es) ≤ z.size
+  fill_from : (k o : ℕ) (es : List TermTree) → o ≡ at k → AllSuit (types_but z.code.profile z.declared x) word es → k + length es ≤ size → base_of z + 4 * slots_to (height_of_all es) ≤ z.size
       → Runs z (32 * terms_nodes es) (λ env. path_in_all env.variables es) (fill_code z.declared (base_of z) word.kind o es) (Ready z) (Shown z depth (filled k es))
   fill_from k o [] is suits few room =
       gives z
@@ -185,7 +186,7 @@ module _ (z : Setting) (depth : ℕ) (within : depth ≤ z.depths) (x size : ℕ
       })
       (seq z
       (as_code z (ap (λ p. expr_code z.declared (base_of z) 0 e ++ element_store_code word.kind p) is) (one_runs k e (omega (arith, few)) suits.0 (omega (arith, room, a))))
-      (along z (λ env. one_path_all (types_but z.declared x) env.variables (step k e env).variables (λ y f there public. unread z.declared x env.variables _ y f there) word es suits.1)
+      (along z (λ env. one_path_all (types_but z.code.profile z.declared x) env.variables (step k e env).variables (λ y f there seen. unread z.code.profile z.declared x env.variables _ y f there) word es suits.1)
       (beside z (step k e) (fill_from (k + 1) (o + element_bytes word.kind) es (omega (arith, is)) suits.1 (omega (arith, few)) (omega (arith, room, b)))))
       (λ env s t ready done. done.ready)))
 
@@ -201,7 +202,7 @@ module _ (z : Setting) (depth : ℕ) (within : depth ≤ z.depths) (x size : ℕ
   controls_kept k [] env c = refl
   controls_kept k (e ∷ es) env c = controls_kept (k + 1) es (step k e env) c
 
-  values_there : (k : ℕ) (es : List TermTree) (env : StraightState) (front back : List ℕ) → AllSuit (types_but z.declared x) word es
+  values_there : (k : ℕ) (es : List TermTree) (env : StraightState) (front back : List ℕ) → AllSuit (types_but z.code.profile z.declared x) word es
       → env.variables x ≡ front ++ back → length front ≡ k → length back ≡ length es → (filled k es env).variables x ≡ front ++ map (value_in env.variables) es
   values_there k [] env front back suits is long short = is ∙ ap (λ (b : List ℕ). front ++ b) (nil_from_length back short)
   values_there k (e ∷ es) env front [] suits is long short = absurd (omega (arith, short))
@@ -213,9 +214,9 @@ module _ (z : Setting) (depth : ℕ) (within : depth ≤ z.depths) (x size : ℕ
       let more = length-append front (v ∷ []) in
       values_there (k + 1) es (step k e env) (front ++ v ∷ []) back suits.1 all (omega (arith, more, long)) (omega (arith, short))
       ∙ (append_assoc front (v ∷ []) (map (value_in (step k e env).variables) es)
-      ∙ ap (λ (vs : List ℕ). front ++ v ∷ vs) (sym (all_values (types_but z.declared x) env.variables (step k e env).variables (λ y f there seen. unread z.declared x env.variables _ y f there) word es suits.1)))
+      ∙ ap (λ (vs : List ℕ). front ++ v ∷ vs) (sym (all_values (types_but z.code.profile z.declared x) env.variables (step k e env).variables (λ y f there seen. unread z.code.profile z.declared x env.variables _ y f there) word es suits.1)))
 
-  all_filled : (values : List TermTree) (env : StraightState) → AllSuit (types_but z.declared x) word values → length (env.variables x) ≡ length values → (y : ℕ)
+  all_filled : (values : List TermTree) (env : StraightState) → AllSuit (types_but z.code.profile z.declared x) word values → length (env.variables x) ≡ length values → (y : ℕ)
       → (filled 0 values env).variables y ≡ (with_variable env x (map (value_at env) values)).variables y
   all_filled values env suits long y = by_number (y == x) refl
     where
@@ -223,7 +224,7 @@ module _ (z : Setting) (depth : ℕ) (within : depth ≤ z.depths) (x size : ℕ
       by_number true is = ap (λ n. (filled 0 values env).variables n) (eqb-true y x is) ∙ values_there 0 values env [] (env.variables x) suits refl refl long
       by_number false is = other_kept 0 values env y is
 
-pub fill_runs : (z : Setting) (depth x : ℕ) (values : List TermTree) → IsFilled z.declared x (length values) values → base_of z + 4 * slots_to (height_of_all values) ≤ z.size → depth ≤ z.depths
+pub fill_runs : (z : Setting) (depth x : ℕ) (values : List TermTree) → IsFilled z.code.profile z.declared x (length values) values → base_of z + 4 * slots_to (height_of_all values) ≤ z.size → depth ≤ z.depths
     → Runs z (32 * (1 + length values + terms_nodes values)) (λ env. path_at env (fill x values)) (statement_code z.declared z.controls z.depths depth (fill x values)) (Ready z) (Shown z depth (λ env. after env (fill x values)))
 fill_runs z depth x values typed room within =
     let d : FlatVariable = array_as typed.word typed.mutable (length values) in

@@ -32,6 +32,7 @@ is_generated p room =
     let words : length (map word_of (program_code p)) ≡ length (program_code p) = length-map {B = ℕ} (program_code p) word_of in
     let most = room.code in
     record {
+      profile = refl;
       parameters = slot_params 0 p.parameters;
       returned = slot_type p.declared p.returned;
       max_steps = refl;

@@ -18,8 +18,9 @@ use Rattle.language.specs.declared.signature.Kind.TheVariants.{Boolean, Uint8, U
 use Rattle.language.specs.declared.signature.Param.{Param}
 use Rattle.language.specs.declared.typing.WordType.{WordType}
 use Rattle.language.specs.Size.{held_words, array_words}
+use Rattle.word.specs.declared.profile.Profile.{Profile}
 use Rattle.expression_code.proofs.OffsetLemmas.{parameter_words}
-use Rattle.codegen.specs.private.Generated.{program_base, program_code, program_slots, result_slot, step_limit, image_of}
+use Rattle.codegen.specs.private.Generated.{program_base, program_code, program_slots, result_slot, step_limit}
 use Rattle.expression_code.specs.Layout.{slots_from, result_offset}
 use Rattle.codegen.specs.private.Room.{HasRoom}
 use Rattle.inline.specs.declared.flat.FlatVariable.{FlatVariable}
@@ -120,9 +121,10 @@ room_frame p room =
     let f = room.frame in
     omega (arith, d, n, f)
 
--- the fields that are generated for a program with room are allowed
-pub image_allowed : (p : StraightProgram) → HasRoom p → AllByRecursion (λ word. word < 2 ^ 32) (map word_of (program_code p)) → IsImage (image_of p)
-image_allowed p room fit =
+-- the fields that are generated for a program with room are allowed, whoever the observer is
+image_allowed : (p : StraightProgram) (profile : Profile) → HasRoom p → AllByRecursion (λ word. word < 2 ^ 32) (map word_of (program_code p))
+    → IsImage (record { profile = profile; slots = slots_from 0 p.parameters; returned = option_map (result_slot p.declared) p.returned; frame_bytes = program_base p + 4 * program_slots p; max_steps = step_limit p.work; words = map word_of (program_code p) })
+image_allowed p profile room fit =
     let few = room.parameters in
     let g = room.given in
     let d = room.declared in
@@ -149,11 +151,11 @@ image_allowed p room fit =
     }
 
 -- so are fields that are equal to them, one by one
-pub fields_allowed : (p : StraightProgram) → HasRoom p → (slots : List Slot) (returned : Option ResultSlot) (frame steps : ℕ) (words : List ℕ)
+pub fields_allowed : (p : StraightProgram) → HasRoom p → (profile : Profile) (slots : List Slot) (returned : Option ResultSlot) (frame steps : ℕ) (words : List ℕ)
     → slots ≡ slots_from 0 p.parameters → returned ≡ option_map (result_slot p.declared) p.returned
     → frame ≡ program_base p + 4 * program_slots p → steps ≡ step_limit p.work
     → words ≡ map word_of (program_code p) → All (λ word. word < 2 ^ 32) words
-    → IsImage (record { slots = slots; returned = returned; frame_bytes = frame; max_steps = steps; words = words })
-fields_allowed p room slots returned frame steps words a b c d e fit =
-    let allowed = image_allowed p room (subst (AllByRecursion (λ word. word < 2 ^ 32)) e (recursion_from_All (λ word. word < 2 ^ 32) words fit)) in
+    → IsImage (record { profile = profile; slots = slots; returned = returned; frame_bytes = frame; max_steps = steps; words = words })
+fields_allowed p room profile slots returned frame steps words a b c d e fit =
+    let allowed = image_allowed p profile room (subst (AllByRecursion (λ word. word < 2 ^ 32)) e (recursion_from_All (λ word. word < 2 ^ 32) words fit)) in
     rw (a, b, c, d, e) allowed

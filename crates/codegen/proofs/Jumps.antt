@@ -1,5 +1,5 @@
 -- Code that jumps: of two lists one is run, or a list is run again and again.
-use Rattle.std.proofs.Common.{◌≡◌, ◌≢◌, ℕ, zero, suc, ◌+◌, ◌-◌, ◌*◌, ◌%◌, ◌^◌, ◌<◌, ◌≤◌, ◌==◌, Bool, true, false, not, cond, if◌then◌else◌, List, [], ◌∷◌, ◌++◌, length, None, All, refl, sym, ap, ◌∙◌, subst, arith, length-append, append_assoc}
+use Rattle.std.proofs.Common.{◌≡◌, ◌≢◌, ℕ, zero, suc, ◌+◌, ◌-◌, ◌*◌, ◌%◌, ◌^◌, ◌<◌, ◌≤◌, ◌==◌, Bool, true, false, not, cond, if◌then◌else◌, List, [], ◌∷◌, ◌++◌, length, None, All, refl, sym, ap, ◌∙◌, subst, arith, length-append}
 use Rattle.std.proofs.Math.Path.{fun_ext}
 use Rattle.std.proofs.lemmas.Bool.{true≢false, eqb-true}
 use Rattle.std.proofs.lemmas.Bool.Decides.{nat_tests}
@@ -21,7 +21,7 @@ use Rattle.rv_machine.specs.Machine.{with_link, moved_to, next}
 use Rattle.rv_machine.specs.Registers.{with_register}
 use Rattle.rv_machine.proofs.TurnLaws.{with_link-pc, with_link-regs, with_link-bytes, moved_to-pc, moved_to-regs, moved_to-bytes, jump_leads, branch_leads, branch_passes}
 use Rattle.expression_code.proofs.Steps.{All-one, stands}
-use Rattle.expression_code.proofs.Straight.{Setting, Placed, Placed-left, Placed-right, Before, After, Steps, none, Leak, always, both, fine_left, fine_right, Ends, Straight, Runs, then_ends, ends_as, ends_to, ends_by, ends_on, Placed-below}
+use Rattle.expression_code.proofs.Straight.{Setting, seen_by, seen_then, Placed, Placed-left, Placed-right, Before, After, Steps, none, Leak, always, both, fine_left, fine_right, Ends, Straight, Runs, then_ends, ends_as, ends_to, ends_by, ends_on, Placed-below}
 
 -- only the program counter has changed
 pub record Still (s t : machine.State) : Type 0 where
@@ -178,7 +178,7 @@ module _ (z : Setting) where
       second_arm = two (middle + 4) after_arm.3
 
       by_case : (c : Bool) (env : StraightState) (s : machine.State) (rest : Path) → (value env == 0) ≡ c → s.pc ≡ p → AreFine z.counts (cond c (b env) (a env)) → P env s
-          → Ends z (2 + m + n) (p + 4 * length (branch_code xs ys)) (cond c (both (both (always (shown_at p)) (always (shown_at (p + 4)))) second_arm.leak) (both (both (always (shown_at p)) first_arm.leak) (always (shown_at middle)))) (cond c (b env) (a env) ++ rest) rest (S env s) s
+          → Ends z (2 + m + n) (p + 4 * length (branch_code xs ys)) (cond c (both (both (always (shown_at p)) (always (shown_at (p + 4)))) second_arm.leak) (both (both (always (shown_at p)) first_arm.leak) (always (shown_at middle)))) (seen_by z (cond c (b env) (a env)) ++ rest) rest (S env s) s
       by_case true env s rest is at fine fit =
           let none' = eqb-true (value env) 0 is in
           let arm = after_arm.1 in
@@ -187,9 +187,9 @@ module _ (z : Setting) where
           ends_as z
           (then_ends z
           (then_ends z
-          (pass_ends p (b env ++ rest) (placed.0, placed.1, placed.2, tt) s at (tested env s fit ∙ none'))
+          (pass_ends p (seen_by z (b env) ++ rest) (placed.0, placed.1, placed.2, tt) s at (tested env s fit ∙ none'))
           (λ t there still.
-          ends_to z (over_ends (p + 4) (length xs + 1) (b env ++ rest) (placed.3.0, placed.3.1, placed.3.2, tt) (omega (arith, near)) (omega (arith, arm, past)) t there) past
+          ends_to z (over_ends (p + 4) (length xs + 1) (seen_by z (b env) ++ rest) (placed.3.0, placed.3.1, placed.3.2, tt) (omega (arith, near)) (omega (arith, arm, past)) t there) past
           (λ u again. record { regs = again.regs ∙ still.regs; bytes = again.bytes ∙ still.bytes })))
           (λ u there still. ends_to z {R = λ v. S env s v} (second_arm.runs env u rest there fine (rejects env s u none' fit still)) refl (λ v done. rejected env s u v none' fit still done)))
           (omega arith) (omega (arith, e)) (λ v done. done)
@@ -201,7 +201,7 @@ module _ (z : Setting) where
           ends_as z
           (then_ends z
           (then_ends z
-          (ends_to z (skip_ends p (a env ++ rest) (placed.0, placed.1, placed.2, tt) (omega (arith, arm)) s at (λ e. some (sym (tested env s fit) ∙ e))) (omega arith) (λ t still. still))
+          (ends_to z (skip_ends p (seen_by z (a env) ++ rest) (placed.0, placed.1, placed.2, tt) (omega (arith, arm)) s at (λ e. some (sym (tested env s fit) ∙ e))) (omega arith) (λ t still. still))
           (λ t there still. ends_to z {R = λ u. Between Q env s u} (first_arm.runs env t rest there fine (accepts env s t some fit still)) refl (λ u done. record { start = t; still = still; done = done })))
           (λ u there done.
           ends_to z {R = λ v. S env s v} (over_ends middle (length ys) rest (after_arm.0, after_arm.1, after_arm.2, tt) (omega (arith, near)) below u there) refl
@@ -277,7 +277,7 @@ module _ (z : Setting) where
         done : D left i env between v
 
       runs_at : (left i : ℕ) (env : StraightState) (o s : machine.State) (rest : Path) → s.pc ≡ p → AreFine z.counts (path_of_turns left i turn path env) → Inv left i env o s
-          → Ends z ((left + 1) * (m + n + 2)) (p + 4 * length (loop_code test body)) (leak_at left i) (path_of_turns left i turn path env ++ rest) rest (Over (turns left i turn env) o) s
+          → Ends z ((left + 1) * (m + n + 2)) (p + 4 * length (loop_code test body)) (leak_at left i) (seen_by z (path_of_turns left i turn path env) ++ rest) rest (Over (turns left i turn env) o) s
       unfolding leak_at
       runs_at zero i env o s rest at fine inv =
           let e = ended in
@@ -296,6 +296,7 @@ module _ (z : Setting) where
           (omega arith) e (λ t done. done)
       runs_at (suc left) i env o s rest at fine inv =
           let tail = path_of_turns left (i + 1) turn path (turn i env) in
+          let more = seen_by z tail ++ rest in
           let e = ended in
           let b = from_back.1 in
           let there' : back_at ≡ p + 4 * (length test + 2 + length body) = omega arith in
@@ -305,18 +306,18 @@ module _ (z : Setting) where
           (then_ends z
           (then_ends z
           (then_ends z
-          ((test_at (suc left) i).runs env s (path i env ++ (tail ++ rest)) at tt (enters (suc left) i env o s inv))
+          ((test_at (suc left) i).runs env s (seen_by z (path i env) ++ more) at tt (enters (suc left) i env o s inv))
           (λ t there done.
-          ends_to z {R = Tested (suc left) i env s} (skip_ends tested_at (path i env ++ (tail ++ rest)) (from_skip.0, from_skip.1, from_skip.2, tt) (omega (arith, b)) t there (goes left i env o s t inv done)) (omega arith)
+          ends_to z {R = Tested (suc left) i env s} (skip_ends tested_at (seen_by z (path i env) ++ more) (from_skip.0, from_skip.1, from_skip.2, tt) (omega (arith, b)) t there (goes left i env o s t inv done)) (omega arith)
           (λ u still. record { between = t; done = done; still = still })))
           (λ u there tested.
-          ends_to z {R = Turned left i env s} ((body_at left i).runs env u (tail ++ rest) there (fine_left z.counts (path i env) tail fine) (prepares left i env o s tested.between u inv tested.done tested.still)) refl
+          ends_to z {R = Turned left i env s} ((body_at left i).runs env u more there (fine_left z.counts (path i env) tail fine) (prepares left i env o s tested.between u inv tested.done tested.still)) refl
           (λ v done. record { between = u; tested = tested; done = done })))
           (λ v there done.
-          ends_to z {R = Inv left (i + 1) (turn i env) o} (back_ends p (length test + 2 + length body) back_at (tail ++ rest) from_back (omega arith) (omega (arith, near)) there' v there) refl
+          ends_to z {R = Inv left (i + 1) (turn i env) o} (back_ends p (length test + 2 + length body) back_at more from_back (omega arith) (omega (arith, near)) there' v there) refl
           (λ w still. turned left i env o s done.tested.between done.between v w inv done.tested.done done.tested.still done.done still)))
           (λ w there again. runs_at left (i + 1) (turn i env) o w rest there (fine_right z.counts (path i env) tail fine) again))
-          (append_assoc (path i env) tail rest))
+          (seen_then z (path i env) tail rest))
           (omega arith) refl (λ t done. done)
 
     -- so many turns, the first at this number

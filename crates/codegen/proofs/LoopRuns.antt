@@ -180,7 +180,7 @@ module _ (z : Setting) (depth : ℕ) (within : depth < z.depths) where
     there : number_at t.bytes 4 (z.frame + o) ≡ Some (value_in env.variables e)
     kept : Kept z o s t
 
-  pushed : (e : TermTree) (o : ℕ) → HasType (types_of z.declared) e counter_type → base_of z + 4 * slots_to (height_of e) ≤ z.size → o ≤ base_of z → o % 4 ≡ 0 → o + 4 ≤ z.size
+  pushed : (e : TermTree) (o : ℕ) → HasType (types_of z.code.profile z.declared) e counter_type → base_of z + 4 * slots_to (height_of e) ≤ z.size → o ≤ base_of z → o % 4 ≡ 0 → o + 4 ≤ z.size
       → Runs z (16 * term_nodes e + 3) (λ env. path_in env.variables e) (expr_code z.declared (base_of z) 0 e ++ store_code 5 o) (Ready z) (Pushed e o)
   pushed e o has room below aligned inside =
       gives z
@@ -190,7 +190,7 @@ module _ (z : Setting) (depth : ℕ) (within : depth < z.depths) where
       let two = done.second in
       record {
         held = two.held;
-        there = put_there z 5 o (value_in env.variables e) env m t two one.there (value_word z.declared e counter_type env.variables ready.fits has);
+        there = put_there z 5 o (value_in env.variables e) env m t two one.there (value_word z.code.profile z.declared e counter_type env.variables ready.fits has);
         kept = kept_then z o s m t (kept_less z o (base_of z) s m below one.kept) (put_kept z 4 5 o env m t two);
       })
       (quiet z (first_runs z has room)
@@ -200,7 +200,7 @@ module _ (z : Setting) (depth : ℕ) (within : depth < z.depths) where
   abbrev Begun : TermTree → TermTree → StraightState → machine.State → machine.State → Type 0
   Begun low high env s t = AtLoop z next (value_in env.variables high - value_in env.variables low) (value_in env.variables low) env t × Hidden z depth s t
 
-  bounds_runs : (low high : TermTree) → HasType (types_of z.declared) low counter_type → HasType (types_of z.declared) high counter_type → base_of z + 4 * slots_to (height_of low) ≤ z.size → base_of z + 4 * slots_to (height_of high) ≤ z.size
+  bounds_runs : (low high : TermTree) → HasType (types_of z.code.profile z.declared) low counter_type → HasType (types_of z.code.profile z.declared) high counter_type → base_of z + 4 * slots_to (height_of low) ≤ z.size → base_of z + 4 * slots_to (height_of high) ≤ z.size
       → Runs z (16 * term_nodes low + 3 + (16 * term_nodes high + 3)) (λ env. path_in env.variables low ++ path_in env.variables high) (bounds_code z.declared next (base_of z) low high) (Ready z) (Begun low high)
   bounds_runs low high has_low has_high room_low room_high =
       let inside = next_inside in
@@ -216,7 +216,7 @@ module _ (z : Setting) (depth : ℕ) (within : depth < z.depths) where
           next_there = kept_number z (next + 4) m t two.kept 4 next (omega arith) ∙ one.there;
           bound = value_in env.variables high;
           left_is = refl;
-          bound_small = value_word z.declared high counter_type env.variables ready.fits has_high;
+          bound_small = value_word z.code.profile z.declared high counter_type env.variables ready.fits has_high;
           bound_there = two.there;
         },
         hidden_then z depth s m t (hidden_below z depth next s m (omega arith) one.kept) (hidden_below z depth (next + 4) m t (omega arith) two.kept),
@@ -229,7 +229,7 @@ module _ (z : Setting) (depth : ℕ) (within : depth < z.depths) where
 
   module _ (x : ℕ) (low high : TermTree) (body : StraightBlock) (n : ℕ) {ys : List Instr}
       (known : slice_get z.declared x ≡ Some (word_as counter_type false))
-      (has_low : HasType (types_of z.declared) low counter_type) (has_high : HasType (types_of z.declared) high counter_type)
+      (has_low : HasType (types_of z.code.profile z.declared) low counter_type) (has_high : HasType (types_of z.code.profile z.declared) high counter_type)
       (room_low : base_of z + 4 * slots_to (height_of low) ≤ z.size) (room_high : base_of z + 4 * slots_to (height_of high) ≤ z.size)
       (near : 2 * (length (test_code next) + length (count_code next (variable_offset z.declared x) ++ ys)) + 8 < 2 ^ 19)
       (inner : Runs z n (λ env. path_along env body) ys (Ready z) (Shown z (depth + 1) (λ env. after_all env body))) where

@@ -18,6 +18,7 @@ use Rattle.language.specs.declared.signature.Kind.{Kind}
 use Rattle.language.specs.declared.signature.Kind.TheVariants.{Boolean, Uint8, Uint16, Uint32}
 use Rattle.language.specs.declared.typing.WordType.{WordType}
 use Rattle.language.specs.Size.{array_words}
+use Rattle.word.specs.declared.profile.Profile.{Profile}
 use Rattle.codegen.proofs.CodeLengths.{block_length, test_length, count_length}
 use Rattle.expression_code.proofs.Places.{ends_before_result}
 use Rattle.expression_code.proofs.TermTypes.{typed_within, typed_among}
@@ -33,19 +34,19 @@ known_but : (declared : List FlatVariable) (x y : ℕ) (d : FlatVariable) (b : B
 known_but declared x y d true is = absurd (none-some d is)
 known_but declared x y d false is = slice_get_within declared y d is
 
-module _ (declared : List FlatVariable) (controls depths : ℕ) (small : 4 * declared_words declared ≤ 40768) where
+module _ (profile : Profile) (declared : List FlatVariable) (controls depths : ℕ) (small : 4 * declared_words declared ≤ 40768) where
   abbrev free : ℕ
   free = temporaries_offset declared controls depths
 
-  term_placed : {e : TermTree} {word : WordType} (place : ℕ) → HasType (types_of declared) e word → free + 4 * slots_to (height_of e + place) ≤ 65536 → IsPlaced (length declared) free place e
-  term_placed place has room = (typed_among declared has, room)
+  term_placed : {e : TermTree} {word : WordType} (place : ℕ) → HasType (types_of profile declared) e word → free + 4 * slots_to (height_of e + place) ≤ 65536 → IsPlaced (length declared) free place e
+  term_placed place has room = (typed_among profile declared has, room)
 
-  values_placed : (x : ℕ) (word : WordType) (es : List TermTree) → AllSuit (types_but declared x) word es → free + 4 * slots_to (height_of_all es) ≤ 65536 → ArePlacedTerms (length declared) free es
+  values_placed : (x : ℕ) (word : WordType) (es : List TermTree) → AllSuit (types_but profile declared x) word es → free + 4 * slots_to (height_of_all es) ≤ 65536 → ArePlacedTerms (length declared) free es
   values_placed x word [] suit room = tt
   values_placed x word (e ∷ es) suit room =
       let l = le-max_left (height_of e) (height_of_all es) in
       let r = le-max_right (height_of e) (height_of_all es) in
-      ((typed_within (length declared) (types_but declared x) (λ y d is. known_but declared x y d (y == x) is) suit.0.has_type, omega (arith, room, l)), values_placed x word es suit.1 (omega (arith, room, r)))
+      ((typed_within (length declared) (types_but profile declared x) (λ y d is. known_but declared x y d (y == x) is) suit.0.has_type, omega (arith, room, l)), values_placed x word es suit.1 (omega (arith, room, r)))
 
   fits_in_frame : (x size : ℕ) (word : WordType) (mutable : Bool) → slice_get declared x ≡ Some (array_as word mutable size) → (size ≤ 65536) × (variable_offset declared x + 4 * size ≤ 262144)
   fits_in_frame x size word mutable known =
@@ -54,7 +55,7 @@ module _ (declared : List FlatVariable) (controls depths : ℕ) (small : 4 * dec
       (omega (arith, e, n, small), omega (arith, e, n, small))
 
   mutual
-    statement_placed : (depth : ℕ) (s : StraightTree) → IsTyped declared controls s → free + 4 * slots_to (height_in s) ≤ 65536 → depth + depth_in s ≤ depths → statement_nodes s ≤ 6000 → HasPlace declared controls depths depth s
+    statement_placed : (depth : ℕ) (s : StraightTree) → IsTyped profile declared controls s → free + 4 * slots_to (height_in s) ≤ 65536 → depth + depth_in s ≤ depths → statement_nodes s ≤ 6000 → HasPlace declared controls depths depth s
     statement_placed depth (set x value) typed room deep nodes = (slice_get_within declared x _ typed.known, term_placed 0 typed.suits.has_type (omega (arith, room)))
     statement_placed depth (clear x size) typed room deep nodes =
         (slice_get_within declared x _ typed.known, (fits_in_frame x size typed.word typed.mutable typed.known).0)
@@ -107,7 +108,7 @@ module _ (declared : List FlatVariable) (controls depths : ℕ) (small : 4 * dec
           omega (arith, e, f, g, h, nodes),
         )
 
-    pub blocks_placed : (depth : ℕ) (b : StraightBlock) → AreTyped declared controls b → free + 4 * slots_to (height_in_all b) ≤ 65536 → depth + depth_in_all b ≤ depths → block_nodes b ≤ 6000 → HavePlaces declared controls depths depth b
+    pub blocks_placed : (depth : ℕ) (b : StraightBlock) → AreTyped profile declared controls b → free + 4 * slots_to (height_in_all b) ≤ 65536 → depth + depth_in_all b ≤ depths → block_nodes b ≤ 6000 → HavePlaces declared controls depths depth b
     blocks_placed depth nothing typed room deep nodes = tt
     blocks_placed depth (first s rest) typed room deep nodes =
         let l = le-max_left (height_in s) (height_in_all rest) in

@@ -130,7 +130,7 @@ module _ (z : Setting) (x size : ℕ) (word : WordType) (mutable : Bool) (known 
 
   -- The index and the value.
 
-  module _ (place : Place) (index value : TermTree) (has : HasType (types_of z.declared) index counter_type) (word' : WordType) (has' : HasType (types_of z.declared) value word')
+  module _ (place : Place) (index value : TermTree) (has : HasType (types_of z.code.profile z.declared) index counter_type) (word' : WordType) (has' : HasType (types_of z.code.profile z.declared) value word')
       (room : base_of z + 4 * slots_to (height_of_put index value) ≤ z.size) (depth : ℕ) (within : depth ≤ z.depths) where
     abbrev number_of : StraightState → ℕ
     number_of env = value_in env.variables index
@@ -197,7 +197,7 @@ module _ (z : Setting) (x size : ℕ) (word : WordType) (mutable : Bool) (known 
         let b = element_before i below in
         gives z
         (λ env s t fine aimed wrote.
-        let fits : value_of env < 2 ^ bits_of word.kind = subst (λ k. value_of env < 2 ^ bits_of k) same (value_fits (types_of z.declared) env.variables aimed.ready.fits has') in (
+        let fits : value_of env < 2 ^ bits_of word.kind = subst (λ k. value_of env < 2 ^ bits_of k) same (value_fits (types_of z.code.profile z.declared) env.variables aimed.ready.fits has') in (
           hidden_wrote z depth (element_bytes word.kind) (at i) (value_of env) s t (omega (arith, b)) wrote,
           λ is. subst (λ j. Ready z (with_element env x j (value_of env)) t) (sym is)
               (ready_put z x i (value_of env) (value_of env) d known below fits env s t aimed.ready wrote (cut_element word.kind size (value_of env) fits)),
@@ -262,7 +262,7 @@ module _ (z : Setting) (x size : ℕ) (word : WordType) (mutable : Bool) (known 
           let x7 : m2.regs 7 ≡ old = two.others 7 (λ e. omega arith) ∙ one.old in
           let x6 : m2.regs 6 ≡ v = two.others 6 (λ e. omega arith) ∙ one.new in
           let mixed : merged (m2.regs 29) (m2.regs 7) (m2.regs 6) ≡ merged (mask_of mask) old v = ap (λ m. merged m (m2.regs 7) (m2.regs 6)) x29 ∙ (ap (λ m. merged (mask_of mask) m (m2.regs 6)) x7 ∙ ap (λ m. merged (mask_of mask) old m) x6) in
-          let fits : v < 2 ^ bits_of word.kind = subst (λ k. v < 2 ^ bits_of k) same_kind (value_fits (types_of z.declared) env.variables aimed.ready.fits has') in
+          let fits : v < 2 ^ bits_of word.kind = subst (λ k. v < 2 ^ bits_of k) same_kind (value_fits (types_of z.code.profile z.declared) env.variables aimed.ready.fits has') in
           let long = (aimed.ready.fits x d known).count in
           let old_fits : old < 2 ^ bits_of word.kind = (aimed.ready.fits x d known).within i 0 (omega (arith, long, below)) in
           let made : m3.regs 6 ≡ chosen env i = ap (λ (regs : ℕ → ℕ). regs 6) three.registers ∙ (mixed ∙ merge mask old v (cut_kind word.kind old old_fits) (cut_kind word.kind v fits)) in
@@ -302,7 +302,7 @@ module _ (z : Setting) (x size : ℕ) (word : WordType) (mutable : Bool) (known 
           under_same false env t j ready =
               ready_under z false x (env.variables x) env t (subst (λ (l : List ℕ). Ready z (with_variable env x l) t) (set-get_or (env.variables x) j 0) ready)
 
-module _ (z : Setting) (depth : ℕ) (place : Place) (x size : ℕ) (index value : TermTree) (typed : IsPut z.declared x size index value) (room : base_of z + 4 * slots_to (height_of_put index value) ≤ z.size) (within : depth ≤ z.depths) where
+module _ (z : Setting) (depth : ℕ) (place : Place) (x size : ℕ) (index value : TermTree) (typed : IsPut z.code.profile z.declared x size index value) (room : base_of z + 4 * slots_to (height_of_put index value) ≤ z.size) (within : depth ≤ z.depths) where
   kind_is : kind_at z.declared x ≡ typed.word.kind
   kind_is = kind_known z.declared x (array_as typed.word typed.mutable size) typed.known
 

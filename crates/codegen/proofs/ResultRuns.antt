@@ -28,7 +28,7 @@ pub record Given (z : Setting) (value : Option TermTree) (env : StraightState) (
   pub left : Left z.frame z.declared value env.variables t.bytes
 
 module _ (z : Setting) where
-  pub result_runs : (returned : Option WordType) (value : Option TermTree) → IsResult (types_of z.declared) returned value → base_of z + 4 * slots_to (result_height value) ≤ z.size → Runs z (32 * value_nodes value) (steps_of_result value) (result_code z.declared (base_of z) value) (Ready z) (Given z value)
+  pub result_runs : (returned : Option WordType) (value : Option TermTree) → IsResult (types_of z.code.profile z.declared) returned value → base_of z + 4 * slots_to (result_height value) ≤ z.size → Runs z (32 * value_nodes value) (steps_of_result value) (result_code z.declared (base_of z) value) (Ready z) (Given z value)
   result_runs returned None typed room =
       gives z
       (λ env s t fine ready still. record { ready = subst (λ (u : machine.State). Ready z env u) (sym still) ready; left = tt })
@@ -44,7 +44,7 @@ module _ (z : Setting) where
       let v = value_in env.variables value in
       record {
         ready = ready_result z env m t (m.regs 5) (ready_valued z value env s m ready done.first) (put_wrote z 4 5 o env m t done.second);
-        left = put_there z 5 o v env m t done.second done.first.there (value_word z.declared value typed.word env.variables ready.fits typed.has_type);
+        left = put_there z 5 o v env m t done.second done.first.there (value_word z.code.profile z.declared value typed.word env.variables ready.fits typed.has_type);
       })
       (quiet z (value_runs z word value typed room)
       (store_runs z 5 (omega arith) (λ e. omega arith) (λ e. omega arith) o (omega arith) (omega (arith, space)))

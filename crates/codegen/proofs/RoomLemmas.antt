@@ -21,6 +21,7 @@ use Rattle.inline.specs.FlatSize.{declared_words, value_nodes}
 use Rattle.inline.specs.FlatTyping.{types_of, IsResult}
 use Rattle.language.specs.declared.typing.WordType.{WordType}
 use Rattle.rv_code.specs.declared.instructions.Instr.TheVariants.{Ecall}
+use Rattle.word.specs.declared.profile.Profile.{Profile}
 
 result_length : (declared : List FlatVariable) (free : ℕ) (value : Option TermTree) → length (result_code declared free value) ≤ 32 * value_nodes value
 result_length declared free None = omega arith
@@ -85,15 +86,15 @@ module _ (p : StraightProgram) (typed : IsTypedStraight p) (is : IsBounded p) wh
   }
 
 -- what the result's expression names is declared
-pub result_among : (declared : List FlatVariable) (returned : Option WordType) (value : Option TermTree) → IsResult (types_of declared) returned value
+pub result_among : (profile : Profile) (declared : List FlatVariable) (returned : Option WordType) (value : Option TermTree) → IsResult (types_of profile declared) returned value
     → (e : TermTree) → value ≡ Some e → IsAmong (length declared) e
-result_among declared None None typed e is = absurd (no_result is)
+result_among profile declared None None typed e is = absurd (no_result is)
   where
     no_result : None ≡ Some e → ⊥
     no_result h = cc
-result_among declared (Some word) (Some value) typed e is = subst (IsAmong (length declared)) (same_Some value e is) (typed_among declared typed.has_type)
-result_among declared None (Some value) typed e is = absurd typed
-result_among declared (Some word) None typed e is = absurd typed
+result_among profile declared (Some word) (Some value) typed e is = subst (IsAmong (length declared)) (same_Some value e is) (typed_among profile declared typed.has_type)
+result_among profile declared None (Some value) typed e is = absurd typed
+result_among profile declared (Some word) None typed e is = absurd typed
 
 -- the statements have their places
 pub body_placed : (p : StraightProgram) → HasRoom p → HavePlaces p.declared p.controls (depth_in_all p.body) 0 p.body
@@ -103,4 +104,4 @@ body_placed p room =
     let c = room.counted in
     let f = room.frame in
     let h = le-max_left (height_in_all p.body) (result_height p.value) in
-    blocks_placed p.declared p.controls (depth_in_all p.body) d 0 p.body room.typed.body (omega (arith, d, n, f, h)) (omega arith) (omega (arith, c, n))
+    blocks_placed p.profile p.declared p.controls (depth_in_all p.body) d 0 p.body room.typed.body (omega (arith, d, n, f, h)) (omega arith) (omega (arith, c, n))

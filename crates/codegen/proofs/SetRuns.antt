@@ -88,7 +88,7 @@ module _ (z : Setting) where
       (computing_runs z (instr.Register And 7 7 6 ∷ instr.Register And 5 5 6 ∷ []) refl)
       (λ env s t prepared took. took.held))
 
-  pub set_runs : (depth x : ℕ) (value : TermTree) → IsSet z.declared x value → base_of z + 4 * slots_to (height_of value) ≤ z.size → depth ≤ z.depths
+  pub set_runs : (depth x : ℕ) (value : TermTree) → IsSet z.code.profile z.declared x value → base_of z + 4 * slots_to (height_of value) ≤ z.size → depth ≤ z.depths
       → Runs z (32 * (1 + term_nodes value)) (steps_of value) (expr_code z.declared (base_of z) 0 value ++ store_code 5 (variable_offset z.declared x)) (Ready z) (Shown z depth (λ env. with_variable env x (value_in env.variables value ∷ [])))
   set_runs depth x value typed room within =
       let o = variable_offset z.declared x in
@@ -101,7 +101,7 @@ module _ (z : Setting) where
       let v = value_in env.variables value in
       let wrote = wrote_as z 4 o (m.regs 5) v m t done.first.there (put_wrote z 4 5 o env m t done.second) in
       record {
-        ready = ready_set z x v typed.word typed.mutable typed.known (suits_fits z.declared typed.word value env.variables ready.fits typed.suits) env m t (ready_valued z value env s m ready done.first) wrote;
+        ready = ready_set z x v typed.word typed.mutable typed.known (suits_fits z.code.profile z.declared typed.word value env.variables ready.fits typed.suits) env m t (ready_valued z value env s m ready done.first) wrote;
         hidden = hidden_then z depth s m t (hidden_kept z depth s m within done.first.kept) (hidden_wrote z depth 4 o v m t (omega (arith, before)) wrote);
       })
       (quiet z (value_runs z typed.word value typed.suits room)
@@ -112,7 +112,7 @@ module _ (z : Setting) where
   either_list true v old l is = refl
   either_list false v old l is = sym is
 
-  pub set_under_runs : (depth c x : ℕ) (value : TermTree) → c < z.controls → IsSet z.declared x value → base_of z + 4 * slots_to (height_of value) ≤ z.size → depth ≤ z.depths
+  pub set_under_runs : (depth c x : ℕ) (value : TermTree) → c < z.controls → IsSet z.code.profile z.declared x value → base_of z + 4 * slots_to (height_of value) ≤ z.size → depth ≤ z.depths
       → Runs z (32 * (1 + term_nodes value)) (steps_of value) (statement_code z.declared z.controls z.depths depth (set_under c x value)) (Ready z) (Shown z depth (λ env. after env (set_under c x value)))
   set_under_runs depth c x value among typed room within =
       let o = variable_offset z.declared x in
@@ -143,7 +143,7 @@ module _ (z : Setting) where
       let mask : number_at t2.bytes 4 (z.frame + k) ≡ Some (mask_of b) = ap (λ (m : ByteMap). number_at m 4 (z.frame + k)) two.same ∙ ready1.controls_there c among in
       let x7 : t3.regs 7 ≡ mask_of b = same_Some (t3.regs 7) (mask_of b) (sym three.there ∙ mask) in
       let mixed : merged (t3.regs 7) (t3.regs 6) (t3.regs 5) ≡ merged (mask_of b) old v = ap (λ m. merged m (t3.regs 6) (t3.regs 5)) x7 ∙ (ap (λ m. merged (mask_of b) m (t3.regs 5)) x6 ∙ ap (λ m. merged (mask_of b) old m) x5) in
-      let fits = suits_fits z.declared typed.word value env.variables ready.fits typed.suits in
+      let fits = suits_fits z.code.profile z.declared typed.word value env.variables ready.fits typed.suits in
       let one_long = (ready.fits x d typed.known).count in
       let old_fits = (ready.fits x d typed.known).within 0 0 (omega (arith, one_long)) in
       let made : t4.regs 5 ≡ (if b then v else old) = ap (λ (regs : ℕ → ℕ). regs 5) four.registers ∙ (mixed ∙ merge b old v (cut_kind typed.word.kind old old_fits) (cut_kind typed.word.kind v fits)) in
@@ -173,7 +173,7 @@ module _ (z : Setting) where
       single (x ∷ []) one = refl
       single (x ∷ y ∷ l) one = absurd (omega (arith, one))
 
-  pub take_runs : (depth c : ℕ) (within : Option ℕ) (condition : TermTree) (label : Label) → c + 1 < z.controls → IsAmong z.controls within → HasType (types_of z.declared) condition (labelled Boolean label) → base_of z + 4 * slots_to (height_of condition) ≤ z.size → depth ≤ z.depths
+  pub take_runs : (depth c : ℕ) (within : Option ℕ) (condition : TermTree) (label : Label) → c + 1 < z.controls → IsAmong z.controls within → HasType (types_of z.code.profile z.declared) condition (labelled Boolean label) → base_of z + 4 * slots_to (height_of condition) ≤ z.size → depth ≤ z.depths
       → Runs z (32 * (1 + term_nodes condition)) (steps_of condition) (statement_code z.declared z.controls z.depths depth (take c within condition)) (Ready z) (Shown z depth (λ env. after env (take c within condition)))
   take_runs depth c within condition label below among has room inside =
       let o = control_offset z.declared c in
@@ -183,7 +183,7 @@ module _ (z : Setting) where
       let space = z.room in
       let prepared : (env : StraightState) (s t : machine.State) → Ready z env s → Then (Evaluated z condition) (Computed z masks_code) env s t → Prepared z f g env t = λ env s t ready done.
       let m = done.middle in
-      let truth = value_fits (types_of z.declared) env.variables ready.fits has in
+      let truth = value_fits (types_of z.code.profile z.declared) env.variables ready.fits has in
       record {
         ready = ready_with z env m t (ready_valued z condition env s m ready done.first) done.second.held done.second.same;
         when = ap (λ (regs : ℕ → ℕ). regs 7) done.second.registers ∙ (ap (λ x. difference_of 0 x) done.first.there ∙ mask_when (value_in env.variables condition) truth);

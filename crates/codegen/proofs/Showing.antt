@@ -13,6 +13,7 @@ use Rattle.expression_code.specs.TermCode.{height_of, expr_code}
 use Rattle.language.specs.declared.signature.Kind.{Kind}
 use Rattle.language.specs.declared.typing.WordType.{WordType}
 use Rattle.language.specs.Types.{bits_of}
+use Rattle.word.specs.declared.profile.Profile.{Profile}
 use Rattle.inline.specs.FlatSize.{term_nodes}
 use Rattle.rv_machine.specs.Machine as machine
 use Rattle.expression_code.proofs.ExpressionRuns.{steps_of, expr_runs}
@@ -35,19 +36,19 @@ pub record Evaluated (z : Setting) (e : TermTree) (env : StraightState) (s t : m
   pub kept : Kept z (base_of z) s t
 
 -- a value that suits a type is within the type's kind
-pub suits_fits : (declared : List FlatVariable) (word : WordType) (e : TermTree) (m : Values) → Fits (types_of declared) m → Suits (types_of declared) word e → value_in m e < 2 ^ bits_of word.kind
-suits_fits declared word e m fits suits = subst (λ (kind : Kind). value_in m e < 2 ^ bits_of kind) suits.kind (value_fits (types_of declared) m fits suits.has_type)
+pub suits_fits : (profile : Profile) (declared : List FlatVariable) (word : WordType) (e : TermTree) (m : Values) → Fits (types_of profile declared) m → Suits (types_of profile declared) word e → value_in m e < 2 ^ bits_of word.kind
+suits_fits profile declared word e m fits suits = subst (λ (kind : Kind). value_in m e < 2 ^ bits_of kind) suits.kind (value_fits (types_of profile declared) m fits suits.has_type)
 
 module _ (z : Setting) where
   -- The code of an expression that no temporary lives beside.
 
-  pub first_runs : {e : TermTree} {word : WordType} → HasType (types_of z.declared) e word → base_of z + 4 * slots_to (height_of e) ≤ z.size → Runs z (16 * term_nodes e) (steps_of e) (expr_code z.declared (base_of z) 0 e) (Ready z) (Evaluated z e)
+  pub first_runs : {e : TermTree} {word : WordType} → HasType (types_of z.code.profile z.declared) e word → base_of z + 4 * slots_to (height_of e) ≤ z.size → Runs z (16 * term_nodes e) (steps_of e) (expr_code z.declared (base_of z) 0 e) (Ready z) (Evaluated z e)
   first_runs has room =
       gives z {P = Ready z}
       (λ env s t fine ready done. record { held = done.held; there = done.there; kept = kept_less z (base_of z) (base_of z + 4 * 0) s t (omega arith) done.kept })
       (expr_runs z (base_of z) (omega arith) (omega arith) has 0 (omega (arith, room)))
 
-  pub value_runs : (word : WordType) (e : TermTree) → Suits (types_of z.declared) word e → base_of z + 4 * slots_to (height_of e) ≤ z.size → Runs z (16 * term_nodes e) (steps_of e) (expr_code z.declared (base_of z) 0 e) (Ready z) (Evaluated z e)
+  pub value_runs : (word : WordType) (e : TermTree) → Suits (types_of z.code.profile z.declared) word e → base_of z + 4 * slots_to (height_of e) ≤ z.size → Runs z (16 * term_nodes e) (steps_of e) (expr_code z.declared (base_of z) 0 e) (Ready z) (Evaluated z e)
   value_runs word e suits room = first_runs suits.has_type room
 
   -- the state is shown after an expression as before it

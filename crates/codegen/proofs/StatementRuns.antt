@@ -29,7 +29,7 @@ use Rattle.expression_code.proofs.Values.{Ready}
 module _ (z : Setting) where
   mutual
     -- a well-typed statement for which there is room, in so many loops
-    pub statement_runs : (depth : ℕ) (s : StraightTree) → IsTyped z.declared z.controls s → base_of z + 4 * slots_to (height_in s) ≤ z.size → depth + depth_in s ≤ z.depths → statement_nodes s ≤ 6000
+    pub statement_runs : (depth : ℕ) (s : StraightTree) → IsTyped z.code.profile z.declared z.controls s → base_of z + 4 * slots_to (height_in s) ≤ z.size → depth + depth_in s ≤ z.depths → statement_nodes s ≤ 6000
         → Runs z (32 * statement_work z.counts s) (λ env. path_at env s) (statement_code z.declared z.controls z.depths depth s) (Ready z) (Shown z depth (λ env. after env s))
     statement_runs depth (set x value) typed room within few = set_runs z depth x value typed room (omega (arith, within))
     statement_runs depth (clear x size) typed room within few = clear_runs z depth x size typed (omega (arith, within))
@@ -70,7 +70,7 @@ module _ (z : Setting) where
         (block_runs (depth + 1) body typed.3 (omega (arith, room, b)) (omega (arith, within)) (omega (arith, few))))
 
     -- statements, one after the other
-    pub block_runs : (depth : ℕ) (b : StraightBlock) → AreTyped z.declared z.controls b → base_of z + 4 * slots_to (height_in_all b) ≤ z.size → depth + depth_in_all b ≤ z.depths → block_nodes b ≤ 6000
+    pub block_runs : (depth : ℕ) (b : StraightBlock) → AreTyped z.code.profile z.declared z.controls b → base_of z + 4 * slots_to (height_in_all b) ≤ z.size → depth + depth_in_all b ≤ z.depths → block_nodes b ≤ 6000
         → Runs z (32 * block_work z.counts b) (λ env. path_along env b) (block_code z.declared z.controls z.depths depth b) (Ready z) (Shown z depth (λ env. after_all env b))
     block_runs depth nothing typed room within few =
         gives z

@@ -31,7 +31,7 @@ use Rattle.codegen.proofs.ResultRuns.{steps_of_result, Given, result_runs}
 use Rattle.codegen.proofs.Results.{arrays_are, returned_is}
 use Rattle.codegen.proofs.StatementRuns.{block_runs}
 use Rattle.expression_code.proofs.Steps.{All-one}
-use Rattle.expression_code.proofs.Straight.{Setting, Placed, Placed-left, Placed-right, Straight, Steps, Runs, seq, gives, cheaper, beside}
+use Rattle.expression_code.proofs.Straight.{Setting, seen_by, Placed, Placed-left, Placed-right, Straight, Steps, Runs, seq, gives, cheaper, beside}
 use Rattle.expression_code.proofs.Values.{Ready}
 
 -- the state that the value is taken in
@@ -81,7 +81,7 @@ module _ (p : StraightProgram) (room : HasRoom p) (code frame : ℕ) (bases : Ar
 
   all_placed : Placed setting.code code (body ++ instr.Ecall ∷ [])
   unfolding body
-  all_placed = placed code (image_of p).words [] (program_code p) code bases.code_aligned bases.code_ends refl (omega arith)
+  all_placed = placed p.profile code (image_of p).words [] (program_code p) code bases.code_aligned bases.code_ends refl (omega arith)
 
   straight : Straight setting code (32 * p.work) steps body (Ready setting) Finished
   straight = body_runs code (Placed-left setting.code code body (instr.Ecall ∷ []) all_placed)
@@ -115,21 +115,21 @@ module _ (p : StraightProgram) (room : HasRoom p) (code frame : ℕ) (bases : Ar
   outcome args s t done =
       let m = (last_state p (start p args)).variables in
       ap₂ (λ r arrays. record { returned = r; arrays = arrays })
-      (returned_is frame p.declared (types_of p.declared) p.returned p.value m t.bytes room.typed.result done.left)
+      (returned_is frame p.declared (types_of p.profile p.declared) p.returned p.value m t.bytes room.typed.result done.left)
       (arrays_are frame t.bytes m p.parameters p.declared 0 0 room.typed.parameters
       (λ y d is. let e : 0 + y ≡ y = omega arith in ap (λ k. length (m k)) e ∙ (done.ready.fits y d is).count)
       (λ y d i is below.
       let e : 0 + y ≡ y = omega arith in
       ap (λ o. number_at t.bytes (bytes_of d) (frame + o)) (omega arith) ∙ (done.ready.variables_there y d i is below ∙ ap (λ k. Some (slice_index (m k) i)) (sym e))))
 
-  runs_as : (args : List Arg) → AreWithin p.parameters args → AreFine p.turns (path_of p args) → RunsAs p (image_of p) code frame args ((straight.leak (path_of p args ++ [])).0 ++ end_shown)
+  runs_as : (args : List Arg) → AreWithin p.parameters args → AreFine p.turns (path_of p args) → RunsAs p (image_of p) code frame args ((straight.leak (seen_by setting (path_of p args) ++ [])).0 ++ end_shown)
   unfolding steps last
   runs_as args within fine =
       let s = loaded_at code frame (image_of p) args in
       let done = straight.runs (start p args) s [] refl fine (begins args within) in
       let all = Halts-after done.leads (ends_there done.end done.at) in
       let inside = All-append (λ (o : Observation). IsInside frame (image_of p).frame_bytes o.event) done.seen end_shown done.inside end_inside in
-      let same : (straight.leak (path_of p args ++ [])).0 ≡ done.seen = ap (λ (r : List Observation × Path). r.0) done.shown in
+      let same : (straight.leak (seen_by setting (path_of p args) ++ [])).0 ≡ done.seen = ap (λ (r : List Observation × Path). r.0) done.shown in
       let few = done.within in
       subst (λ (seen : List Observation). RunsAs p (image_of p) code frame args (seen ++ end_shown)) (sym same)
       (record {

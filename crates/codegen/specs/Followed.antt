@@ -1,5 +1,5 @@
 -- What is promised of the image for straight code: the machine, running it, follows the code. The outcome is that of
--- the code, and what is shown is decided by the path of public values.
+-- the code, and what is shown is decided by what the observer sees of the path.
 use Rattle.std.specs.Prelude.{◌≡◌, ℕ, ◌+◌, ◌*◌, ◌≤◌, List, length, All}
 use Rattle.std.specs.Option.{option_map}
 use Rattle.arguments.specs.Within.{AreWithin}
@@ -9,7 +9,7 @@ use Rattle.codegen.specs.Bases.{AreBases, IsInside}
 use Rattle.codegen.specs.Loaded.{params_of, code_at, loaded_at, results_in}
 use Rattle.image_fields.specs.Fields.{Fields}
 use Rattle.image_fields.specs.declared.limits.TheConstants.{MOST_FRAME_BYTES}
-use Rattle.inline.specs.Path.{Path, AreFine}
+use Rattle.inline.specs.Path.{Path, AreFine, seen}
 use Rattle.image_fields.specs.declared.slot.ResultSlot.{ResultSlot}
 use Rattle.rv_machine.specs.Leakage.{Halts}
 use Rattle.rv_machine.specs.Machine.{State}
@@ -19,18 +19,18 @@ use Rattle.language.specs.declared.typing.WordType.{WordType}
 use Rattle.language.specs.declared.values.Arg.{Arg}
 
 -- a run on some arguments, which shows this list
-pub record RunsAs (p : StraightProgram) (image : Fields) (code frame : ℕ) (args : List Arg) (seen : List Observation) : Type 0 where
+pub record RunsAs (p : StraightProgram) (image : Fields) (code frame : ℕ) (args : List Arg) (list : List Observation) : Type 0 where
   pub turns : ℕ
   pub end : State
-  pub halts : Halts (code_at code image) turns (loaded_at code frame image args) seen Ecall end
+  pub halts : Halts (code_at code image) turns (loaded_at code frame image args) list Ecall end
   pub within_steps : turns ≤ image.max_steps
-  pub within_frame : All (λ (o : Observation). IsInside frame image.frame_bytes o.event) seen
+  pub within_frame : All (λ (o : Observation). IsInside frame image.frame_bytes o.event) list
   pub outcome : results_in frame image end.bytes ≡ outcome_of p args
 
--- one list for each path, whatever the arguments; no fault is met on the path, and no more turns are made than are counted
+-- one list for what is seen of each path, whatever the arguments; no fault is met on the path, and no more turns are made than are counted
 pub record IsFollowed (p : StraightProgram) (image : Fields) (code frame : ℕ) : Type 0 where
   pub shown : Path → List Observation
-  pub runs : (args : List Arg) → AreWithin p.parameters args → AreFine p.turns (path_of p args) → RunsAs p image code frame args (shown (path_of p args))
+  pub runs : (args : List Arg) → AreWithin p.parameters args → AreFine p.turns (path_of p args) → RunsAs p image code frame args (shown (seen p.profile (path_of p args)))
 
 -- the type of what a slot holds
 abbrev pub type_in : ResultSlot → WordType
@@ -38,6 +38,7 @@ type_in slot = record { kind = slot.kind; label = slot.label }
 
 -- the image is the code's
 pub record IsGenerated (p : StraightProgram) (image : Fields) : Type 0 where
+  pub profile : image.profile ≡ p.profile
   pub parameters : params_of image ≡ p.parameters
   pub returned : option_map type_in image.returned ≡ p.returned
   pub max_steps : image.max_steps ≡ 32 * p.work + 64

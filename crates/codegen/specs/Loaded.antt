@@ -34,9 +34,9 @@ with_arguments frame bytes [] args = bytes
 with_arguments frame bytes (slot ∷ slots) [] = bytes
 with_arguments frame bytes (slot ∷ slots) (arg ∷ args) = with_arguments frame (with_argument frame bytes slot arg) slots args
 
--- the image's words and no others, from the base on
+-- the image's words and no others, from the base on, seen by its observer
 abbrev pub code_at : ℕ → Fields → Code
-code_at base image = record { base = base; words = image.words }
+code_at base image = record { profile = image.profile; base = base; words = image.words }
 
 -- the program counter at the code's base, the frame's base in x2, 0 in the other registers; the data is the
 -- frame and nothing else: the arguments at their slots, zeros elsewhere

@@ -103,11 +103,12 @@ fn listed(
     let words = words(alloc, code.as_slice())?;
     let frame_bytes = layout.temporaries() + WORD_BYTES * temporaries(straight);
     let max_steps = step_limit(straight.work());
-    Ok(ImageFields::new(slots, returned, frame_bytes, max_steps, words))
+    let profile = straight.profile();
+    Ok(ImageFields::new(profile, slots, returned, frame_bytes, max_steps, words))
 }
 
 /// The code of a straight program. The machine, running it, follows the program: the outcome is that of the program, and
-/// what it shows is decided by the path of public values. Want of memory alone refuses it.
+/// what it shows is decided by what the program's observer sees of the path. Want of memory alone refuses it.
 pub fn generate(alloc: Global, straight: &Straight<'_>) -> Result<Code, Refusal>
     ensures generated { IfOk result (IsGenerated straight.now) }
     ensures allowed { IfOk result IsImage }

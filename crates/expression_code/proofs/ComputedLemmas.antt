@@ -15,7 +15,7 @@ use Rattle.expression_code.specs.Inside.{IsInside}
 use Rattle.expression_code.specs.Registers.{register_count, slot_of}
 use Rattle.expression_code.specs.Computed.{Site, IsSiteOf, IsComputed}
 use Rattle.expression_code.proofs.ExpressionRuns.{expr_runs}
-use Rattle.expression_code.proofs.Straight.{Setting, append-none, ends_on}
+use Rattle.expression_code.proofs.Straight.{Setting, seen_by, append-none, ends_on}
 use Rattle.expression_code.proofs.Values.{Ready, Kept, Lower, HoldsBy, kept_number}
 
 -- no control value and no loop
@@ -56,7 +56,7 @@ module _ (e : TermTree) (site : Site) (fit : IsSiteOf e site) where
       let large : register_count ≤ place = grind (arith, nat_tests) in
       kept_number (setting_of e site fit) (slot_of site.free top) s t kept 4 (slot_of site.free place) (omega (arith, less, large))
 
-pub expressions_are_computed : (e : TermTree) (word : WordType) (site : Site) → HasType (types_of site.declared) e word → IsSiteOf e site → IsComputed e site
+pub expressions_are_computed : (e : TermTree) (word : WordType) (site : Site) → HasType (types_of site.code.profile site.declared) e word → IsSiteOf e site → IsComputed e site
 expressions_are_computed e word site has fit =
     let z = setting_of e site fit in
     let above = fit.above in
@@ -64,7 +64,7 @@ expressions_are_computed e word site has fit =
     record {
       shown = λ path. (piece.leak path).0;
       runs = λ m s at there fine.
-          let path = path_in m e in
+          let path = seen_by z (path_in m e) in
           let ready : Ready z (state_of m) s = record {
             held = record { base = there.base; data_there = there.data_there };
             fits = there.fits;

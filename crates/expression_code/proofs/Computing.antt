@@ -8,7 +8,7 @@ use Rattle.rv_code.specs.declared.instructions.Instr.TheVariants.{Upper, Jump, J
 use Rattle.rv_code.specs.declared.operations.UpperOperation.TheVariants.{Lui, Auipc}
 use Rattle.rv_code.specs.Words.{IsInstr}
 use Rattle.rv_machine.specs.declared.effects.Effect.TheVariants.{Computes}
-use Rattle.rv_machine.specs.Effects.{effect_of, sign_extended, immediate_value, shift_value, register_value, multiply_value}
+use Rattle.rv_machine.specs.Effects.{effect_of, sign_extended, immediate_value, shift_value, register_value}
 use Rattle.rv_machine.specs.Machine.{State}
 use Rattle.rv_machine.specs.Registers.{register, with_register}
 use Rattle.branch_removal.specs.StraightMeaning.{StraightState}
@@ -22,7 +22,6 @@ written_register (Upper operation rd immediate) = rd
 written_register (Immediate operation rd rs1 immediate) = rd
 written_register (Shift operation rd rs1 amount) = rd
 written_register (Register operation rd rs1 rs2) = rd
-written_register (Multiply operation rd rs1 rs2) = rd
 written_register _ = 0
 
 -- what it writes there
@@ -31,7 +30,6 @@ computed_value (Upper operation rd immediate) regs = immediate * 2 ^ 12
 computed_value (Immediate operation rd rs1 immediate) regs = immediate_value operation (register regs rs1) (sign_extended 12 immediate)
 computed_value (Shift operation rd rs1 amount) regs = shift_value operation (register regs rs1) amount
 computed_value (Register operation rd rs1 rs2) regs = register_value operation (register regs rs1) (register regs rs2)
-computed_value (Multiply operation rd rs1 rs2) regs = multiply_value operation (register regs rs1) (register regs rs2)
 computed_value _ regs = 0
 
 -- the registers after instructions that only compute
@@ -45,7 +43,6 @@ computes works (Upper Lui rd immediate) = works rd && nat_lt immediate 1048576
 computes works (Immediate operation rd rs1 immediate) = works rd && (nat_lt rs1 32 && nat_lt immediate 4096)
 computes works (Shift operation rd rs1 amount) = works rd && (nat_lt rs1 32 && nat_lt amount 32)
 computes works (Register operation rd rs1 rs2) = works rd && (nat_lt rs1 32 && nat_lt rs2 32)
-computes works (Multiply operation rd rs1 rs2) = works rd && (nat_lt rs1 32 && nat_lt rs2 32)
 computes works _ = false
 
 abbrev pub only_computes : (ℕ → Bool) → List Instr → Bool
@@ -104,16 +101,13 @@ module _ (works : ℕ → Bool) (allowed : AreWorking works) where
       let t = three_tests rd (nat_lt rs1 32) (nat_lt rs2 32) h in
       let w = allowed rd t.0 in
       record { in_range = (w.2, ltb-true rs1 32 t.1, ltb-true rs2 32 t.2); nonzero = w.0; other = w.1; effect = λ pc regs. refl }
-  plain (Multiply operation rd rs1 rs2) h =
-      let t = three_tests rd (nat_lt rs1 32) (nat_lt rs2 32) h in
-      let w = allowed rd t.0 in
-      record { in_range = (w.2, ltb-true rs1 32 t.1, ltb-true rs2 32 t.2); nonzero = w.0; other = w.1; effect = λ pc regs. refl }
   plain (Upper Auipc rd immediate) h = absurd (false≢true h)
   plain (Jump rd offset) h = absurd (false≢true h)
   plain (JumpRegister rd rs1 offset) h = absurd (false≢true h)
   plain (Branch test rs1 rs2 offset) h = absurd (false≢true h)
   plain (Load operation rd rs1 offset) h = absurd (false≢true h)
   plain (Store operation rs2 rs1 offset) h = absurd (false≢true h)
+  plain (Multiply operation rd rs1 rs2) h = absurd (false≢true h)
   plain (Divide operation rd rs1 rs2) h = absurd (false≢true h)
   plain (Fence mode before after rs1 rd) h = absurd (false≢true h)
   plain Ecall h = absurd (false≢true h)
@@ -125,13 +119,13 @@ module _ (works : ℕ → Bool) (allowed : AreWorking works) where
   written_works (Immediate operation rd rs1 immediate) h = (three_tests rd (nat_lt rs1 32) (nat_lt immediate 4096) h).0
   written_works (Shift operation rd rs1 amount) h = (three_tests rd (nat_lt rs1 32) (nat_lt amount 32) h).0
   written_works (Register operation rd rs1 rs2) h = (three_tests rd (nat_lt rs1 32) (nat_lt rs2 32) h).0
-  written_works (Multiply operation rd rs1 rs2) h = (three_tests rd (nat_lt rs1 32) (nat_lt rs2 32) h).0
   written_works (Upper Auipc rd immediate) h = absurd (false≢true h)
   written_works (Jump rd offset) h = absurd (false≢true h)
   written_works (JumpRegister rd rs1 offset) h = absurd (false≢true h)
   written_works (Branch test rs1 rs2 offset) h = absurd (false≢true h)
   written_works (Load operation rd rs1 offset) h = absurd (false≢true h)
   written_works (Store operation rs2 rs1 offset) h = absurd (false≢true h)
+  written_works (Multiply operation rd rs1 rs2) h = absurd (false≢true h)
   written_works (Divide operation rd rs1 rs2) h = absurd (false≢true h)
   written_works (Fence mode before after rs1 rd) h = absurd (false≢true h)
   written_works Ecall h = absurd (false≢true h)

@@ -28,6 +28,7 @@ use Rattle.language.specs.declared.typing.WordType.{WordType}
 use Rattle.language.specs.Operators.{prefix_value, width_of}
 use Rattle.language.specs.Size.{element_bytes}
 use Rattle.word.specs.declared.place.Place.{Place}
+use Rattle.word.specs.declared.profile.Profile.{Profile}
 use Rattle.word.specs.declared.width.Width.{Width}
 use Rattle.word.specs.Operators.{converted, rotated_left, word_of}
 use Rattle.expression_code.proofs.Arithmetic.{lower_fits}
@@ -59,8 +60,8 @@ kind_fits Uint16 v h = omega (arith, h)
 kind_fits Uint32 v h = h
 
 -- a well-typed expression's value is a word
-pub value_word : (declared : List FlatVariable) (e : TermTree) (word : WordType) (m : Values) → Fits (types_of declared) m → HasType (types_of declared) e word → value_in m e < 2 ^ 32
-value_word declared e word m fits has = kind_fits word.kind (value_in m e) (value_fits (types_of declared) m fits has)
+pub value_word : (profile : Profile) (declared : List FlatVariable) (e : TermTree) (word : WordType) (m : Values) → Fits (types_of profile declared) m → HasType (types_of profile declared) e word → value_in m e < 2 ^ 32
+value_word profile declared e word m fits has = kind_fits word.kind (value_in m e) (value_fits (types_of profile declared) m fits has)
 
 -- the kind of a variable that is declared
 pub kind_known : (declared : List FlatVariable) (x : ℕ) (d : FlatVariable) → slice_get declared x ≡ Some d → kind_at declared x ≡ d.word.kind
@@ -126,7 +127,7 @@ module _ (z : Setting) (free : ℕ) (aligned : free % 4 ≡ 0) (above : base_of 
       let below = place_below z x d 0 known (omega arith) in
       let inside = z.room in
       cheaper z (omega arith)
-      (keeps z free aligned place room (variable x) (λ env s ready. kind_fits word.kind (slice_index (env.variables x) 0) (value_fits (types_of z.declared) env.variables ready.fits (of_variable known)))
+      (keeps z free aligned place room (variable x) (λ env s ready. kind_fits word.kind (slice_index (env.variables x) 0) (value_fits (types_of z.code.profile z.declared) env.variables ready.fits (of_variable known)))
       (weaken z
       (λ env s fine ready. ready.held)
       (λ env s t fine ready took. record {
@@ -139,8 +140,8 @@ module _ (z : Setting) (free : ℕ) (aligned : free % 4 ≡ 0) (above : base_of 
 
   -- A value, and then code that makes another of it.
   applied : (operand whole : TermTree) (place n : ℕ) {steps : Steps} {es : List Instr} (is : List Instr) → HasSlot place → length is ≤ 10 → only_computes (either_of (home place 29) 30) is ≡ true
-      → ((m : Values) → Fits (types_of z.declared) m → value_in m operand < 2 ^ 32)
-      → ((m : Values) → Fits (types_of z.declared) m → value_in m whole < 2 ^ 32)
+      → ((m : Values) → Fits (types_of z.code.profile z.declared) m → value_in m operand < 2 ^ 32)
+      → ((m : Values) → Fits (types_of z.code.profile z.declared) m → value_in m whole < 2 ^ 32)
       → ((m : Values) (regs : ℕ → ℕ) → regs (home place 29) < 2 ^ 32 → regs (home place 29) ≡ value_in m operand → registers_after is regs (home place 29) ≡ value_in m whole)
       → Runs z n steps es (Ready z) (Valued z operand free place) → Runs z (n + 16) steps (es ++ fetch_code free place 29 ++ is ++ keep_code free place) (Ready z) (Valued z whole free place)
   applied operand whole place n is room short plain word word' value runs =
@@ -169,7 +170,7 @@ module _ (z : Setting) (free : ℕ) (aligned : free % 4 ≡ 0) (above : base_of 
 
   binary_runs : (source : Place) (operator : BinaryOperator) (width : Width) (left right : TermTree) (one other word : WordType) (place m n : ℕ) {ls rs : List Instr}
       → HasSlot (place + 1)
-      → HasType (types_of z.declared) left one → HasType (types_of z.declared) right other → HasType (types_of z.declared) (binary source operator width left right) word
+      → HasType (types_of z.code.profile z.declared) left one → HasType (types_of z.code.profile z.declared) right other → HasType (types_of z.code.profile z.declared) (binary source operator width left right) word
       → Runs z m (steps_of left) ls (Ready z) (Valued z left free place) → Runs z n (steps_of right) rs (Ready z) (Valued z right free (place + 1))
       → Runs z (m + n + 16) (steps_of (binary source operator width left right))
       (ls ++ rs ++ fetch_code free place 29 ++ fetch_code free (place + 1) 30 ++ operator_code (home place 29) (home (place + 1) 30) operator width ++ keep_code free place)
@@ -183,7 +184,7 @@ module _ (z : Setting) (free : ℕ) (aligned : free % 4 ≡ 0) (above : base_of 
       let apart = homes_apart place (place + 1) 29 30 (omega arith) (omega arith) (omega arith) in
       let k = slot_of free place in
       cheaper z (omega arith)
-      (keeps z free aligned place (omega (arith, room)) (binary source operator width left right) (λ env s ready. value_word z.declared (binary source operator width left right) word env.variables ready.fits has)
+      (keeps z free aligned place (omega (arith, room)) (binary source operator width left right) (λ env s ready. value_word z.code.profile z.declared (binary source operator width left right) word env.variables ready.fits has)
       (gives z
       (λ env s t fine ready done.
       let u4 = done.middle in
@@ -219,14 +220,14 @@ module _ (z : Setting) (free : ℕ) (aligned : free % 4 ≡ 0) (above : base_of 
         held = done.second.held;
         left = done.second.others l (home_apart place 29 30 (omega arith) (λ e. omega arith)) ∙ done.first.second.there;
         right = done.second.there;
-        left_fits = value_word z.declared left one env.variables ready.fits has_left;
-        right_fits = value_word z.declared right other env.variables ready.fits has_right;
+        left_fits = value_word z.code.profile z.declared left one env.variables ready.fits has_left;
+        right_fits = value_word z.code.profile z.declared right other env.variables ready.fits has_right;
       }))))
 
   select_runs : (condition accepted otherwise : TermTree) (kind : Kind) (l' m' n' : Label) (word : WordType) (place l m n : ℕ) {cs ls rs : List Instr}
       → HasSlot (place + 2)
-      → HasType (types_of z.declared) condition (labelled Boolean l') → HasType (types_of z.declared) accepted (labelled kind m') → HasType (types_of z.declared) otherwise (labelled kind n')
-      → HasType (types_of z.declared) (select condition accepted otherwise) word
+      → HasType (types_of z.code.profile z.declared) condition (labelled Boolean l') → HasType (types_of z.code.profile z.declared) accepted (labelled kind m') → HasType (types_of z.code.profile z.declared) otherwise (labelled kind n')
+      → HasType (types_of z.code.profile z.declared) (select condition accepted otherwise) word
       → Runs z l (steps_of condition) cs (Ready z) (Valued z condition free place) → Runs z m (steps_of accepted) ls (Ready z) (Valued z accepted free (place + 1)) → Runs z n (steps_of otherwise) rs (Ready z) (Valued z otherwise free (place + 2))
       → Runs z (l + m + n + 16) (steps_of (select condition accepted otherwise))
       (cs ++ ls ++ rs ++ fetch_code free place 29 ++ fetch_code free (place + 1) 30 ++ fetch_code free (place + 2) 31
@@ -245,7 +246,7 @@ module _ (z : Setting) (free : ℕ) (aligned : free % 4 ≡ 0) (above : base_of 
       let xw = homes_apart place (place + 2) 29 31 (omega arith) (omega arith) (omega arith) in
       let yw = homes_apart (place + 1) (place + 2) 30 31 (omega arith) (omega arith) (omega arith) in
       cheaper z (omega arith)
-      (keeps z free aligned place (omega (arith, room)) (select condition accepted otherwise) (λ env s ready. value_word z.declared (select condition accepted otherwise) word env.variables ready.fits whole)
+      (keeps z free aligned place (omega (arith, room)) (select condition accepted otherwise) (λ env s ready. value_word z.code.profile z.declared (select condition accepted otherwise) word env.variables ready.fits whole)
       (gives z
       (λ env s t fine ready done.
       let t6 = done.middle in
@@ -264,9 +265,9 @@ module _ (z : Setting) (free : ℕ) (aligned : free % 4 ≡ 0) (above : base_of 
       let c = value condition env in
       let a = value accepted env in
       let b = value otherwise env in
-      let truth' = value_fits (types_of z.declared) env.variables ready.fits has in
-      let a_fits = value_word z.declared accepted (labelled kind m') env.variables ready.fits chooses in
-      let b_fits = value_word z.declared otherwise (labelled kind n') env.variables ready.fits more in
+      let truth' = value_fits (types_of z.code.profile z.declared) env.variables ready.fits has in
+      let a_fits = value_word z.code.profile z.declared accepted (labelled kind m') env.variables ready.fits chooses in
+      let b_fits = value_word z.code.profile z.declared otherwise (labelled kind n') env.variables ready.fits more in
       let cx : t6.regs x ≡ c = six.others x (home_apart place 29 31 (omega arith) (λ e. omega arith)) ∙ (five.others x (home_apart place 29 30 (omega arith) (λ e. omega arith)) ∙ four.there) in
       let ay : t6.regs y ≡ a = six.others y (home_apart (place + 1) 30 31 (omega arith) (λ e. omega arith)) ∙ five.there in
       let picked : chosen (t6.regs x) (t6.regs y) (t6.regs w) ≡ chosen c a b = ap (λ v. chosen v (t6.regs y) (t6.regs w)) cx ∙ (ap (λ v. chosen c v (t6.regs w)) ay ∙ ap (λ v. chosen c a v) six.there) in
@@ -340,7 +341,7 @@ module _ (z : Setting) (free : ℕ) (aligned : free % 4 ≡ 0) (above : base_of 
         record { even = place_aligned z.declared x (array_as word mutable size) i z.frame z.even; low = omega arith; high = omega (arith, h) }
 
     element_runs : (index : TermTree) (word' : WordType) (place n : ℕ) {es : List Instr} → HasSlot place
-        → HasType (types_of z.declared) (element source x size index) word'
+        → HasType (types_of z.code.profile z.declared) (element source x size index) word'
         → Runs z n (steps_of index) es (Ready z) (Valued z index free place)
         → Runs z (n + 16) (steps_of (element source x size index)) (es ++ fetch_code free place 29 ++ element_code (home place 29) (kind_at z.declared x) (variable_offset z.declared x) ++ keep_code free place) (Ready z) (Valued z (element source x size index) free place)
     element_runs index word' place n {es = es} room has runs =
@@ -354,7 +355,7 @@ module _ (z : Setting) (free : ℕ) (aligned : free % 4 ≡ 0) (above : base_of 
         let k = slot_of free place in
         as_code z (ap (λ kind. es ++ fetch_code free place 29 ++ element_code r kind o ++ keep_code free place) (kind_known z.declared x d known))
         (cheaper z (omega arith)
-        (keeps z free aligned place room (element source x size index) (λ env s ready. value_word z.declared (element source x size index) word' env.variables ready.fits has)
+        (keeps z free aligned place room (element source x size index) (λ env s ready. value_word z.code.profile z.declared (element source x size index) word' env.variables ready.fits has)
         (weaken z {P = λ env s. Ready z env s × (i env < size)}
         (λ env s fine ready. (ready, (fine_right z.counts (path_in env.variables index) (indexed source size (i env) ∷ []) fine).0))
         (λ env s t fine ready done.
@@ -400,7 +401,7 @@ module _ (z : Setting) (free : ℕ) (aligned : free % 4 ≡ 0) (above : base_of 
         (λ env s t both done. (done.second.held, done.second.there, both.1))))))
 
   -- Each well-typed expression, into any place.
-  pub expr_runs : {e : TermTree} {word : WordType} → HasType (types_of z.declared) e word → (place : ℕ) → free + 4 * slots_to (height_of e + place) ≤ z.size
+  pub expr_runs : {e : TermTree} {word : WordType} → HasType (types_of z.code.profile z.declared) e word → (place : ℕ) → free + 4 * slots_to (height_of e + place) ≤ z.size
       → Runs z (16 * term_nodes e) (steps_of e) (expr_code z.declared free place e) (Ready z) (Valued z e free place)
   expr_runs (of_number {value = value} {kind = kind} below) place room = constant (number value kind) place value (omega (arith, room)) (λ env. refl) (kind_fits kind value below)
   expr_runs (of_truth {value = value}) place room = constant (truth value) place (word_of value) (omega (arith, room)) (λ env. refl) (truth_fits value)
@@ -410,8 +411,8 @@ module _ (z : Setting) (free : ℕ) (aligned : free % 4 ≡ 0) (above : base_of 
       cheaper z (omega arith)
       (applied operand (prefix operator width operand) place (16 * term_nodes operand) (prefix_code l operator width) (omega (arith, room)) (let h = prefix_length l operator width in omega (arith, h))
       (prefix_plain l 30 (home_one z place) (beside_free z) (beside_apart z place) operator width)
-      (λ m fits. value_word z.declared operand (labelled kind label) m fits has)
-      (λ m fits. value_word z.declared e word m fits (of_prefix has takes same))
+      (λ m fits. value_word z.code.profile z.declared operand (labelled kind label) m fits has)
+      (λ m fits. value_word z.code.profile z.declared e word m fits (of_prefix has takes same))
       (λ m regs below is. prefix_made l 30 (home_one z place) (beside_free z) (beside_apart z place) operator width regs below ∙ ap (prefix_value operator width) is)
       (expr_runs has place room))
   expr_runs {e = e} {word = word} (of_binary {place = source} {operator = operator} {width = width} {left = left} {right = right} {one = one} {other = other} has more makes same) place room =
@@ -426,8 +427,8 @@ module _ (z : Setting) (free : ℕ) (aligned : free % 4 ≡ 0) (above : base_of 
       cheaper z (omega arith)
       (applied operand (rotate width operand amount) place (16 * term_nodes operand) (rotate_code l width amount) (omega (arith, room)) (let h = rotate_length l width amount in omega (arith, h))
       (rotate_plain l 30 (home_one z place) (beside_free z) (beside_apart z place) width amount)
-      (λ m fits. value_word z.declared operand (labelled kind label) m fits has)
-      (λ m fits. value_word z.declared e word m fits (of_rotation has numeric low high same))
+      (λ m fits. value_word z.code.profile z.declared operand (labelled kind label) m fits has)
+      (λ m fits. value_word z.code.profile z.declared e word m fits (of_rotation has numeric low high same))
       (λ m regs below is. rotate_made l 30 (home_one z place) (beside_free z) (beside_apart z place) width amount regs below ∙ ap (λ v. rotated_left width v amount) is)
       (expr_runs has place room))
   expr_runs {e = e} {word = word} (of_conversion {kind = kind} {other = other} {operand = operand} {label = label} has numeric) place room =
@@ -435,8 +436,8 @@ module _ (z : Setting) (free : ℕ) (aligned : free % 4 ≡ 0) (above : base_of 
       cheaper z (omega arith)
       (applied operand (convert kind operand) place (16 * term_nodes operand) (cut_code l (width_of kind)) (omega (arith, room)) (let h = cut_length l (width_of kind) in omega (arith, h))
       (cut_plain l 30 (home_one z place) (beside_free z) (beside_apart z place) (width_of kind))
-      (λ m fits. value_word z.declared operand (labelled other label) m fits has)
-      (λ m fits. value_word z.declared e word m fits (of_conversion has numeric))
+      (λ m fits. value_word z.code.profile z.declared operand (labelled other label) m fits has)
+      (λ m fits. value_word z.code.profile z.declared e word m fits (of_conversion has numeric))
       (λ m regs below is. cut_made l 30 (home_one z place) (beside_free z) (beside_apart z place) (width_of kind) regs below ∙ ap (converted (width_of kind)) is)
       (expr_runs has place room))
   expr_runs {e = e} {word = word} (of_selection {condition = condition} {accepted = accepted} {otherwise = otherwise} {kind = kind} {l = l} {m = m} {n = n} has chooses more) place room =

@@ -9,13 +9,14 @@ use Rattle.rv_code.specs.declared.operations.UpperOperation.TheVariants.{Lui}
 use Rattle.rv_code.specs.declared.operations.ImmediateOperation.TheVariants.{Addi}
 use Rattle.rv_code.specs.declared.operations.ShiftOperation.TheVariants.{Slli, Srli}
 use Rattle.rv_code.specs.declared.operations.RegisterOperation.TheVariants as register
-use Rattle.rv_machine.specs.Effects.{sum_of, sign_extended, register_value, shift_value}
+use Rattle.rv_code.specs.declared.operations.MultiplyOperation.TheVariants.{Mul}
+use Rattle.rv_machine.specs.Effects.{sum_of, sign_extended, register_value, shift_value, multiply_value}
 use Rattle.expression_code.specs.TermCode.{upper_part, lower_part, constant_code, cut_code, operator_code, prefix_code, choice_code}
 use Rattle.language.specs.declared.tree.BinaryOperator.{BinaryOperator}
 use Rattle.language.specs.declared.tree.BinaryOperator.TheVariants.{Either, Both, Equal, Unequal, Less, LessOrEqual, Greater, GreaterOrEqual, BitOr, BitXor, BitAnd, ShiftLeft, ShiftRight, Add, Subtract, Multiply, Divide, Remainder}
 use Rattle.language.specs.declared.tree.PrefixOperator.{PrefixOperator}
 use Rattle.language.specs.declared.tree.PrefixOperator.TheVariants.{Not, Complement, Negate}
-use Rattle.language.specs.Operators.{divides, operated, prefix_value}
+use Rattle.language.specs.Operators.{divides, multiplies, operated, prefix_value}
 use Rattle.word.specs.declared.width.Width.{Width}
 use Rattle.word.specs.declared.width.Width.TheVariants.{W8, W16, W32}
 use Rattle.word.specs.Operators.{converted, rotated_left}
@@ -147,48 +148,52 @@ module _ (l r : ℕ) (one : IsFree l) (other : IsFree r) (apart : l ≢ r) where
 
   -- Operators.
 
-  pub operator_plain : (operator : BinaryOperator) (w : Width) → divides operator ≡ false → only_computes (either_of l r) (operator_code l r operator w) ≡ true
-  operator_plain Either w h = simp (rl, ll, rr, l32, r32)
-  operator_plain Both w h = simp (rl, ll, rr, l32, r32)
-  operator_plain Equal w h = simp (ll, l32, r32)
-  operator_plain Unequal w h = simp (ll, l32, r32)
-  operator_plain Less w h = simp (ll, l32, r32)
-  operator_plain LessOrEqual w h = simp (ll, l32, r32)
-  operator_plain Greater w h = simp (ll, l32, r32)
-  operator_plain GreaterOrEqual w h = simp (ll, l32, r32)
-  operator_plain BitOr w h = simp (ll, l32, r32)
-  operator_plain BitXor w h = simp (ll, l32, r32)
-  operator_plain BitAnd w h = simp (ll, l32, r32)
-  operator_plain ShiftLeft w h = simp (ll, l32, r32, cut_plain w)
-  operator_plain ShiftRight w h = simp (ll, l32, r32, cut_plain w)
-  operator_plain Add w h = simp (ll, l32, r32, cut_plain w)
-  operator_plain Subtract w h = simp (ll, l32, r32, cut_plain w)
-  operator_plain Multiply w h = simp (ll, l32, r32, cut_plain w)
-  operator_plain Divide w h = absurd (true≢false h)
-  operator_plain Remainder w h = absurd (true≢false h)
+  pub operator_plain : (operator : BinaryOperator) (w : Width) → divides operator ≡ false → multiplies operator ≡ false → only_computes (either_of l r) (operator_code l r operator w) ≡ true
+  operator_plain Either w h n = simp (rl, ll, rr, l32, r32)
+  operator_plain Both w h n = simp (rl, ll, rr, l32, r32)
+  operator_plain Equal w h n = simp (ll, l32, r32)
+  operator_plain Unequal w h n = simp (ll, l32, r32)
+  operator_plain Less w h n = simp (ll, l32, r32)
+  operator_plain LessOrEqual w h n = simp (ll, l32, r32)
+  operator_plain Greater w h n = simp (ll, l32, r32)
+  operator_plain GreaterOrEqual w h n = simp (ll, l32, r32)
+  operator_plain BitOr w h n = simp (ll, l32, r32)
+  operator_plain BitXor w h n = simp (ll, l32, r32)
+  operator_plain BitAnd w h n = simp (ll, l32, r32)
+  operator_plain ShiftLeft w h n = simp (ll, l32, r32, cut_plain w)
+  operator_plain ShiftRight w h n = simp (ll, l32, r32, cut_plain w)
+  operator_plain Add w h n = simp (ll, l32, r32, cut_plain w)
+  operator_plain Subtract w h n = simp (ll, l32, r32, cut_plain w)
+  operator_plain Multiply w h n = absurd (true≢false n)
+  operator_plain Divide w h n = absurd (true≢false h)
+  operator_plain Remainder w h n = absurd (true≢false h)
 
-  operator_composed : (operator : BinaryOperator) (w : Width) → divides operator ≡ false → (regs : ℕ → ℕ) → registers_after (operator_code l r operator w) regs l ≡ composed operator w (regs l) (regs r)
-  operator_composed Either w h regs = simp (ll, rr, lr, rl, l0, r0)
-  operator_composed Both w h regs = simp (ll, rr, lr, rl, l0, r0)
-  operator_composed Equal w h regs = simp (ll, l0, r0)
-  operator_composed Unequal w h regs = simp (ll, l0, r0)
-  operator_composed Less w h regs = simp (ll, l0, r0)
-  operator_composed LessOrEqual w h regs = simp (ll, l0, r0)
-  operator_composed Greater w h regs = simp (ll, l0, r0)
-  operator_composed GreaterOrEqual w h regs = simp (ll, l0, r0)
-  operator_composed BitOr w h regs = simp (ll, l0, r0)
-  operator_composed BitXor w h regs = simp (ll, l0, r0)
-  operator_composed BitAnd w h regs = simp (ll, l0, r0)
-  operator_composed ShiftLeft w h regs = cut_composed w _ ∙ simp (ll, l0, r0)
-  operator_composed ShiftRight w h regs = cut_composed w _ ∙ simp (ll, l0, r0)
-  operator_composed Add w h regs = cut_composed w _ ∙ simp (ll, l0, r0)
-  operator_composed Subtract w h regs = cut_composed w _ ∙ simp (ll, l0, r0)
-  operator_composed Multiply w h regs = cut_composed w _ ∙ simp (ll, l0, r0)
-  operator_composed Divide w h regs = absurd (true≢false h)
-  operator_composed Remainder w h regs = absurd (true≢false h)
+  operator_composed : (operator : BinaryOperator) (w : Width) → divides operator ≡ false → multiplies operator ≡ false → (regs : ℕ → ℕ) → registers_after (operator_code l r operator w) regs l ≡ composed operator w (regs l) (regs r)
+  operator_composed Either w h n regs = simp (ll, rr, lr, rl, l0, r0)
+  operator_composed Both w h n regs = simp (ll, rr, lr, rl, l0, r0)
+  operator_composed Equal w h n regs = simp (ll, l0, r0)
+  operator_composed Unequal w h n regs = simp (ll, l0, r0)
+  operator_composed Less w h n regs = simp (ll, l0, r0)
+  operator_composed LessOrEqual w h n regs = simp (ll, l0, r0)
+  operator_composed Greater w h n regs = simp (ll, l0, r0)
+  operator_composed GreaterOrEqual w h n regs = simp (ll, l0, r0)
+  operator_composed BitOr w h n regs = simp (ll, l0, r0)
+  operator_composed BitXor w h n regs = simp (ll, l0, r0)
+  operator_composed BitAnd w h n regs = simp (ll, l0, r0)
+  operator_composed ShiftLeft w h n regs = cut_composed w _ ∙ simp (ll, l0, r0)
+  operator_composed ShiftRight w h n regs = cut_composed w _ ∙ simp (ll, l0, r0)
+  operator_composed Add w h n regs = cut_composed w _ ∙ simp (ll, l0, r0)
+  operator_composed Subtract w h n regs = cut_composed w _ ∙ simp (ll, l0, r0)
+  operator_composed Multiply w h n regs = absurd (true≢false n)
+  operator_composed Divide w h n regs = absurd (true≢false h)
+  operator_composed Remainder w h n regs = absurd (true≢false h)
 
-  pub operator_made : (operator : BinaryOperator) (w : Width) → divides operator ≡ false → (regs : ℕ → ℕ) → regs l < 2 ^ 32 → regs r < 2 ^ 32 → registers_after (operator_code l r operator w) regs l ≡ operated operator w (regs l) (regs r)
-  operator_made operator w h regs left right = operator_composed operator w h regs ∙ operator_computes operator w (regs l) (regs r) h left right
+  pub operator_made : (operator : BinaryOperator) (w : Width) → divides operator ≡ false → multiplies operator ≡ false → (regs : ℕ → ℕ) → regs l < 2 ^ 32 → regs r < 2 ^ 32 → registers_after (operator_code l r operator w) regs l ≡ operated operator w (regs l) (regs r)
+  operator_made operator w h n regs left right = operator_composed operator w h n regs ∙ operator_computes operator w (regs l) (regs r) h left right
+
+  -- a product of 32 bits that is cut
+  pub product_made : (w : Width) (regs : ℕ → ℕ) (a b : ℕ) → a < 2 ^ 32 → b < 2 ^ 32 → regs l ≡ multiply_value Mul a b → registers_after (cut_code l w) regs l ≡ operated Multiply w a b
+  product_made w regs a b left right is = cut_composed w regs ∙ (ap (cut_value w) is ∙ operator_computes Multiply w a b refl left right)
 
   pub prefix_plain : (operator : PrefixOperator) (w : Width) → only_computes (either_of l r) (prefix_code l operator w) ≡ true
   prefix_plain Not w = simp (ll, l32)

@@ -1,10 +1,11 @@
 -- Code of one instruction.
-use Rattle.std.proofs.Common.{◌≡◌, ◌≢◌, ℕ, zero, suc, ◌+◌, ◌%◌, ◌^◌, ◌<◌, ◌≤◌, Bool, true, false, cond, nat_eq, List, [], ◌∷◌, Option, Some, None, All, is_some, refl, sym, ap, ◌∙◌, subst, arith, eq-eqb, ne_eqb}
+use Rattle.std.proofs.Common.{◌≡◌, ◌≢◌, ℕ, zero, suc, ◌+◌, ◌%◌, ◌^◌, ◌<◌, ◌≤◌, Bool, true, false, cond, nat_eq, List, [], ◌∷◌, ◌++◌, Option, Some, None, All, is_some, refl, sym, ap, ◌∙◌, subst, arith, eq-eqb, ne_eqb}
 use Rattle.std.proofs.lemmas.Bool.{false≢true}
 use Rattle.rv_code.specs.declared.instructions.Instr.{Instr}
 use Rattle.rv_code.specs.declared.instructions.Instr.TheVariants as instr
 use Rattle.rv_code.specs.declared.operations.DivideOperation.{DivideOperation}
 use Rattle.rv_code.specs.declared.operations.LoadOperation.{LoadOperation}
+use Rattle.rv_code.specs.declared.operations.MultiplyOperation.{MultiplyOperation}
 use Rattle.rv_code.specs.declared.operations.StoreOperation.{StoreOperation}
 use Rattle.rv_code.specs.Words.{IsInstr}
 use Rattle.rv_machine.specs.declared.effects.Effect.TheVariants.{Computes}
@@ -12,18 +13,20 @@ use Rattle.rv_machine.specs.declared.observation.Event.{Event}
 use Rattle.rv_machine.specs.declared.observation.Event.TheVariants as event
 use Rattle.rv_machine.specs.declared.observation.Observation.{Observation}
 use Rattle.rv_machine.specs.Bytes.{number_at, with_number}
-use Rattle.rv_machine.specs.Effects.{effect_of, address_of, load_size, loaded_value, store_size, divide_value}
+use Rattle.rv_machine.specs.Effects.{effect_of, address_of, load_size, loaded_value, store_size, multiply_value, divide_value}
 use Rattle.rv_machine.specs.Sizes.{byte_count}
 use Rattle.rv_machine.proofs.EndingLaws.{ending_of-Computes}
 use Rattle.rv_machine.specs.Leakage.{Leads, stays, turns}
-use Rattle.rv_machine.specs.Machine.{State, Code, ending_of, with_value, with_stored, IsAt}
+use Rattle.rv_machine.specs.Machine.{State, Code, product_shown, ending_of, with_value, with_stored, IsAt}
 use Rattle.rv_machine.specs.Registers.{register, with_register}
-use Rattle.rv_machine.proofs.TurnLaws.{turn_of, with_value-pc, with_value-regs, with_value-bytes, with_stored-pc, with_stored-regs, with_stored-bytes, load_leads, store_leads, divide_leads}
+use Rattle.rv_machine.proofs.TurnLaws.{turn_of, with_value-pc, with_value-regs, with_value-bytes, with_stored-pc, with_stored-regs, with_stored-bytes, load_leads, store_leads, multiply_leads, divide_leads}
 use Rattle.branch_removal.specs.StraightMeaning.{StraightState}
-use Rattle.inline.specs.Path.{Path, indexed, divided}
+use Rattle.inline.specs.Path.{Path, indexed, divided, multiplied, seen as seen_of}
 use Rattle.expression_code.specs.Inside.{IsInside}
 use Rattle.expression_code.proofs.Straight.{Setting, none, Leak, always, Placed, Before, Ends, Runs}
 use Rattle.word.specs.declared.place.Place.{Place}
+use Rattle.word.specs.declared.profile.Profile.{Profile}
+use Rattle.word.specs.declared.profile.Profile.TheVariants.{P1, P2}
 
 -- asked of no state
 abbrev pub Always : Before
@@ -101,7 +104,7 @@ module _ (z : Setting) where
     leak = always (record { pc = p; event = None } ∷ []);
     runs = λ env s rest at fine fit.
         let v = value s.regs in
-        let turn = turn_of z.code s i _ (stands z.code p i [] placed ok s at) (ap (λ e. ending_of e s) (effect s.pc s.regs) ∙ ending_of-Computes rd v s) in
+        let turn = turn_of z.code s i _ (stands z.code p i [] placed ok s at) (ap (λ e. ending_of z.code.profile e s) (effect s.pc s.regs) ∙ ending_of-Computes z.code.profile rd v s) in
         record {
           turns = 1;
           end = with_value s rd v;
@@ -238,6 +241,54 @@ module _ (z : Setting) where
           at = next_pc s.pc p _ at placed.1 (with_value-pc s rd v);
           done = record {
             there = moves.there ∙ (ap (λ x. divide_value operation x b) fit.0 ∙ ap (λ y. divide_value operation (left env) y) fit.1);
+            others = moves.others;
+            same = moves.same;
+          };
+        };
+  }
+
+  -- what is shown of the next mark's factors, where they are seen
+  abbrev of_factors : Profile → ℕ → Leak
+  of_factors P1 p path = (record { pc = p; event = None } ∷ [], path)
+  of_factors P2 p [] = ([], [])
+  of_factors P2 p (multiplied a b ∷ rest) = (record { pc = p; event = Some (event.Mul a b) } ∷ [], rest)
+  of_factors P2 p (other ∷ rest) = ([], rest)
+
+  factors_shown : (profile : Profile) (p a b : ℕ) (rest : Path) → of_factors profile p (seen_of profile (multiplied a b ∷ []) ++ rest) ≡ (record { pc = p; event = product_shown profile a b } ∷ [], rest)
+  factors_shown P1 p a b rest = refl
+  factors_shown P2 p a b rest = refl
+
+  factors_inside : (profile : Profile) (a b : ℕ) → IsInside z.frame z.size (product_shown profile a b)
+  factors_inside P1 a b = tt
+  factors_inside P2 a b = tt
+
+  -- a multiplication of the factors that are next on the path
+  pub multiplying : (left right : StraightState → ℕ) (operation : MultiplyOperation) (rd rs1 rs2 : ℕ) → IsInstr (instr.Multiply operation rd rs1 rs2) → rd ≢ 0
+      → Runs z 1 (λ env. multiplied (left env) (right env) ∷ []) (instr.Multiply operation rd rs1 rs2 ∷ [])
+      (λ env s. (register s.regs rs1 ≡ left env) × (register s.regs rs2 ≡ right env)) (λ env s t. Moves rd (multiply_value operation (left env) (right env)) s t)
+  multiplying left right operation rd rs1 rs2 ok nonzero p placed = record {
+    leak = of_factors z.code.profile p;
+    runs = λ env s rest at fine fit.
+        let a = register s.regs rs1 in
+        let b = register s.regs rs2 in
+        let v = multiply_value operation a b in
+        let leads = multiply_leads z.code s operation rd rs1 rs2 (stands z.code p _ [] placed ok s at) in
+        let moves = moved s rd v nonzero in
+        record {
+          turns = 1;
+          end = with_value s rd v;
+          seen = record { pc = p; event = product_shown z.code.profile (left env) (right env) } ∷ [];
+          leads =
+              subst (λ y. Leads z.code 1 s (record { pc = p; event = product_shown z.code.profile (left env) y } ∷ []) (with_value s rd v)) fit.1
+              (observed z.code s (with_value s rd v) p (left env) a (λ x. product_shown z.code.profile x b) at fit.0 leads);
+          within = omega arith;
+          shown = factors_shown z.code.profile p (left env) (right env) rest;
+          inside =
+              All-one (λ (o : Observation). IsInside z.frame z.size o.event) (record { pc = p; event = product_shown z.code.profile (left env) (right env) })
+              (factors_inside z.code.profile (left env) (right env));
+          at = next_pc s.pc p _ at placed.1 (with_value-pc s rd v);
+          done = record {
+            there = moves.there ∙ (ap (λ x. multiply_value operation x b) fit.0 ∙ ap (λ y. multiply_value operation (left env) y) fit.1);
             others = moves.others;
             same = moves.same;
           };

@@ -1,11 +1,12 @@
--- Pieces of code. A piece has a cost, the turns that it takes at most, and what it shows is read off the path alone,
--- before any state is given: it reads what it puts on the path and hands on the rest. So a piece that follows another
--- reads on where that one has ended, and nobody has to say where the path is cut. A branch and a loop look at the
--- path's next mark and choose by it. Each piece may count on it that its part of the path is fine.
+-- Pieces of code. A piece has a cost, the turns that it takes at most, and what it shows is read off the part of the path
+-- that the observer sees, before any state is given: it reads what it puts there and hands on the rest. So a piece that
+-- follows another reads on where that one has ended, and nobody has to say where the path is cut. A branch and a loop look
+-- at the next mark and choose by it. Each piece may count on it that its part of the path is fine.
 use Rattle.std.proofs.Common.{◌≡◌, ℕ, suc, ◌+◌, ◌*◌, ◌%◌, ◌^◌, ◌<◌, ◌≤◌, List, [], ◌∷◌, ◌++◌, length, All, refl, sym, ap, ◌∙◌, subst, arith, length-append, append_assoc}
 use Rattle.std.proofs.lemmas.List.Elements.{All-append}
-use Rattle.inline.specs.Path.{Path, AreFine}
+use Rattle.inline.specs.Path.{Path, AreFine, seen as seen_of}
 use Rattle.inline.specs.declared.flat.FlatVariable.{FlatVariable}
+use Rattle.branch_removal.proofs.SeenLemmas.{seen-append}
 use Rattle.branch_removal.specs.StraightMeaning.{StraightState}
 pub use Rattle.expression_code.specs.Computed.{Placed}
 use Rattle.expression_code.specs.Inside.{IsInside}
@@ -29,6 +30,15 @@ pub record Setting : Type 0 where
   pub even : frame % 4 ≡ 0
   pub ends : frame + size < 2 ^ 32
   pub room : temporaries_offset declared controls depths ≤ size
+
+-- what the observer of the code sees of a path
+abbrev pub seen_by : Setting → Path → Path
+seen_by z path = seen_of z.code.profile path
+
+-- what is seen of two parts, and then more
+pub seen_then : (z : Setting) (one other rest : Path) → seen_by z (one ++ other) ++ rest ≡ seen_by z one ++ (seen_by z other ++ rest)
+seen_then z one other rest =
+    ap (λ (front : Path). front ++ rest) (seen-append z.code.profile one other) ∙ append_assoc (seen_by z one) (seen_by z other) rest
 
 -- where the temporaries begin
 abbrev pub base_of : Setting → ℕ
@@ -105,7 +115,7 @@ pub record Ends (z : Setting) (cost q : ℕ) (leak : Leak) (path rest : Path) (Q
 -- instructions at an address, run from any state that is fit for them
 pub record Straight (z : Setting) (p cost : ℕ) (steps : Steps) (is : List Instr) (P : Before) (Q : After) : Type 0 where
   pub leak : Leak
-  pub runs : (env : StraightState) (s : machine.State) (rest : Path) → s.pc ≡ p → AreFine z.counts (steps env) → P env s → Ends z cost (p + 4 * length is) leak (steps env ++ rest) rest (Q env s) s
+  pub runs : (env : StraightState) (s : machine.State) (rest : Path) → s.pc ≡ p → AreFine z.counts (steps env) → P env s → Ends z cost (p + 4 * length is) leak (seen_by z (steps env) ++ rest) rest (Q env s) s
 
 -- instructions run wherever they stand, at most so many turns
 abbrev pub Runs : Setting → ℕ → Steps → List Instr → Before → After → Type 0
@@ -226,11 +236,11 @@ module _ (z : Setting) where
         leak = both x.leak y.leak;
         runs = λ env s rest at fine fit.
             ends_on
-            (then_ends (x.runs env s (b env ++ rest) at (fine_left z.counts (a env) (b env) fine) fit)
+            (then_ends (x.runs env s (seen_by z (b env) ++ rest) at (fine_left z.counts (a env) (b env) fine) fit)
             (λ t there done.
             ends_as (y.runs env t rest there (fine_right z.counts (a env) (b env) fine) (link env s t fit done))
             (omega arith) (omega (arith, e)) (λ u made. record { middle = t; first = done; second = made })))
-            (append_assoc (a env) (b env) rest);
+            (seen_then z (a env) (b env) rest);
       }
 
   -- the same code, asked more and giving less
@@ -278,7 +288,7 @@ module _ (z : Setting) where
         leak = x.leak;
         runs = λ env s rest at fine fit.
             ends_on (x.runs env s rest at (subst (λ (path : Path). AreFine z.counts path) (same env) fine) fit)
-            (ap (λ (front : Path). front ++ rest) (same env));
+            (ap (λ (path : Path). seen_by z path ++ rest) (same env));
       }
 
   -- the same instructions, otherwise written

@@ -26,7 +26,7 @@ Kept z free s t = (o : ℕ) → o < free → t.bytes (z.frame + o) ≡ s.bytes (
 pub record Ready (z : Setting) (env : StraightState) (s : machine.State) : Type 0 where
   pub held : Held z env s
   -- the values are within their kinds
-  pub fits : Fits (types_of z.declared) env.variables
+  pub fits : Fits (types_of z.code.profile z.declared) env.variables
   pub variables_there : (x : ℕ) (d : FlatVariable) (i : ℕ) → slice_get z.declared x ≡ Some d → i < numbers_in d.elements
       → number_at s.bytes (bytes_of d) (z.frame + place_of z.declared x d i) ≡ Some (slice_index (env.variables x) i)
   pub controls_there : (c : ℕ) → c < z.controls → number_at s.bytes 4 (z.frame + control_offset z.declared c) ≡ Some (mask_of (env.controls c))

@@ -2,28 +2,29 @@
 use Rattle.std.proofs.Common.{◌≡◌, ◌≢◌, ◌⊎◌, inl, inr, ℕ, ◌+◌, ◌-◌, ◌/◌, ◌%◌, ◌^◌, ◌<◌, ◌==◌, true, false, cond, List, [], ◌∷◌, length, refl, sym, ap, ap₂, ◌∙◌, subst, arith, ne_eqb}
 use Rattle.branch_removal.specs.StraightMeaning.{StraightState}
 use Rattle.expression_code.specs.Registers.{register_count, home}
-use Rattle.expression_code.specs.TermCode.{operator_code}
-use Rattle.inline.specs.FlatMeaning.{division}
-use Rattle.inline.specs.Path.{divided}
+use Rattle.expression_code.specs.TermCode.{cut_code, operator_code}
+use Rattle.inline.specs.FlatMeaning.{marks_of}
+use Rattle.inline.specs.Path.{divided, multiplied}
 use Rattle.rv_code.specs.declared.instructions.Instr.{Instr}
 use Rattle.rv_code.specs.declared.instructions.Instr.TheVariants as instr
+use Rattle.rv_code.specs.declared.operations.MultiplyOperation.TheVariants.{Mul}
 use Rattle.rv_code.specs.declared.operations.DivideOperation.{DivideOperation}
 use Rattle.rv_code.specs.declared.operations.DivideOperation.TheVariants.{Divu, Remu}
-use Rattle.rv_machine.specs.Effects.{divide_value}
+use Rattle.rv_machine.specs.Effects.{multiply_value, divide_value}
 use Rattle.rv_machine.specs.Machine as machine
 use Rattle.language.specs.declared.tree.BinaryOperator.{BinaryOperator}
 use Rattle.language.specs.declared.tree.BinaryOperator.TheVariants.{Either, Both, Equal, Unequal, Less, LessOrEqual, Greater, GreaterOrEqual, BitOr, BitXor, BitAnd, ShiftLeft, ShiftRight, Add, Subtract, Multiply, Divide, Remainder}
-use Rattle.language.specs.Operators.{divides, operated}
+use Rattle.language.specs.Operators.{divides, multiplies, operated}
 use Rattle.word.specs.declared.place.Place.{Place}
 use Rattle.word.specs.declared.width.Width.{Width}
 use Rattle.expression_code.proofs.Computing.{registers_after, only_computes, register_kept, computing_within}
 use Rattle.expression_code.proofs.Held.{HeldAt, Held, held_regs}
 use Rattle.expression_code.proofs.Homes.{IsFree, spare_free, home_free, home_apart, lower_apart}
-use Rattle.expression_code.proofs.Operations.{either_of, written_either, allowed, operator_plain, operator_made}
+use Rattle.expression_code.proofs.Operations.{either_of, written_either, allowed, cut_plain, operator_plain, operator_made, product_made}
 use Rattle.expression_code.proofs.Pieces.{register-at}
-use Rattle.expression_code.proofs.Steps.{Moves, dividing}
-use Rattle.expression_code.proofs.Straight.{Setting, none, Runs, weaken, gives, cheaper}
-use Rattle.expression_code.proofs.TermLengths.{operator_length}
+use Rattle.expression_code.proofs.Steps.{Moves, multiplying, dividing}
+use Rattle.expression_code.proofs.Straight.{Setting, none, Runs, quiet, weaken, gives, cheaper}
+use Rattle.expression_code.proofs.TermLengths.{cut_length, operator_length}
 use Rattle.expression_code.proofs.Values.{Lower}
 
 -- a register that has a word's value has a word
@@ -94,10 +95,10 @@ module _ (z : Setting) where
     pub same : t.bytes ≡ s.bytes
 
   module _ (source : Place) (width : Width) (a b : StraightState → ℕ) (l r : ℕ) (one : IsFree l) (other : IsFree r) (apart : l ≢ r) where
-    plainly : (operator : BinaryOperator) → divides operator ≡ false → Runs z 3 none (operator_code l r operator width) (Operands l r a b) (Operated l r operator width a b)
-    plainly operator whole =
+    plainly : (operator : BinaryOperator) → divides operator ≡ false → multiplies operator ≡ false → Runs z 3 none (operator_code l r operator width) (Operands l r a b) (Operated l r operator width a b)
+    plainly operator whole alone =
         let fine' = allowed l r one other apart in
-        let plain = operator_plain l r one other apart operator width whole in
+        let plain = operator_plain l r one other apart operator width whole alone in
         cheaper z (operator_length l r operator width)
         (weaken z
         (λ env s fine given. given.held)
@@ -105,7 +106,7 @@ module _ (z : Setting) where
           held = done.held;
           there =
               ap (λ (regs : ℕ → ℕ). regs l) done.registers
-              ∙ (operator_made l r one other apart operator width whole s.regs (word_there (s.regs l) (a env) given.left given.left_fits) (word_there (s.regs r) (b env) given.right given.right_fits)
+              ∙ (operator_made l r one other apart operator width whole alone s.regs (word_there (s.regs l) (a env) given.left given.left_fits) (word_there (s.regs r) (b env) given.right given.right_fits)
               ∙ ap₂ (operated operator width) given.left given.right);
           others = λ q m n.
               ap (λ (regs : ℕ → ℕ). regs q) done.registers
@@ -124,7 +125,38 @@ module _ (z : Setting) where
         (λ env s t fine given moves. moves)
         (dividing z source a b operation l l r (one.small, one.small, other.small) one.nonzero)
 
-    pub operator_runs : (operator : BinaryOperator) → Runs z 3 (λ env. division source operator (a env) (b env)) (operator_code l r operator width) (Operands l r a b) (Operated l r operator width a b)
+    multiplies_runs : Runs z 1 (λ env. multiplied (a env) (b env) ∷ []) (instr.Multiply Mul l l r ∷ []) (Operands l r a b) (λ env s t. Moves l (multiply_value Mul (a env) (b env)) s t)
+    multiplies_runs =
+        weaken z
+        (λ env s fine given. (register-at s.regs l one.nonzero ∙ given.left, register-at s.regs r other.nonzero ∙ given.right))
+        (λ env s t fine given moves. moves)
+        (multiplying z a b Mul l l r (one.small, one.small, other.small) one.nonzero)
+
+    -- the product, and what is cut of it
+    product_runs : Runs z 3 (λ env. multiplied (a env) (b env) ∷ []) (operator_code l r Multiply width) (Operands l r a b) (Operated l r Multiply width a b)
+    product_runs =
+        let fine' = allowed l r one other apart in
+        let plain = cut_plain l r one other apart width in
+        let short = cut_length l width in
+        cheaper z (omega (arith, short))
+        (gives z
+        (λ env s t fine given done.
+        let m = done.middle in
+        let moves = done.first in
+        let cut = done.second in
+        record {
+          held = cut.held;
+          there = ap (λ (regs : ℕ → ℕ). regs l) cut.registers ∙ product_made l r one other apart width m.regs (a env) (b env) given.left_fits given.right_fits moves.there;
+          others = λ q k n.
+              ap (λ (regs : ℕ → ℕ). regs q) cut.registers
+              ∙ (register_kept (either_of l r) fine' (cut_code l width) plain m.regs q (λ rd w e. neither q l r rd k n e (written_either l r one other apart rd w)) ∙ moves.others q k);
+          same = cut.same ∙ moves.same;
+        })
+        (quiet z multiplies_runs
+        (computing_within z (either_of l r) fine' (cut_code l width) plain)
+        (λ env s t given moves. held_regs z s t (moves.others 2 (λ e. one.not_base (sym e))) moves.same given.held)))
+
+    pub operator_runs : (operator : BinaryOperator) → Runs z 3 (λ env. marks_of source operator (a env) (b env)) (operator_code l r operator width) (Operands l r a b) (Operated l r operator width a b)
     operator_runs Divide =
         cheaper z (omega arith)
         (gives z
@@ -145,19 +177,19 @@ module _ (z : Setting) where
           same = moves.same;
         })
         (divides_runs Remu))
-    operator_runs Either = plainly Either refl
-    operator_runs Both = plainly Both refl
-    operator_runs Equal = plainly Equal refl
-    operator_runs Unequal = plainly Unequal refl
-    operator_runs Less = plainly Less refl
-    operator_runs LessOrEqual = plainly LessOrEqual refl
-    operator_runs Greater = plainly Greater refl
-    operator_runs GreaterOrEqual = plainly GreaterOrEqual refl
-    operator_runs BitOr = plainly BitOr refl
-    operator_runs BitXor = plainly BitXor refl
-    operator_runs BitAnd = plainly BitAnd refl
-    operator_runs ShiftLeft = plainly ShiftLeft refl
-    operator_runs ShiftRight = plainly ShiftRight refl
-    operator_runs Add = plainly Add refl
-    operator_runs Subtract = plainly Subtract refl
-    operator_runs Multiply = plainly Multiply refl
+    operator_runs Either = plainly Either refl refl
+    operator_runs Both = plainly Both refl refl
+    operator_runs Equal = plainly Equal refl refl
+    operator_runs Unequal = plainly Unequal refl refl
+    operator_runs Less = plainly Less refl refl
+    operator_runs LessOrEqual = plainly LessOrEqual refl refl
+    operator_runs Greater = plainly Greater refl refl
+    operator_runs GreaterOrEqual = plainly GreaterOrEqual refl refl
+    operator_runs BitOr = plainly BitOr refl refl
+    operator_runs BitXor = plainly BitXor refl refl
+    operator_runs BitAnd = plainly BitAnd refl refl
+    operator_runs ShiftLeft = plainly ShiftLeft refl refl
+    operator_runs ShiftRight = plainly ShiftRight refl refl
+    operator_runs Add = plainly Add refl refl
+    operator_runs Subtract = plainly Subtract refl refl
+    operator_runs Multiply = product_runs

@@ -1,5 +1,5 @@
 -- What the machine does on the code of an expression, wherever that stands and whichever the place of its value: the value
--- comes there, the temporaries of lower places stay, and what is shown is decided by the path.
+-- comes there, the temporaries of lower places stay, and what is shown is decided by what the code's observer sees of the path.
 use Rattle.std.specs.Prelude.{◌≡◌, ℕ, ◌+◌, ◌*◌, ◌%◌, ◌^◌, ◌<◌, ◌≤◌, true, List, [], ◌∷◌, length, Option, Some, All, is_some, slice_get, slice_index, if◌then◌else◌}
 use Rattle.expression_code.specs.Inside.{IsInside}
 use Rattle.expression_code.specs.Layout.{bytes_of, place_of, result_offset}
@@ -11,7 +11,7 @@ use Rattle.inline.specs.Flat.{TermTree, numbers_in}
 use Rattle.inline.specs.FlatMeaning.{Values, value_in, path_in}
 use Rattle.inline.specs.FlatSize.{term_nodes}
 use Rattle.inline.specs.FlatTyping.{types_of}
-use Rattle.inline.specs.Path.{Path, AreFine}
+use Rattle.inline.specs.Path.{Path, AreFine, seen}
 use Rattle.rv_code.specs.declared.instructions.Instr.{Instr}
 use Rattle.rv_code.specs.Words.{word_of}
 use Rattle.rv_machine.specs.Bytes.{number_at}
@@ -48,7 +48,7 @@ pub record IsSiteOf (e : TermTree) (site : Site) : Type 0 where
 pub record Has (site : Site) (m : Values) (s : State) : Type 0 where
   pub base : s.regs frame_register ≡ site.frame
   pub data_there : (o : ℕ) → o < site.size → is_some (s.bytes (site.frame + o)) ≡ true
-  pub fits : Fits (types_of site.declared) m
+  pub fits : Fits (types_of site.code.profile site.declared) m
   pub variables_there : (x : ℕ) (d : FlatVariable) (i : ℕ) → slice_get site.declared x ≡ Some d → i < numbers_in d.elements
       → number_at s.bytes (bytes_of d) (site.frame + place_of site.declared x d i) ≡ Some (slice_index (m x) i)
 
@@ -58,20 +58,20 @@ temporary_in site s place =
     if has_register place then Some (s.regs (value_register + place)) else number_at s.bytes 4 (site.frame + slot_of site.free place)
 
 -- a run from a state to behind the code, which shows this list
-pub record RunsThrough (e : TermTree) (site : Site) (m : Values) (s : State) (seen : List Observation) : Type 0 where
+pub record RunsThrough (e : TermTree) (site : Site) (m : Values) (s : State) (list : List Observation) : Type 0 where
   pub turns : ℕ
   pub end : State
-  pub leads : Leads site.code turns s seen end
+  pub leads : Leads site.code turns s list end
   pub few : turns ≤ 16 * term_nodes e
-  pub inside : All (λ (o : Observation). IsInside site.frame site.size o.event) seen
+  pub inside : All (λ (o : Observation). IsInside site.frame site.size o.event) list
   pub behind : end.pc ≡ site.start + 4 * length (expr_code site.declared site.free site.place e)
   pub value : temporary_in site end site.place ≡ Some (value_in m e)
   pub lower : (place : ℕ) → place < site.place → temporary_in site end place ≡ temporary_in site s place
   pub base : end.regs frame_register ≡ site.frame
   pub kept : (o : ℕ) → o < site.free → end.bytes (site.frame + o) ≡ s.bytes (site.frame + o)
 
--- one list for each path, whatever the values
+-- one list for what is seen of each path, whatever the values
 pub record IsComputed (e : TermTree) (site : Site) : Type 0 where
   pub shown : Path → List Observation
   pub runs : (m : Values) (s : State) → s.pc ≡ site.start → Has site m s → AreFine [] (path_in m e)
-      → RunsThrough e site m s (shown (path_in m e))
+      → RunsThrough e site m s (shown (seen site.code.profile (path_in m e)))

@@ -2,7 +2,7 @@
 use Rattle.std.specs.Prelude.{ℕ, ◌+◌, ◌≤◌, Option, Some, None}
 use Rattle.rv_machine.specs.Sizes.{byte_count}
 use Rattle.rv_machine.specs.declared.observation.Event.{Event}
-use Rattle.rv_machine.specs.declared.observation.Event.TheVariants.{Load, Store, Div}
+use Rattle.rv_machine.specs.declared.observation.Event.TheVariants.{Load, Store, Div, Mul}
 
 -- a load or a store stays inside the frame
 abbrev pub IsInside : ℕ → ℕ → Option Event → Type 0
@@ -10,3 +10,4 @@ IsInside base bytes None = Unit {0}
 IsInside base bytes (Some (Load a n)) = (base ≤ a) × (a + byte_count n ≤ base + bytes)
 IsInside base bytes (Some (Store a n)) = (base ≤ a) × (a + byte_count n ≤ base + bytes)
 IsInside base bytes (Some (Div a b)) = Unit {0}
+IsInside base bytes (Some (Mul a b)) = Unit {0}

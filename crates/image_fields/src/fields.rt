@@ -3,10 +3,12 @@ ghost use Rattle.image_fields.specs.Fields.{Fields, IsImage};
 
 use crate::{ResultSlot, Slot};
 use std::marker::Model;
+use word::Profile;
 
 /// The fields of an image, each with a value that it may have.
 #[derive(Debug, Drop)]
 pub struct ImageFields {
+    profile: Profile,
     slots: Vec<Slot>,
     returned: Option<ResultSlot>,
     frame_bytes: u32,
@@ -19,31 +21,41 @@ impl Model for ImageFields {
 
     ghost Value = { Fields };
 
-    ghost view = { λ i. record { slots = i.slots.items; returned = i.returned; frame_bytes = i.frame_bytes; max_steps = i.max_steps; words = i.words.items } };
+    ghost view = { λ i. record { profile = i.profile; slots = i.slots.items; returned = i.returned; frame_bytes = i.frame_bytes; max_steps = i.max_steps; words = i.words.items } };
 
-    ghost invariant = { λ i. IsImage (record { slots = i.slots.items; returned = i.returned; frame_bytes = i.frame_bytes; max_steps = i.max_steps; words = i.words.items }) };
+    ghost invariant = { λ i. IsImage (record { profile = i.profile; slots = i.slots.items; returned = i.returned; frame_bytes = i.frame_bytes; max_steps = i.max_steps; words = i.words.items }) };
 }
 
 impl ImageFields {
     /// These fields, which have to be allowed.
     pub fn new(
+        profile: Profile,
         slots: Vec<Slot>,
         returned: Option<ResultSlot>,
         frame_bytes: u32,
         max_steps: u64,
         words: Vec<u32>,
     ) -> Self
-        requires { IsImage (record { slots = slots.items; returned = returned; frame_bytes = frame_bytes; max_steps = max_steps; words = words.items }) }
-        ensures fields { result ≡ record { slots = slots.items; returned = returned; frame_bytes = frame_bytes; max_steps = max_steps; words = words.items } }
+        requires { IsImage (record { profile = profile; slots = slots.items; returned = returned; frame_bytes = frame_bytes; max_steps = max_steps; words = words.items }) }
+        ensures fields { result ≡ record { profile = profile; slots = slots.items; returned = returned; frame_bytes = frame_bytes; max_steps = max_steps; words = words.items } }
         ensures allowed { IsImage result }
     {
         ImageFields {
+            profile,
             slots,
             returned,
             frame_bytes,
             max_steps,
             words,
         }
+    }
+
+    /// For which observer it is.
+    pub fn profile(&self) -> Profile
+        ensures profile { result ≡ self.now.profile }
+        ensures allowed { IsImage self.now }
+    {
+        self.profile
     }
 
     /// Where each parameter lies, in parameter order.

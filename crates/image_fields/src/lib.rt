@@ -1,6 +1,6 @@
-// The fields of an image: a program's code words, where its words lie in the frame, and how long it may run;
-// and which values these may have. The code generator makes them, and bytes spell them.
-// It stands on the parameters' shapes of `language`.
+// The fields of an image: for which observer it is, a program's code words, where its words lie in the frame, and how
+// long it may run; and which values these may have. The code generator makes them, and bytes spell them.
+// It stands on the observers of `word` and the parameters' shapes of `language`.
 #![tactic(auto)]
 
 mod fields;

@@ -51,6 +51,7 @@ step_limit work = 32 * work + 64
 
 abbrev pub image_of : StraightProgram → Fields
 image_of p = record {
+  profile = p.profile;
   slots = slots_from 0 p.parameters;
   returned = option_map (result_slot p.declared) p.returned;
   frame_bytes = program_base p + 4 * program_slots p;

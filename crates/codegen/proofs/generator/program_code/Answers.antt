@@ -24,4 +24,4 @@ expression-requires-clause-among c =
     let p = c.args.straight.now in
     let e = term_tree c.in-Some.value.now in
     let is : p.value ≡ Some e = sym c.value.ensures ∙ ap (option_map (λ term. term_tree term.now)) c.in-Some.is in
-    subst (λ (frame : Frame). IsAmong (length frame.declared) e) (sym c.requires.frame) (result_among p.declared p.returned p.value c.requires.room.typed.result e is)
+    subst (λ (frame : Frame). IsAmong (length frame.declared) e) (sym c.requires.frame) (result_among p.profile p.declared p.returned p.value c.requires.room.typed.result e is)
