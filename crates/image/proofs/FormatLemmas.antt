@@ -14,12 +14,13 @@ use Rattle.image.specs.declared.fault.ImageRule.{ImageRule}
 use Rattle.image.specs.declared.fault.ImageRule.TheVariants.{Magic, Version, Profile, Truncated, FieldOutOfRange, TrailingBytes}
 use Rattle.image.specs.declared.fault.ImageFault.{ImageFault}
 use Rattle.image.specs.declared.fault.ImageFault.TheVariants.{Field}
-use Rattle.image.specs.declared.preamble.TheConstants.{MAGIC, VERSION, PROFILE}
+use Rattle.image.specs.declared.preamble.TheConstants.{MAGIC, VERSION}
+use Rattle.word.specs.declared.profile.Profile as observer
 use Rattle.image.specs.declared.fields.Fault.{Fault}
 use Rattle.image_fields.specs.Fields.{Fields, slot_end, slots_end, is_length}
 use Rattle.image_fields.specs.declared.limits.TheConstants.{MOST_PARAMETERS}
 use Rattle.image.specs.Format.{Format, ends, field, read_by, fault_at}
-use Rattle.image.specs.Reading.{coded_kind, coded_label, coded_form, is_offset, is_frame_size, is_step_limit, is_word_count, layout_end, slot_format, slots_format, flagged_format, result_format, words_format, image_format, reading}
+use Rattle.image.specs.Reading.{numbered_profile, is_profile, coded_kind, coded_label, coded_form, is_offset, is_frame_size, is_step_limit, is_word_count, layout_end, slot_format, slots_format, flagged_format, result_format, words_format, image_format, reading}
 use Rattle.image.specs.private.Parts.{◌>>=◌, byte_at, number_at, field_at, found_at, coded_at, kind_of, label_of, form_of, preamble_at, slot_at, slots_at, result_slot_at, returned_at, words_at, LayoutFields, layout_at, CodeFields, code_at, fields_of, fields_at, all_of}
 
 abbrev Answer : Type 0
@@ -189,20 +190,20 @@ module _ (total : ℕ) where
 
   -- ---- all fields
 
-  module _ (next : Format) where
+  module _ (next : observer.Profile → Format) where
     abbrev at_profile : ℕ → Format
-    at_profile version = field Profile 2 (λ n. eqb n PROFILE) (λ profile. next)
+    at_profile version = field Profile 2 is_profile (λ profile. next (numbered_profile profile))
 
     abbrev at_version : ℕ → Format
     at_version magic = field Version 2 (λ n. eqb n VERSION) at_profile
 
-    preamble_joins : (left : List ℕ) → read_by total (field Magic 4 (λ n. eqb n MAGIC) at_version) left ≡ onward (preamble_at left) (λ rest. read_by total next rest)
+    preamble_joins : (left : List ℕ) → read_by total (field Magic 4 (λ n. eqb n MAGIC) at_version) left ≡ onward (preamble_at left) (λ x. read_by total (next x.0) x.1)
     unfolding preamble_at
     preamble_joins left =
         field_joins Magic 4 (λ n. eqb n MAGIC) at_version left
         ∙ steps _ _ _ _ (λ (magic : ℕ × List ℕ). field_joins Version 2 (λ n. eqb n VERSION) at_profile magic.1
-        ∙ steps _ _ _ _ (λ (version : ℕ × List ℕ). field_joins Profile 2 (λ n. eqb n PROFILE) (λ profile. next) version.1
-        ∙ steps (field_at 2 (λ n. eqb n PROFILE) Profile version.1) (λ (x : ℕ × List ℕ). Ok x.1) _ (λ (rest : List ℕ). read_by total next rest) (λ (profile : ℕ × List ℕ). refl)))
+        ∙ steps _ _ _ _ (λ (version : ℕ × List ℕ). field_joins Profile 2 is_profile (λ profile. next (numbered_profile profile)) version.1
+        ∙ steps (field_at 2 is_profile Profile version.1) (λ (x : ℕ × List ℕ). Ok (numbered_profile x.0, x.1)) _ (λ (x : observer.Profile × List ℕ). read_by total (next x.0) x.1) (λ (number : ℕ × List ℕ). refl)))
 
   module _ (next : LayoutFields → Format) where
     abbrev layout_of : List Slot → Option ResultSlot → ℕ → LayoutFields
@@ -248,16 +249,16 @@ module _ (total : ℕ) where
   unfolding read_by
   ends_join fields left = guarded (eqb (length left) 0) fields TrailingBytes left (λ f. Ok f)
 
-  abbrev after_layout : LayoutFields → Format
-  after_layout layout = field FieldOutOfRange 8 is_step_limit (at_word_count (λ code. ends (fields_of layout code)))
+  abbrev after_layout : observer.Profile → LayoutFields → Format
+  after_layout profile layout = field FieldOutOfRange 8 is_step_limit (at_word_count (λ code. ends (fields_of profile layout code)))
 
   fields_join : (left : List ℕ) → read_by total image_format left ≡ onward (fields_at left) (λ x. read_by total (ends x.0) x.1)
   unfolding image_format fields_at
   fields_join left =
-      preamble_joins (layout_format after_layout) left
-      ∙ steps _ _ _ _ (λ (rest : List ℕ). layout_joins after_layout rest
-      ∙ steps _ _ _ _ (λ (layout : LayoutFields × List ℕ). code_joins (λ code. ends (fields_of layout.0 code)) layout.1
-      ∙ steps (code_at layout.1) (λ (x : CodeFields × List ℕ). Ok (fields_of layout.0 x.0, x.1)) _ (λ (x : Fields × List ℕ). read_by total (ends x.0) x.1) (λ (code : CodeFields × List ℕ). refl)))
+      preamble_joins (λ profile. layout_format (after_layout profile)) left
+      ∙ steps _ _ _ _ (λ (begun : observer.Profile × List ℕ). layout_joins (after_layout begun.0) begun.1
+      ∙ steps _ _ _ _ (λ (layout : LayoutFields × List ℕ). code_joins (λ code. ends (fields_of begun.0 layout.0 code)) layout.1
+      ∙ steps (code_at layout.1) (λ (x : CodeFields × List ℕ). Ok (fields_of begun.0 layout.0 x.0, x.1)) _ (λ (x : Fields × List ℕ). read_by total (ends x.0) x.1) (λ (code : CodeFields × List ℕ). refl)))
 
   all_join : (left : List ℕ) → read_by total image_format left ≡ onward (all_of left) (λ f. Ok f)
   unfolding all_of

@@ -9,12 +9,14 @@ use Rattle.image_fields.specs.declared.slot.Slot.{Slot}
 use Rattle.image_fields.specs.declared.slot.ResultSlot.{ResultSlot}
 use Rattle.image.specs.declared.fault.ImageRule.TheVariants.{Magic, Version, Profile, FieldOutOfRange, TrailingBytes}
 use Rattle.image.specs.declared.fault.ImageFault.{ImageFault}
-use Rattle.image.specs.declared.preamble.TheConstants.{MAGIC, VERSION, PROFILE}
+use Rattle.image.specs.declared.preamble.TheConstants.{MAGIC, VERSION}
+use Rattle.word.specs.declared.profile.Profile as observer
+use Rattle.word.specs.declared.profile.Profile.TheVariants.{P1, P2}
 use Rattle.image.specs.declared.fields.Fault.{Fault}
 use Rattle.image_fields.specs.Fields.{Fields, slot_end, slots_end, result_end, AreSlots, IsResultSlot, IsImage}
 use Rattle.image_fields.specs.declared.limits.TheConstants.{MOST_PARAMETERS, MOST_FRAME_BYTES, MOST_STEPS, MOST_WORDS}
-use Rattle.image.specs.private.Spelling.{preamble, spelled_slot, spelled_result, spelling}
-use Rattle.image.specs.Reading.{is_frame_size, is_step_limit, is_word_count, layout_end, reading, Spells, IsUnlessMemory}
+use Rattle.image.specs.private.Spelling.{profile_number, preamble, spelled_slot, spelled_result, spelling}
+use Rattle.image.specs.Reading.{numbered_profile, is_profile, is_frame_size, is_step_limit, is_word_count, layout_end, reading, Spells, IsUnlessMemory}
 use Rattle.image.specs.private.Parts.{◌>>=◌, number_at, field_at, preamble_at, slots_at, returned_at, words_at, LayoutFields, layout_at, CodeFields, code_at, fields_of, fields_at, all_of}
 use Rattle.image.proofs.FormatLemmas.{placed, reading_found, reading_placed}
 use Rattle.image.proofs.Steps.{bind_ok, guard_passed, ok_is}
@@ -23,30 +25,54 @@ use Rattle.image.proofs.Slots.{slots_take, slots_again, returned_takes, returned
 
 -- ---- the preamble
 
-preamble_takes : (bytes rest : List ℕ) → IsBytes bytes → preamble_at bytes ≡ Ok rest → Takes bytes preamble rest
+-- a profile by its number
+number_back : (n : ℕ) → is_profile n ≡ true → n ≡ profile_number (numbered_profile n)
+number_back zero e = absurd cc
+number_back (suc zero) e = refl
+number_back (suc (suc zero)) e = refl
+number_back (suc (suc (suc n))) e =
+    let few : suc (suc (suc n)) ≤ 2 = leb-true (suc (suc (suc n))) 2 (and_parts (leb 1 (suc (suc (suc n)))) (leb (suc (suc (suc n))) 2) e).1 in
+    absurd (omega (arith, few))
+
+profile_again : (profile : observer.Profile) → numbered_profile (profile_number profile) ≡ profile
+profile_again P1 = refl
+profile_again P2 = refl
+
+number_is : (profile : observer.Profile) → is_profile (profile_number profile) ≡ true
+number_is P1 = refl
+number_is P2 = refl
+
+number_fits : (profile : observer.Profile) → profile_number profile < 256 ^ 2
+number_fits P1 = lit< tt
+number_fits P2 = lit< tt
+
+preamble_takes : (bytes : List ℕ) (x : observer.Profile × List ℕ) → IsBytes bytes → preamble_at bytes ≡ Ok x → Takes bytes (preamble x.0) x.1
 unfolding preamble_at
-preamble_takes bytes rest fits e =
-    let a = bind_ok (field_at 4 (λ n. eqb n MAGIC) Magic bytes) (λ magic. field_at 2 (λ n. eqb n VERSION) Version magic.1 >>= λ version. field_at 2 (λ n. eqb n PROFILE) Profile version.1 >>= λ profile. Ok profile.1) rest e in
-    let b = bind_ok (field_at 2 (λ n. eqb n VERSION) Version a.0.1) (λ version. field_at 2 (λ n. eqb n PROFILE) Profile version.1 >>= λ profile. Ok profile.1) rest a.2 in
-    let c = bind_ok (field_at 2 (λ n. eqb n PROFILE) Profile b.0.1) (λ profile. Ok profile.1) rest b.2 in
+preamble_takes bytes x fits e =
+    let a = bind_ok (field_at 4 (λ n. eqb n MAGIC) Magic bytes) (λ magic. field_at 2 (λ n. eqb n VERSION) Version magic.1 >>= λ version. field_at 2 is_profile Profile version.1 >>= λ profile. Ok (numbered_profile profile.0, profile.1)) x e in
+    let b = bind_ok (field_at 2 (λ n. eqb n VERSION) Version a.0.1) (λ version. field_at 2 is_profile Profile version.1 >>= λ profile. Ok (numbered_profile profile.0, profile.1)) x a.2 in
+    let c = bind_ok (field_at 2 is_profile Profile b.0.1) (λ profile. Ok (numbered_profile profile.0, profile.1)) x b.2 in
     let t0 = field_takes 4 wide4 (λ n. eqb n MAGIC) Magic bytes a.0 fits a.1 in
     let t1 = field_takes 2 wide2 (λ n. eqb n VERSION) Version a.0.1 b.0 t0.0.rest_fits b.1 in
-    let t2 = field_takes 2 wide2 (λ n. eqb n PROFILE) Profile b.0.1 c.0 t1.0.rest_fits c.1 in
+    let t2 = field_takes 2 wide2 is_profile Profile b.0.1 c.0 t1.0.rest_fits c.1 in
     let e12 = Takes-then a.0.1 (little_bytes 2 b.0.0) b.0.1 (little_bytes 2 c.0.0) c.0.1 t1.0 t2.0 in
     let e02 = Takes-then bytes (little_bytes 4 a.0.0) a.0.1 (little_bytes 2 b.0.0 ++ little_bytes 2 c.0.0) c.0.1 t0.0 e12 in
     let n0 : a.0.0 ≡ MAGIC = eqb-true a.0.0 MAGIC t0.2 in
     let n1 : b.0.0 ≡ VERSION = eqb-true b.0.0 VERSION t1.2 in
-    let n2 : c.0.0 ≡ PROFILE = eqb-true c.0.0 PROFILE t2.2 in
+    let n2 : c.0.0 ≡ profile_number (numbered_profile c.0.0) = number_back c.0.0 t2.2 in
     let f0 = subst (λ (n : ℕ). Takes bytes (little_bytes 4 n ++ (little_bytes 2 b.0.0 ++ little_bytes 2 c.0.0)) c.0.1) n0 e02 in
     let f1 = subst (λ (n : ℕ). Takes bytes (little_bytes 4 MAGIC ++ (little_bytes 2 n ++ little_bytes 2 c.0.0)) c.0.1) n1 f0 in
     let f2 = subst (λ (n : ℕ). Takes bytes (little_bytes 4 MAGIC ++ (little_bytes 2 VERSION ++ little_bytes 2 n)) c.0.1) n2 f1 in
-    subst (λ (r : List ℕ). Takes bytes preamble r) (ok_is c.0.1 rest c.2) f2
+    let made : observer.Profile × List ℕ = (numbered_profile c.0.0, c.0.1) in
+    subst (λ (y : observer.Profile × List ℕ). Takes bytes (preamble y.0) y.1) (ok_is made x c.2) f2
 
-preamble_again : (rest : List ℕ) → preamble_at (preamble ++ rest) ≡ Ok rest
+preamble_again : (profile : observer.Profile) (rest : List ℕ) → preamble_at (preamble profile ++ rest) ≡ Ok (profile, rest)
 unfolding preamble_at
-preamble_again rest =
-    let regrouped : preamble ++ rest ≡ little_bytes 4 MAGIC ++ (little_bytes 2 VERSION ++ (little_bytes 2 PROFILE ++ rest)) = refl in
-    ap preamble_at regrouped ∙ rw (field_again 4 (λ n. eqb n MAGIC) Magic MAGIC (little_bytes 2 VERSION ++ (little_bytes 2 PROFILE ++ rest)) (lit< tt) refl, field_again 2 (λ n. eqb n VERSION) Version VERSION (little_bytes 2 PROFILE ++ rest) (lit< tt) refl, field_again 2 (λ n. eqb n PROFILE) Profile PROFILE rest (lit< tt) refl) refl
+preamble_again profile rest =
+    let number = profile_number profile in
+    let after_version = little_bytes 2 number ++ rest in
+    let regrouped : preamble profile ++ rest ≡ little_bytes 4 MAGIC ++ (little_bytes 2 VERSION ++ after_version) = refl in
+    ap preamble_at regrouped ∙ rw (field_again 4 (λ n. eqb n MAGIC) Magic MAGIC (little_bytes 2 VERSION ++ after_version) (lit< tt) refl, field_again 2 (λ n. eqb n VERSION) Version VERSION after_version (lit< tt) refl, field_again 2 is_profile Profile number rest (number_fits profile) (number_is profile), profile_again profile) refl
 
 -- ---- code words
 
@@ -215,22 +241,22 @@ code_again code rest h =
 
 -- ---- all fields
 
-image_is : (layout : LayoutFields) (code : CodeFields) → IsLayout layout → IsCode code → IsImage (fields_of layout code)
-image_is layout code p q = record { count = p.count; slots = p.are; returned = p.result; frame_aligned = p.aligned; frame_size = p.size; slots_inside = p.slots_inside; returned_inside = p.returned_inside; some_step = q.some_step; steps = q.steps; some_word = q.some_word; word_count = q.word_count; words = q.fit }
+image_is : (profile : observer.Profile) (layout : LayoutFields) (code : CodeFields) → IsLayout layout → IsCode code → IsImage (fields_of profile layout code)
+image_is profile layout code p q = record { count = p.count; slots = p.are; returned = p.result; frame_aligned = p.aligned; frame_size = p.size; slots_inside = p.slots_inside; returned_inside = p.returned_inside; some_step = q.some_step; steps = q.steps; some_word = q.some_word; word_count = q.word_count; words = q.fit }
 
 fields_take : (bytes : List ℕ) (x : Fields × List ℕ) → IsBytes bytes → fields_at bytes ≡ Ok x → Takes bytes (spelling x.0) x.1 × IsImage x.0
 unfolding fields_at
 fields_take bytes x fits e =
-    let a = bind_ok (preamble_at bytes) (λ rest. layout_at rest >>= λ layout. code_at layout.1 >>= λ code. Ok (fields_of layout.0 code.0, code.1)) x e in
-    let b = bind_ok (layout_at a.0) (λ layout. code_at layout.1 >>= λ code. Ok (fields_of layout.0 code.0, code.1)) x a.2 in
-    let c = bind_ok (code_at b.0.1) (λ code. Ok (fields_of b.0.0 code.0, code.1)) x b.2 in
+    let a = bind_ok (preamble_at bytes) (λ begun. layout_at begun.1 >>= λ layout. code_at layout.1 >>= λ code. Ok (fields_of begun.0 layout.0 code.0, code.1)) x e in
+    let b = bind_ok (layout_at a.0.1) (λ layout. code_at layout.1 >>= λ code. Ok (fields_of a.0.0 layout.0 code.0, code.1)) x a.2 in
+    let c = bind_ok (code_at b.0.1) (λ code. Ok (fields_of a.0.0 b.0.0 code.0, code.1)) x b.2 in
     let t0 = preamble_takes bytes a.0 fits a.1 in
-    let t1 = layout_takes a.0 b.0 t0.rest_fits b.1 in
+    let t1 = layout_takes a.0.1 b.0 t0.rest_fits b.1 in
     let t2 = code_takes b.0.1 c.0 t1.0.rest_fits c.1 in
-    let e12 = Takes-then a.0 (spelled_parts b.0.0) b.0.1 (spelled_run c.0.0) c.0.1 t1.0 t2.0 in
-    let e02 = Takes-then bytes preamble a.0 (spelled_parts b.0.0 ++ spelled_run c.0.0) c.0.1 t0 e12 in
-    let made : Fields × List ℕ = (fields_of b.0.0 c.0.0, c.0.1) in
-    subst (λ (y : Fields × List ℕ). Takes bytes (spelling y.0) y.1 × IsImage y.0) (ok_is made x c.2) (e02, image_is b.0.0 c.0.0 t1.1 t2.1)
+    let e12 = Takes-then a.0.1 (spelled_parts b.0.0) b.0.1 (spelled_run c.0.0) c.0.1 t1.0 t2.0 in
+    let e02 = Takes-then bytes (preamble a.0.0) a.0.1 (spelled_parts b.0.0 ++ spelled_run c.0.0) c.0.1 t0 e12 in
+    let made : Fields × List ℕ = (fields_of a.0.0 b.0.0 c.0.0, c.0.1) in
+    subst (λ (y : Fields × List ℕ). Takes bytes (spelling y.0) y.1 × IsImage y.0) (ok_is made x c.2) (e02, image_is a.0.0 b.0.0 c.0.0 t1.1 t2.1)
 
 pub fields_again : (f : Fields) (rest : List ℕ) → IsImage f → fields_at (spelling f ++ rest) ≡ Ok (f, rest)
 unfolding fields_at
@@ -239,8 +265,8 @@ fields_again f rest h =
     let code : CodeFields = record { max_steps = f.max_steps; words = f.words } in
     let p : IsLayout layout = record { count = h.count; are = h.slots; result = h.returned; aligned = h.frame_aligned; size = h.frame_size; slots_inside = h.slots_inside; returned_inside = h.returned_inside } in
     let q : IsCode code = record { some_step = h.some_step; steps = h.steps; some_word = h.some_word; word_count = h.word_count; fit = h.words } in
-    let regrouped : spelling f ++ rest ≡ preamble ++ (spelled_parts layout ++ (spelled_run code ++ rest)) = ap (λ (x : List ℕ). preamble ++ x) (append_assoc (spelled_parts layout) (spelled_run code) rest) in
-    ap fields_at regrouped ∙ rw (preamble_again (spelled_parts layout ++ (spelled_run code ++ rest)), layout_again layout (spelled_run code ++ rest) p, code_again code rest q) refl
+    let regrouped : spelling f ++ rest ≡ preamble f.profile ++ (spelled_parts layout ++ (spelled_run code ++ rest)) = ap (λ (x : List ℕ). preamble f.profile ++ x) (append_assoc (spelled_parts layout) (spelled_run code) rest) in
+    ap fields_at regrouped ∙ rw (preamble_again f.profile (spelled_parts layout ++ (spelled_run code ++ rest)), layout_again layout (spelled_run code ++ rest) p, code_again code rest q) refl
 
 -- ---- all of the bytes
 

@@ -61,7 +61,7 @@ pub short : (f : Fields) → IsImage f → length (spelling f) ≤ LONGEST_IMAGE
 short f h =
     let layout = layout_long f in
     let code = code_long f in
-    let front : length preamble ≡ 8 = refl in
+    let front : length (preamble f.profile) ≡ 8 = refl in
     let few = h.count in
     let words = h.word_count in
-    omega (arith, length-append preamble (spelled_layout f ++ spelled_code f), length-append (spelled_layout f) (spelled_code f))
+    omega (arith, length-append (preamble f.profile) (spelled_layout f ++ spelled_code f), length-append (spelled_layout f) (spelled_code f))

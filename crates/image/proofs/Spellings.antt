@@ -14,9 +14,10 @@ use Rattle.language.specs.declared.signature.Label.TheVariants.{Public, Secret}
 use Rattle.image_fields.specs.declared.slot.Slot.{Slot}
 use Rattle.image_fields.specs.declared.slot.ResultSlot.{ResultSlot}
 use Rattle.image_fields.specs.Fields.{Fields, IsImage}
-use Rattle.image.specs.declared.preamble.TheConstants.{MAGIC, VERSION, PROFILE}
+use Rattle.image.specs.declared.preamble.TheConstants.{MAGIC, VERSION}
+use Rattle.word.specs.declared.profile.Profile.{Profile}
 use Rattle.image.specs.Reading.{AreBytes, Spells}
-use Rattle.image.specs.private.Spelling.{kind_code, label_code, form_code, preamble, spelled_slot, spelled_result, spelled_layout, spelled_code, spelling}
+use Rattle.image.specs.private.Spelling.{profile_number, kind_code, label_code, form_code, preamble, spelled_slot, spelled_result, spelled_layout, spelled_code, spelling}
 use Rattle.image.proofs.Numbers.{IsBytes}
 use Rattle.image.proofs.Images.{is_spelled, reading_again, begins_none}
 
@@ -79,10 +80,11 @@ result_small : (returned : Option ResultSlot) → AreBytes (spelled_result retur
 result_small None = (omega arith, tt)
 result_small (Some slot) = (omega arith, (kind_small slot.kind, (label_small slot.label, number_bytes 0 4 slot.offset)))
 
-preamble_small : AreBytes preamble
-preamble_small =
-    both_bytes (little_bytes 4 MAGIC) (little_bytes 2 VERSION ++ little_bytes 2 PROFILE) (number_bytes 0 4 MAGIC)
-    (both_bytes (little_bytes 2 VERSION) (little_bytes 2 PROFILE) (number_bytes 0 2 VERSION) (number_bytes 0 2 PROFILE))
+preamble_small : (profile : Profile) → AreBytes (preamble profile)
+preamble_small profile =
+    let number = profile_number profile in
+    both_bytes (little_bytes 4 MAGIC) (little_bytes 2 VERSION ++ little_bytes 2 number) (number_bytes 0 4 MAGIC)
+    (both_bytes (little_bytes 2 VERSION) (little_bytes 2 number) (number_bytes 0 2 VERSION) (number_bytes 0 2 number))
 
 module _ (f : Fields) where
   layout_small : AreBytes (spelled_layout f)
@@ -97,7 +99,7 @@ module _ (f : Fields) where
       both_bytes (little_bytes 8 f.max_steps) (little_bytes 4 (length f.words) ++ words) (number_bytes 0 8 f.max_steps) (both_bytes (little_bytes 4 (length f.words)) words (number_bytes 0 4 (length f.words)) (words_small f.words))
 
   spelling_small : AreBytes (spelling f)
-  spelling_small = both_bytes preamble (spelled_layout f ++ spelled_code f) preamble_small (both_bytes (spelled_layout f) (spelled_code f) layout_small code_small)
+  spelling_small = both_bytes (preamble f.profile) (spelled_layout f ++ spelled_code f) (preamble_small f.profile) (both_bytes (spelled_layout f) (spelled_code f) layout_small code_small)
 
 -- ---- the laws
 

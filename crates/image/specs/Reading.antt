@@ -14,8 +14,19 @@ use Rattle.image.specs.declared.fault.ImageFault.{ImageFault}
 use Rattle.image.specs.declared.fault.ImageFault.TheVariants.{Field, Memory}
 use Rattle.image_fields.specs.Fields.{Fields, slot_end, slots_end, result_end, is_length}
 use Rattle.image_fields.specs.declared.limits.TheConstants.{MOST_PARAMETERS, MOST_FRAME_BYTES, MOST_STEPS, MOST_WORDS}
-use Rattle.image.specs.declared.preamble.TheConstants.{MAGIC, VERSION, PROFILE}
+use Rattle.image.specs.declared.preamble.TheConstants.{MAGIC, VERSION}
+use Rattle.word.specs.declared.profile.Profile as observer
+use Rattle.word.specs.declared.profile.Profile.TheVariants.{P1, P2}
 use Rattle.image.specs.Format.{Format, ends, field, read_by}
+
+-- profiles by their numbers, 1 and 2
+abbrev pub numbered_profile : ℕ → observer.Profile
+numbered_profile zero = P1
+numbered_profile (suc zero) = P1
+numbered_profile (suc (suc n)) = P2
+
+abbrev pub is_profile : ℕ → Bool
+is_profile n = nat_le 1 n && nat_le n 2
 
 -- kinds, labels and forms by their codes, those from 0 to 3, to 1 and to 2
 abbrev pub coded_kind : ℕ → Kind
@@ -88,7 +99,7 @@ unfoldable pub image_format : Format
 image_format =
     field Magic 4 (λ n. n == MAGIC) (λ magic.
     field Version 2 (λ n. n == VERSION) (λ version.
-    field Profile 2 (λ n. n == PROFILE) (λ profile.
+    field Profile 2 is_profile (λ profile.
     field FieldOutOfRange 2 (λ n. nat_le n MOST_PARAMETERS) (λ count.
     slots_format count 0 (λ slots.
     result_format (slots_end 0 slots) (λ returned.
@@ -96,7 +107,7 @@ image_format =
     field FieldOutOfRange 8 is_step_limit (λ steps.
     field FieldOutOfRange 4 is_word_count (λ count.
     words_format count (λ words.
-    ends (record { slots = slots; returned = returned; frame_bytes = frame; max_steps = steps; words = words })))))))))))
+    ends (record { profile = numbered_profile profile; slots = slots; returned = returned; frame_bytes = frame; max_steps = steps; words = words })))))))))))
 
 -- the fields that the bytes spell, or the first fault and the offset of its field
 abbrev pub reading : List ℕ → Result Fields ImageFault

@@ -11,7 +11,7 @@ pub enum ImageRule {
     Magic,
     /// The format is of another version.
     Version,
-    /// The image is for an observer of another profile.
+    /// The image is for an observer of no profile that there is.
     Profile,
     /// A field passes the end.
     Truncated,

@@ -3,14 +3,14 @@
 ghost use Rattle.std.specs.Prelude.{◌≡◌, ◌+◌, ◌%◌, ◌==◌, nat_le, length, Ok};
 ghost use Rattle.image.specs.declared.fields.ReadError.TheVariants.{Memory};
 ghost use Rattle.image_fields.specs.Fields.{is_length};
-ghost use Rattle.image.specs.Reading.{is_offset, is_frame_size, is_step_limit, is_word_count};
+ghost use Rattle.image.specs.Reading.{numbered_profile, is_profile, is_offset, is_frame_size, is_step_limit, is_word_count};
 ghost use Rattle.image.specs.private.Parts.{Gives, Fails, byte_at, number_at, field_at, coded_at, kind_of, label_of, form_of, preamble_at, slot_at, result_slot_at, returned_at};
 
 use crate::ImageRule;
-use crate::preamble::{MAGIC, PROFILE, VERSION};
+use crate::preamble::{MAGIC, VERSION};
 use byteorder::{ByteOrder, LittleEndian};
 use image_fields::{MOST_FRAME_BYTES, MOST_PARAMETERS, MOST_STEPS, MOST_WORDS, ResultSlot, Slot};
-use language::{Form, Kind, Label, MOST_ELEMENTS, Param};
+use language::{Form, Kind, Label, MOST_ELEMENTS, Param, Profile};
 use std::alloc::{AllocError, AllocFailed};
 
 /// A field that is wrong.
@@ -117,24 +117,34 @@ fn read_version(bytes: &[u8]) -> Result<(u16, &[u8]), ReadError>
 
 #[tactic(auto, unfolding(crate::specs::private::Parts::field_at))]
 fn read_profile(bytes: &[u8]) -> Result<(u16, &[u8]), ReadError>
-    ensures { Gives (λ x. (x.0, x.1.now)) result (field_at 2 (λ n. n == PROFILE) ImageRule.Profile bytes.now) }
+    ensures { Gives (λ x. (x.0, x.1.now)) result (field_at 2 is_profile ImageRule.Profile bytes.now) }
 {
-    let (profile, rest) = read_u16(bytes)?;
-    if profile != PROFILE {
+    let (number, rest) = read_u16(bytes)?;
+    if number == 0 || number > 2 {
         return Err(fault_of(ImageRule::Profile, bytes));
     }
-    Ok((profile, rest))
+    Ok((number, rest))
 }
 
-/// What stands after magic, version and profile.
+/// The profile of this number, 1 or 2.
+fn profile_from(number: u16) -> Profile
+    ensures { result ≡ numbered_profile number }
+{
+    match number {
+        0 | 1 => Profile::P1,
+        _ => Profile::P2,
+    }
+}
+
+/// The profile, which stands after magic and version.
 #[tactic(auto, unfolding(crate::specs::private::Parts::preamble_at))]
-pub fn read_preamble(bytes: &[u8]) -> Result<&[u8], ReadError>
-    ensures { Gives (λ x. x.now) result (preamble_at bytes.now) }
+pub fn read_preamble(bytes: &[u8]) -> Result<(Profile, &[u8]), ReadError>
+    ensures { Gives (λ x. (x.0, x.1.now)) result (preamble_at bytes.now) }
 {
     let (_, rest) = read_magic(bytes)?;
     let (_, rest) = read_version(rest)?;
-    let (_, rest) = read_profile(rest)?;
-    Ok(rest)
+    let (number, rest) = read_profile(rest)?;
+    Ok((profile_from(number), rest))
 }
 
 #[tactic(auto, unfolding(crate::specs::private::Parts::field_at))]

@@ -2,6 +2,7 @@ ghost use Rattle.std.specs.Prelude.{◌≡◌};
 ghost use Rattle.image_fields.specs.Fields.{Fields, IsImage};
 
 use image_fields::{ImageFields, ResultSlot, Slot};
+use language::Profile;
 use std::marker::Model;
 
 /// A program for the machine, as it was read: its code, and where its words lie in the frame.
@@ -24,6 +25,14 @@ impl Image {
         ensures { result ≡ fields }
     {
         Image { fields }
+    }
+
+    /// For which observer it is.
+    pub fn profile(&self) -> Profile
+        ensures profile { result ≡ self.now.profile }
+        ensures allowed { IsImage self.now }
+    {
+        self.fields.profile()
     }
 
     /// Where each parameter lies, in parameter order.

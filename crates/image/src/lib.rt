@@ -18,6 +18,6 @@ pub use fault::{ImageFault, ImageRule};
 pub use image::Image;
 pub use laws::{allowed_fields_are_spelled, no_spelling_begins_another, one_spelling};
 pub use limits::LONGEST_IMAGE;
-pub use preamble::{MAGIC, PROFILE, VERSION};
+pub use preamble::{MAGIC, VERSION};
 pub use reading::read;
 pub use writing::write;

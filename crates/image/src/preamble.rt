@@ -5,6 +5,3 @@ pub const MAGIC: u32 = 0x4943_4146;
 
 /// The version of the format.
 pub const VERSION: u16 = 1;
-
-/// The profile of the observer that the image is made for.
-pub const PROFILE: u16 = 1;

@@ -10,6 +10,7 @@ use crate::fields::{
 use crate::limits::{PARAMETER_BYTES, WORD_BYTES};
 use crate::{Image, ImageFault, ImageRule};
 use image_fields::{ImageFields, ResultSlot, Slot};
+use language::Profile;
 use std::alloc::Global;
 
 /// So many slots.
@@ -101,16 +102,16 @@ fn read_code(alloc: Global, bytes: &[u8]) -> Result<(CodePart, &[u8]), ReadError
 }
 
 #[tactic(auto, unfolding(crate::specs::private::Parts::fields_at, crate::specs::private::Parts::all_of))]
-fn read_all(alloc: Global, bytes: &[u8]) -> Result<(Layout, CodePart), ReadError>
-    ensures { Gives (λ x. fields_of (layout_fields x.0) (code_fields x.1)) result (all_of bytes.now) }
+fn read_all(alloc: Global, bytes: &[u8]) -> Result<(Profile, Layout, CodePart), ReadError>
+    ensures { Gives (λ x. fields_of x.0 (layout_fields x.1) (code_fields x.2)) result (all_of bytes.now) }
 {
-    let rest = read_preamble(bytes)?;
+    let (profile, rest) = read_preamble(bytes)?;
     let (layout, rest) = read_layout(alloc, rest)?;
     let (code, rest) = read_code(alloc, rest)?;
     if !rest.is_empty() {
         return Err(fault_of(ImageRule::TrailingBytes, rest));
     }
-    Ok((layout, code))
+    Ok((profile, layout, code))
 }
 
 /// The image of these bytes, or the first fault and the offset of its field.
@@ -118,7 +119,8 @@ fn image_of(alloc: Global, bytes: &[u8]) -> Result<Image, ImageFault>
     ensures { IsUnlessMemory result (reading bytes.now) }
 {
     match read_all(alloc, bytes) {
-        Ok((layout, code)) => Ok(Image::new(ImageFields::new(
+        Ok((profile, layout, code)) => Ok(Image::new(ImageFields::new(
+            profile,
             layout.slots,
             layout.returned,
             layout.frame_bytes,

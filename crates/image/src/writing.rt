@@ -3,15 +3,24 @@ ghost use Rattle.std.specs.List.{flat_map};
 ghost use Rattle.byteorder.specs.Endian.{little_bytes};
 ghost use Rattle.language.specs.WantOfMemory.{IsWantOfMemory};
 ghost use Rattle.image.specs.Reading.{Spells};
-ghost use Rattle.image.specs.private.Spelling.{preamble, kind_code, label_code, form_code, spelled_slot, spelled_result, spelled_layout, spelled_code};
+ghost use Rattle.image.specs.private.Spelling.{profile_number, preamble, kind_code, label_code, form_code, spelled_slot, spelled_result, spelled_layout, spelled_code};
 
 use crate::limits::{FIXED_BYTES, LONGEST_IMAGE, PARAMETER_BYTES, WORD_BYTES};
-use crate::preamble::{MAGIC, PROFILE, VERSION};
+use crate::preamble::{MAGIC, VERSION};
 use byteorder::{ByteOrder, LittleEndian};
 use codegen::Code;
 use image_fields::{ImageFields, ResultSlot, Slot};
-use language::{Form, Kind, Label, Refusal};
+use language::{Form, Kind, Label, Profile, Refusal};
 use std::alloc::{AllocError, Global};
+
+fn number_of(profile: Profile) -> u16
+    ensures { result ≡ profile_number profile }
+{
+    match profile {
+        Profile::P1 => 1,
+        Profile::P2 => 2,
+    }
+}
 
 fn code_of_kind(kind: Kind) -> u8
     ensures { result ≡ kind_code kind }
@@ -67,12 +76,12 @@ fn put_u64(out: &mut Vec<u8>, n: u64) -> Result<(), AllocError>
     out.extend_from_slice(&bytes)
 }
 
-fn put_preamble(out: &mut Vec<u8>) -> Result<(), AllocError>
-    ensures { OnOk result (out.new.items ≡ out.old.items ++ preamble) }
+fn put_preamble(out: &mut Vec<u8>, profile: Profile) -> Result<(), AllocError>
+    ensures { OnOk result (out.new.items ≡ out.old.items ++ preamble profile) }
 {
     put_u32(out, MAGIC)?;
     put_u16(out, VERSION)?;
-    put_u16(out, PROFILE)
+    put_u16(out, number_of(profile))
 }
 
 fn put_slot(out: &mut Vec<u8>, slot: &Slot) -> Result<(), AllocError>
@@ -150,7 +159,7 @@ fn spelled(alloc: Global, fields: &ImageFields) -> Result<Vec<u8>, AllocError>
         + PARAMETER_BYTES * fields.slots().len()
         + WORD_BYTES * fields.words().len();
     let mut out = Vec::with_capacity(alloc, room)?;
-    put_preamble(&mut out)?;
+    put_preamble(&mut out, fields.profile())?;
     put_layout(&mut out, fields)?;
     put_code(&mut out, fields)?;
     Ok(out)

@@ -11,7 +11,7 @@ use Rattle.image_fields.specs.declared.slot.Slot.{Slot}
 use Rattle.image_fields.specs.declared.slot.ResultSlot.{ResultSlot}
 use Rattle.image.specs.declared.fault.ImageRule.{ImageRule}
 use Rattle.image.specs.declared.fault.ImageRule.TheVariants.{Magic, Version, Profile, Truncated, FieldOutOfRange, TrailingBytes}
-use Rattle.image.specs.declared.preamble.TheConstants.{MAGIC, VERSION, PROFILE}
+use Rattle.image.specs.declared.preamble.TheConstants.{MAGIC, VERSION}
 use Rattle.image.specs.declared.fields.Fault.{Fault}
 use Rattle.image.specs.declared.fields.ReadError.{ReadError}
 use Rattle.image.specs.declared.fields.ReadError.TheVariants as errors
@@ -19,7 +19,8 @@ use Rattle.image.specs.declared.reading.Layout.{Layout}
 use Rattle.image.specs.declared.reading.CodePart.{CodePart}
 use Rattle.image_fields.specs.Fields.{Fields, slot_end, slots_end, is_length}
 use Rattle.image_fields.specs.declared.limits.TheConstants.{MOST_PARAMETERS}
-use Rattle.image.specs.Reading.{is_offset, is_frame_size, is_step_limit, is_word_count, layout_end}
+use Rattle.word.specs.declared.profile.Profile as observer
+use Rattle.image.specs.Reading.{numbered_profile, is_profile, is_offset, is_frame_size, is_step_limit, is_word_count, layout_end}
 
 infixl 10 ◌>>=◌
 abbrev pub ◌>>=◌ : {A B : Type 0} → Result A Fault → (A → Result B Fault) → Result B Fault
@@ -75,13 +76,13 @@ form_of (suc zero) = Some FixedArray
 form_of (suc (suc zero)) = Some MutableArray
 form_of (suc (suc (suc n))) = None
 
--- magic, version and profile, and what stands after them
-unfoldable pub preamble_at : List ℕ → Result (List ℕ) Fault
+-- magic, version and profile, of which the last is kept, and what stands after them
+unfoldable pub preamble_at : List ℕ → Result (observer.Profile × List ℕ) Fault
 preamble_at bytes = do
   magic ← field_at 4 (λ n. n == MAGIC) Magic bytes
   version ← field_at 2 (λ n. n == VERSION) Version magic.1
-  profile ← field_at 2 (λ n. n == PROFILE) Profile version.1
-  Ok profile.1
+  profile ← field_at 2 is_profile Profile version.1
+  Ok (numbered_profile profile.0, profile.1)
 
 -- a slot, the one before it ending at `low`
 unfoldable pub slot_at : ℕ → List ℕ → Result (Slot × List ℕ) Fault
@@ -153,16 +154,16 @@ code_at bytes = do
   words ← words_at count.0 count.1
   Ok (record { max_steps = steps.0; words = words.0 }, words.1)
 
-abbrev pub fields_of : LayoutFields → CodeFields → Fields
-fields_of layout code = record { slots = layout.slots; returned = layout.returned; frame_bytes = layout.frame_bytes; max_steps = code.max_steps; words = code.words }
+abbrev pub fields_of : observer.Profile → LayoutFields → CodeFields → Fields
+fields_of profile layout code = record { profile = profile; slots = layout.slots; returned = layout.returned; frame_bytes = layout.frame_bytes; max_steps = code.max_steps; words = code.words }
 
 -- the fields at the front, and what stands after them
 unfoldable pub fields_at : List ℕ → Result (Fields × List ℕ) Fault
 fields_at bytes = do
-  rest ← preamble_at bytes
-  layout ← layout_at rest
+  begun ← preamble_at bytes
+  layout ← layout_at begun.1
   code ← code_at layout.1
-  Ok (fields_of layout.0 code.0, code.1)
+  Ok (fields_of begun.0 layout.0 code.0, code.1)
 
 -- all of the bytes
 unfoldable pub all_of : List ℕ → Result Fields Fault

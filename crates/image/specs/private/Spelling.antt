@@ -11,7 +11,13 @@ use Rattle.language.specs.declared.signature.Form.TheVariants.{SingleWord, Fixed
 use Rattle.image_fields.specs.declared.slot.Slot.{Slot}
 use Rattle.image_fields.specs.declared.slot.ResultSlot.{ResultSlot}
 use Rattle.image_fields.specs.Fields.{Fields}
-use Rattle.image.specs.declared.preamble.TheConstants.{MAGIC, VERSION, PROFILE}
+use Rattle.image.specs.declared.preamble.TheConstants.{MAGIC, VERSION}
+use Rattle.word.specs.declared.profile.Profile.{Profile}
+use Rattle.word.specs.declared.profile.Profile.TheVariants.{P1, P2}
+
+abbrev pub profile_number : Profile → ℕ
+profile_number P1 = 1
+profile_number P2 = 2
 
 abbrev pub kind_code : Kind → ℕ
 kind_code Boolean = 0
@@ -29,8 +35,8 @@ form_code FixedArray = 1
 form_code MutableArray = 2
 
 -- magic, version and profile
-abbrev pub preamble : List ℕ
-preamble = little_bytes 4 MAGIC ++ (little_bytes 2 VERSION ++ little_bytes 2 PROFILE)
+abbrev pub preamble : Profile → List ℕ
+preamble profile = little_bytes 4 MAGIC ++ (little_bytes 2 VERSION ++ little_bytes 2 (profile_number profile))
 
 abbrev pub spelled_slot : Slot → List ℕ
 spelled_slot slot =
@@ -55,4 +61,4 @@ spelled_code fields =
     ++ (little_bytes 4 (length fields.words) ++ flat_map (λ word. little_bytes 4 word) fields.words)
 
 abbrev pub spelling : Fields → List ℕ
-spelling fields = preamble ++ (spelled_layout fields ++ spelled_code fields)
+spelling fields = preamble fields.profile ++ (spelled_layout fields ++ spelled_code fields)

@@ -7,10 +7,10 @@ use Rattle.image.proofs.Images.{all_takes}
 use Rattle.image.proofs.reading.image_of.Goals as goal
 
 pub new-requires : goal.new-requires
-new-requires c = (all_takes c.args.bytes.now (fields_of (layout_fields c.in-Ok.layout) (code_fields c.in-Ok.code)) (λ i. omega (arith, c.type_inv.bytes i)) c.in-Ok.ensures).0
+new-requires c = (all_takes c.args.bytes.now (fields_of c.in-Ok.profile (layout_fields c.in-Ok.layout) (code_fields c.in-Ok.code)) (λ i. omega (arith, c.type_inv.bytes i)) c.in-Ok.ensures).0
 
 pub returns-in-Ok : goal.returns-in-Ok
-returns-in-Ok c = reading_found c.args.bytes.now (fields_of (layout_fields c.in-Ok.layout) (code_fields c.in-Ok.code)) c.in-Ok.ensures ∙ ap (λ (f : Fields). Ok f) (sym (c.new-in-Ok.ensures ∙ c.new.ensures.fields))
+returns-in-Ok c = reading_found c.args.bytes.now (fields_of c.in-Ok.profile (layout_fields c.in-Ok.layout) (code_fields c.in-Ok.code)) c.in-Ok.ensures ∙ ap (λ (f : Fields). Ok f) (sym (c.new-in-Ok.ensures ∙ c.new.ensures.fields))
 
 pub returns-in-Err-Fault : goal.returns-in-Err-Fault
 returns-in-Err-Fault c =
