@@ -9,17 +9,19 @@ use Rattle.hepurita.specs.Built.{IsBuilt}
 use Rattle.hepurita.specs.Compiled.{Means}
 use Rattle.image.specs.Reading.{Spells}
 use Rattle.language.specs.Tree.{ProgramTree}
+use Rattle.word.specs.declared.profile.Profile.{Profile}
 use Rattle.rv_machine.specs.Bytes.{ByteMap}
 use Rattle.rv_machine.specs.System.{Member, System, Makes, of_hart, turns_of}
 use Rattle.rv_machine.specs.declared.hart_recording.HartObservation.{HartObservation}
 use Rattle.rv_machine.specs.declared.observation.Observation.{Observation}
 use Rattle.rv_machine.specs.declared.stops.Stop.TheVariants.{Ecall}
 
--- the image of an accepted text, with arguments within its parameter types
+-- the image of an accepted text, for some observer, with arguments within its parameter types
 pub record IsFromText (job : Job) : Type 0 where
+  pub profile : Profile
   pub text : List ℕ
   pub bytes : List ℕ
-  pub built : IsBuilt text bytes
+  pub built : IsBuilt profile text bytes
   pub spelled : Spells bytes job.image
   pub within : AreWithin (params_of job.image) job.args
 

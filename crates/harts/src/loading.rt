@@ -58,7 +58,7 @@ fn frames(alloc: Global, jobs: &[(Image, Args)]) -> Result<PagedMemory, AllocErr
     Ok(memory)
 }
 
-/// The hart of the image with this number, with its own code alone.
+/// The hart of the image with this number, with its own code alone, for the image's observer.
 fn hart(alloc: Global, number: usize, image: &Image) -> Result<RunningHart, AllocError>
     requires { number < most_images }
     ensures { (args : List Arg) → IfOk result (λ hart. member_now hart ≡ member_of number (record { image = image.now; args = args })) }
@@ -66,7 +66,7 @@ fn hart(alloc: Global, number: usize, image: &Image) -> Result<RunningHart, Allo
     let base = code_base(number);
     Ok(RunningHart {
         hart: Hart::new(base, frame_base(number)),
-        code: CodeRegion::new(alloc, base, image.words())?,
+        code: CodeRegion::new_as(alloc, base, image.words(), image.profile())?,
         stop: None,
     })
 }

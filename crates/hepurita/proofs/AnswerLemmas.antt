@@ -34,6 +34,7 @@ use Rattle.hepurita.specs.Executed.{Executed, answer_at, refused, out_of_memory,
 use Rattle.hepurita.specs.Paired.{Paired, Observed, pair_fault, first_of, shifted}
 use Rattle.hepurita.specs.Paired as pairs
 use Rattle.hepurita.proofs.JudgementLemmas.{one_export}
+use Rattle.word.specs.declared.profile.Profile.{Profile}
 
 -- ---- the laws of the layers below
 
@@ -55,10 +56,10 @@ same_fields bytes f g one other =
     let both = sym one ∙ other in
     cc
 
-pub fits : OneAnswer → (text bytes : List ℕ) (program : ProgramTree) (before : List ProcedureTree) (export : ProcedureTree) (image : Fields) → Builds text bytes program before export image → Fits program before export image
-fits one text bytes program before export image is =
+pub fits : OneAnswer → (profile : Profile) (text bytes : List ℕ) (program : ProgramTree) (before : List ProcedureTree) (export : ProcedureTree) (image : Fields) → Builds profile text bytes program before export image → Fits program before export image
+fits one profile text bytes program before export image is =
     let built = is.built in
-    let same = one_export one text built.program program built.before before built.export export built.judged is.judged in
+    let same = one_export profile one text built.program program built.before before built.export export built.judged is.judged in
     let images : built.image ≡ image = same_fields bytes built.image image built.spelled is.spelled in
     let compiled : IsCompiled program before export image =
     subst (λ (f : Fields). IsCompiled program before export f) images

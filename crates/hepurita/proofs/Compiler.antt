@@ -12,7 +12,8 @@ use Rattle.codegen.specs.Loaded.{params_of, code_at, loaded_at, results_in}
 use Rattle.image_fields.specs.Fields.{Fields}
 use Rattle.inline.specs.FlatMeaning.{outcome_of as outcome_of_flat}
 use Rattle.inline.specs.Numbering.{flattened, param_of}
-use Rattle.intervals.specs.Work.{ranged}
+use Rattle.inline.specs.Path.{seen as seen_of}
+use Rattle.intervals.specs.Work.{ranged, work_of}
 use Rattle.rv_machine.specs.declared.observation.Observation.{Observation}
 use Rattle.rv_machine.specs.declared.stops.Stop.TheVariants.{Ecall}
 use Rattle.rv_machine.specs.Leakage.{Halts}
@@ -24,12 +25,17 @@ use Rattle.language.specs.declared.values.Arg.{Arg}
 use Rattle.language.specs.Results.{Results}
 use Rattle.language.specs.Tree.{ProcedureTree, ProgramTree}
 use Rattle.hepurita.specs.Compiled.{Means, RunsTo, IsCompiled}
+use Rattle.word.specs.declared.profile.Profile.{Profile}
 
 -- a procedure, the program's export, means what its body with numbered variables means
-abbrev pub MeansFlat : ProgramTree → List ProcedureTree → ProcedureTree → Type 0
-MeansFlat program before p = (args : List Arg) → AreWithin (map param_of p.parameters) args → Means program args (outcome_of_flat (flattened before p) args)
+abbrev pub MeansFlat : Profile → ProgramTree → List ProcedureTree → ProcedureTree → Type 0
+MeansFlat profile program before p = (args : List Arg) → AreWithin (map param_of p.parameters) args → Means program args (outcome_of_flat (flattened profile before p) args)
 
-module _ (program : ProgramTree) (before : List ProcedureTree) (p : ProcedureTree) (straight : StraightProgram) (image : Fields) (means : MeansFlat program before p) (removed : IsRemoved (ranged (flattened before p)) straight) (generated : IsGenerated straight image) where
+-- the image is for the observer that was asked for
+pub observed_as : (profile : Profile) (before : List ProcedureTree) (p : ProcedureTree) (straight : StraightProgram) (image : Fields) → IsRemoved (ranged (flattened profile before p)) straight → IsGenerated straight image → image.profile ≡ profile
+observed_as profile before p straight image removed generated = generated.profile ∙ removed.profile
+
+module _ (profile : Profile) (program : ProgramTree) (before : List ProcedureTree) (p : ProcedureTree) (straight : StraightProgram) (image : Fields) (means : MeansFlat profile program before p) (removed : IsRemoved (ranged (flattened profile before p)) straight) (generated : IsGenerated straight image) where
   same_params : params_of image ≡ map param_of p.parameters
   same_params = generated.parameters ∙ removed.parameters
 
@@ -46,7 +52,7 @@ module _ (program : ProgramTree) (before : List ProcedureTree) (p : ProcedureTre
   straight_agreeing : (one other : List Arg) → Agree (map param_of p.parameters) one other → Agree straight.parameters one other
   straight_agreeing one other agree = subst (λ (params : List Param). Agree params one other) (sym removed.parameters) agree
 
-  run_of : (code frame : ℕ) (args : List Arg) (bases : AreBases image code frame) → AreWithin (map param_of p.parameters) args → RunsAs straight image code frame args ((generated.follows code frame bases).shown (path_of straight args))
+  run_of : (code frame : ℕ) (args : List Arg) (bases : AreBases image code frame) → AreWithin (map param_of p.parameters) args → RunsAs straight image code frame args ((generated.follows code frame bases).shown (seen_of straight.profile (path_of straight args)))
   run_of code frame args bases fits =
       let within = straight_within args fits in
       (generated.follows code frame bases).runs args within (removed.fine args within)
@@ -56,7 +62,7 @@ module _ (program : ProgramTree) (before : List ProcedureTree) (p : ProcedureTre
       let run = run_of code frame args bases (within args fits) in
       record {
         turns = run.turns;
-        seen = (generated.follows code frame bases).shown (path_of straight args);
+        seen = (generated.follows code frame bases).shown (seen_of straight.profile (path_of straight args));
         end = run.end;
         halts = run.halts;
         within_steps = run.within_steps;
@@ -66,7 +72,7 @@ module _ (program : ProgramTree) (before : List ProcedureTree) (p : ProcedureTre
 
   -- each run that halts shows the one list of its path, and leaves the one outcome
   one_list : (code frame : ℕ) (args : List Arg) (n : ℕ) (seen : List Observation) (s : State) (bases : AreBases image code frame) → AreWithin (map param_of p.parameters) args → Halts (code_at code image) n (loaded_at code frame image args) seen Ecall s →
-      (seen ≡ (generated.follows code frame bases).shown (path_of straight args)) × (results_in frame image s.bytes ≡ outcome_of straight args)
+      (seen ≡ (generated.follows code frame bases).shown (seen_of straight.profile (path_of straight args))) × (results_in frame image s.bytes ≡ outcome_of straight args)
   one_list code frame args n seen s bases fits stopped =
       let run = run_of code frame args bases fits in
       let same = Halts-determined stopped run.halts in
@@ -89,12 +95,18 @@ module _ (program : ProgramTree) (before : List ProcedureTree) (p : ProcedureTre
       (subst (λ (params : List Param). AgreeInPublic params p.result (outcome_of straight one) (outcome_of straight other)) (removed.parameters ∙ sym same_params)
       (subst (λ (returned : Option WordType). AgreeInPublic straight.parameters returned (outcome_of straight one) (outcome_of straight other)) removed.returned public)))
 
+  observed : image.profile ≡ profile
+  observed = observed_as profile before p straight image removed generated
+
+  same_work : straight.work ≡ work_of (flattened image.profile before p)
+  same_work = removed.work ∙ ap (λ (q : Profile). work_of (flattened q before p)) (sym observed)
+
   -- the image is the procedure, compiled
   pub compiled : IsCompiled program before p image
   compiled = record {
     params = same_params;
     result = generated.returned ∙ removed.returned;
-    max_steps = generated.max_steps ∙ ap (λ (n : ℕ). 32 * n + 64) removed.work;
+    max_steps = generated.max_steps ∙ ap (λ (n : ℕ). 32 * n + 64) same_work;
     frame_size = generated.frame_size;
     word_count = subst (λ (n : ℕ). length image.words ≤ 32 * n + 64) removed.nodes generated.word_count;
     results = runs_to;

@@ -24,6 +24,7 @@ use Rattle.hepurita.specs.Built.{Judges, accepts, readable, fine}
 use Rattle.hepurita.specs.Compiled.{Means}
 use Rattle.hepurita.proofs.AnswerLemmas.{Faultless}
 use Rattle.hepurita.proofs.TheoremLemmas.{flat_typed, grammatical_export, safe_means, within_work}
+use Rattle.word.specs.declared.profile.Profile.{Profile}
 
 -- an export that passes no limit on size opens no more bodies than allowed
 few_bodies : (place : Place) (many deep large : Bool) → length (at place (when (many || deep) InlinedSize ++ when large DeclaredBytes)) ≡ 0 → deep ≡ false
@@ -41,16 +42,16 @@ judged : (program : ProgramTree) (args : List Arg) (budget : ℕ) (params : List
     → answer program args budget ≡ judged_answer None (program_run program args) budget
 judged program args budget params same none = ap (λ (fault : Option ArgumentFault). judged_answer fault (program_run program args) budget) (ap (λ ps. fault_of ps args) same ∙ none)
 
-pub evaluated : Faultless → (text : List ℕ) (program : ProgramTree) (before : List ProcedureTree) (export : ProcedureTree) (args : List Arg) (budget : ℕ) → Judges text (accepts program before export)
+pub evaluated : Faultless → (profile : Profile) (text : List ℕ) (program : ProgramTree) (before : List ProcedureTree) (export : ProcedureTree) (args : List Arg) (budget : ℕ) → Judges profile text (accepts program before export)
     → AreWithin (map param_of export.parameters) args → MOST_WORK ≤ budget → (results : Results) × Means program args results × (answer program args budget ≡ Ok results)
-evaluated faultless text program before export args budget (readable reads (fine small in_range in_time)) within enough =
+evaluated faultless profile text program before export args budget (readable reads (fine small in_range in_time)) within enough =
     let plain = grammatical_export text program reads in
     let is = small.well_formed in
     let parts = plain before export is.is_export in
-    let flat = flattened before export in
-    let typed = flat_typed program before export plain small in
+    let flat = flattened profile before export in
+    let typed = flat_typed profile program before export plain small in
     let safe = accepted_is_safe flat typed in_range in
     let work = within_work flat in_time in
     let params = map param_of export.parameters in
-    let run = answered program before export args budget is.typed is.is_export parts.0 parts.1 typed (bodies_fit before export small.sized) in_range work within enough in
-    (outcome_of flat args, safe_means program before export plain small safe args within, judged program args budget params (ap found_params is.is_export) ((faultless params args).1 within) ∙ run)
+    let run = answered profile program before export args budget is.typed is.is_export parts.0 parts.1 typed (bodies_fit before export small.sized) in_range work within enough in
+    (outcome_of flat args, safe_means profile program before export plain small safe args within, judged program args budget params (ap found_params is.is_export) ((faultless params args).1 within) ∙ run)

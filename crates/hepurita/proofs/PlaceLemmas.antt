@@ -13,6 +13,7 @@ use Rattle.grammar_laws.proofs.ViolationPlaces.{sizes_light, violations_light}
 use Rattle.hepurita.specs.Built.{IsWellFormed, JudgesProgram, refuses, ill_typed, too_large, out_of_range, too_much_work}
 use Rattle.hepurita.proofs.Exports.{Export, export_or, front_or}
 use Rattle.hepurita.proofs.RangePlaces.{ranges_light, work_light}
+use Rattle.word.specs.declared.profile.Profile.{Profile}
 
 module _ (w : Place → ℕ) where
   -- an exported procedure and those before it
@@ -38,18 +39,18 @@ module _ (w : Place → ℕ) where
       }
       by false rest found after = after found
 
-  parts_light : (program : ProgramTree) (before : List ProcedureTree) (p : ProcedureTree) → IsWellFormed program before p → in_program w program ≡ 0 → AreLightBoth before p
-  parts_light program before p is h = export_light [] program.procedures before p is.is_export refl h
+  parts_light : (profile : Profile) (program : ProgramTree) (before : List ProcedureTree) (p : ProcedureTree) → IsWellFormed profile program before p → in_program w program ≡ 0 → AreLightBoth before p
+  parts_light profile program before p is h = export_light [] program.procedures before p is.is_export refl h
 
-  refused_light : (program : ProgramTree) (rule : Rule) (place : Place) → in_program w program ≡ 0 → w origin ≡ 0 → JudgesProgram program (refuses rule place) → w place ≡ 0
-  refused_light program rule place h at_origin (ill_typed earliest) = light_of (violations_light w program h at_origin) earliest.there
-  refused_light program rule place h at_origin (too_large {before} {export} is earliest) =
-      light_of (sizes_light w before export (parts_light program before export is h).export) earliest.there
-  refused_light program rule place h at_origin (out_of_range {before} {export} small earliest) =
-      let both = parts_light program before export small.well_formed h in
-      light_of (ranges_light w before export both.earlier both.export) earliest.there
-  refused_light program rule place h at_origin (too_much_work {before} {export} small in_range earliest) =
-      light_of (work_light w before export (parts_light program before export small.well_formed h).export) earliest.there
+  refused_light : (profile : Profile) (program : ProgramTree) (rule : Rule) (place : Place) → in_program w program ≡ 0 → w origin ≡ 0 → JudgesProgram profile program (refuses rule place) → w place ≡ 0
+  refused_light profile program rule place h at_origin (ill_typed earliest) = light_of (violations_light w profile program h at_origin) earliest.there
+  refused_light profile program rule place h at_origin (too_large {before} {export} is earliest) =
+      light_of (sizes_light w before export (parts_light profile program before export is h).export) earliest.there
+  refused_light profile program rule place h at_origin (out_of_range {before} {export} small earliest) =
+      let both = parts_light profile program before export small.well_formed h in
+      light_of (ranges_light w profile before export both.earlier both.export) earliest.there
+  refused_light profile program rule place h at_origin (too_much_work {before} {export} small in_range earliest) =
+      light_of (work_light w profile before export (parts_light profile program before export small.well_formed h).export) earliest.there
 
-pub refused_in_place : (text : List ℕ) (program : ProgramTree) (rule : Rule) (place : Place) → Reads text (accepted program) → JudgesProgram program (refuses rule place) → astray text place ≡ 0
-refused_in_place text program rule place reads judges = refused_light (astray text) program rule place (heads_in_place text program reads) refl judges
+pub refused_in_place : (profile : Profile) (text : List ℕ) (program : ProgramTree) (rule : Rule) (place : Place) → Reads text (accepted program) → JudgesProgram profile program (refuses rule place) → astray text place ≡ 0
+refused_in_place profile text program rule place reads judges = refused_light (astray text) profile program rule place (heads_in_place text program reads) refl judges

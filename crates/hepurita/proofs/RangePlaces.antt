@@ -20,6 +20,7 @@ use Rattle.language.specs.declared.rule.Rule.{Rule}
 use Rattle.language.specs.declared.rule.Rule.TheVariants.{IndexOutOfRange, DivisorMayBeZero, TooMuchWork}
 use Rattle.word.specs.declared.place.Place.{Place}
 use Rattle.hepurita.proofs.LightBodies.{IsLight, IsLightTree, IsLightBlock, IsLightValue, block_light, returned_light, callables_light}
+use Rattle.word.specs.declared.profile.Profile.{Profile}
 
 module _ (w : Place → ℕ) where
   at_place : (place : Place) → w place ≡ 0 → (rules : List Rule) → AreAtLight w (at place rules)
@@ -70,13 +71,13 @@ module _ (w : Place → ℕ) where
     returned bounds None h = none
     returned bounds (Some value) h = term bounds value h
 
-  pub ranges_light : (before : List ProcedureTree) (p : ProcedureTree) → in_procedures w before ≡ 0 → in_procedure w p ≡ 0 → AreAtLight w (range_violations (flattened before p))
-  ranges_light before p front h =
-      let flat = flattened before p in
+  pub ranges_light : (profile : Profile) (before : List ProcedureTree) (p : ProcedureTree) → in_procedures w before ≡ 0 → in_procedure w p ≡ 0 → AreAtLight w (range_violations (flattened profile before p))
+  ranges_light profile before p front h =
+      let flat = flattened profile before p in
       let light = callables_light w before front in
       both
       (block flat.declared _ flat.body (block_light w (callables before) light (parameter_names p) (length p.parameters) p.body (omega (arith, h))))
       (returned flat.declared _ flat.value (returned_light w (callables before) light (return_names (callables before) p) p h))
 
-  pub work_light : (before : List ProcedureTree) (p : ProcedureTree) → in_procedure w p ≡ 0 → AreAtLight w (work_violations (flattened before p))
-  work_light before p h = at_place p.place (omega (arith, h)) (when (nat_lt MOST_WORK (work_of (flattened before p))) TooMuchWork)
+  pub work_light : (profile : Profile) (before : List ProcedureTree) (p : ProcedureTree) → in_procedure w p ≡ 0 → AreAtLight w (work_violations (flattened profile before p))
+  work_light profile before p h = at_place p.place (omega (arith, h)) (when (nat_lt MOST_WORK (work_of (flattened profile before p))) TooMuchWork)

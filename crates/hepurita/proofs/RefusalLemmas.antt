@@ -3,7 +3,7 @@ use Rattle.std.proofs.Common.{◌≡◌, inl, inr, ℕ, zero, suc, List, [], ◌
 use Rattle.std.proofs.lemmas.List.Elements.{All-contains}
 use Rattle.word.specs.declared.place.Place.{Place}
 use Rattle.language.specs.declared.rule.Rule.{Rule}
-use Rattle.language.specs.declared.rule.Rule.TheVariants.{UnknownCharacter, BadNumber, UnexpectedToken, Nesting, TextTooLong, UndeclaredName, NameDeclaredTwice, ProcedureNotDeclaredEarlier, NotExactlyOneExport, WidthsDiffer, WrongKind, LiteralOutOfRange, ArgumentCount, ArrayShapeOrLabel, NotMutable, ReturnMismatch, ArrayPassedTwice, InitialiserCount, SecretToPublic, PublicAssignedUnderSecretControl, SecretIndex, SecretBound, SecretDivisionOperand, CallAssignsPublicUnderSecretControl, InlinedSize, DeclaredBytes, IndexOutOfRange, DivisorMayBeZero, TooMuchWork, OutOfMemory}
+use Rattle.language.specs.declared.rule.Rule.TheVariants.{UnknownCharacter, BadNumber, UnexpectedToken, Nesting, TextTooLong, UndeclaredName, NameDeclaredTwice, ProcedureNotDeclaredEarlier, NotExactlyOneExport, WidthsDiffer, WrongKind, LiteralOutOfRange, ArgumentCount, ArrayShapeOrLabel, NotMutable, ReturnMismatch, ArrayPassedTwice, InitialiserCount, SecretToPublic, PublicAssignedUnderSecretControl, SecretIndex, SecretBound, SecretDivisionOperand, CallAssignsPublicUnderSecretControl, SecretMultiplicationOperand, InlinedSize, DeclaredBytes, IndexOutOfRange, DivisorMayBeZero, TooMuchWork, OutOfMemory}
 use Rattle.language.specs.declared.typing.Violation.{Violation}
 use Rattle.language.specs.FirstViolation.{IsFirst, IsNoLaterThan}
 use Rattle.inline.specs.Numbering.{flattened}
@@ -17,6 +17,7 @@ use Rattle.hepurita.specs.Built.{Judges, JudgesProgram, refuses, ill_typed, too_
 use Rattle.grammar_laws.proofs.HeadPlaces.{one_place}
 use Rattle.hepurita.proofs.PlaceLemmas.{refused_in_place}
 use Rattle.hepurita.proofs.JudgementLemmas.{none, of_same, HasSize, IsInRange}
+use Rattle.word.specs.declared.profile.Profile.{Profile}
 
 -- one rule, at one offset
 abbrev AreAlike : Rule → Place → Rule → Place → Type 0
@@ -25,7 +26,7 @@ AreAlike rule place rule' place' = (rule ≡ rule') × (place.offset ≡ place'.
 -- ---- a rule is known by its rank
 
 abbrev rules_in_order : List Rule
-rules_in_order = UnknownCharacter ∷ BadNumber ∷ UnexpectedToken ∷ Nesting ∷ TextTooLong ∷ UndeclaredName ∷ NameDeclaredTwice ∷ ProcedureNotDeclaredEarlier ∷ NotExactlyOneExport ∷ WidthsDiffer ∷ WrongKind ∷ LiteralOutOfRange ∷ ArgumentCount ∷ ArrayShapeOrLabel ∷ NotMutable ∷ ReturnMismatch ∷ ArrayPassedTwice ∷ InitialiserCount ∷ SecretToPublic ∷ PublicAssignedUnderSecretControl ∷ SecretIndex ∷ SecretBound ∷ SecretDivisionOperand ∷ CallAssignsPublicUnderSecretControl ∷ InlinedSize ∷ DeclaredBytes ∷ IndexOutOfRange ∷ DivisorMayBeZero ∷ TooMuchWork ∷ OutOfMemory ∷ []
+rules_in_order = UnknownCharacter ∷ BadNumber ∷ UnexpectedToken ∷ Nesting ∷ TextTooLong ∷ UndeclaredName ∷ NameDeclaredTwice ∷ ProcedureNotDeclaredEarlier ∷ NotExactlyOneExport ∷ WidthsDiffer ∷ WrongKind ∷ LiteralOutOfRange ∷ ArgumentCount ∷ ArrayShapeOrLabel ∷ NotMutable ∷ ReturnMismatch ∷ ArrayPassedTwice ∷ InitialiserCount ∷ SecretToPublic ∷ PublicAssignedUnderSecretControl ∷ SecretIndex ∷ SecretBound ∷ SecretDivisionOperand ∷ CallAssignsPublicUnderSecretControl ∷ SecretMultiplicationOperand ∷ InlinedSize ∷ DeclaredBytes ∷ IndexOutOfRange ∷ DivisorMayBeZero ∷ TooMuchWork ∷ OutOfMemory ∷ []
 
 abbrev rule_at : List Rule → ℕ → Rule
 rule_at [] rank = OutOfMemory
@@ -57,6 +58,7 @@ ranked SecretIndex = refl
 ranked SecretBound = refl
 ranked SecretDivisionOperand = refl
 ranked CallAssignsPublicUnderSecretControl = refl
+ranked SecretMultiplicationOperand = refl
 ranked InlinedSize = refl
 ranked DeclaredBytes = refl
 ranked IndexOutOfRange = refl
@@ -81,55 +83,56 @@ one_first all u v first first' =
 
 -- ---- a program and a text
 
-of_program : (program : ProgramTree) (rule rule' : Rule) (place place' : Place) → JudgesProgram program (refuses rule place) → JudgesProgram program (refuses rule' place') → AreAlike rule place rule' place'
-of_program program rule rule' place place' (ill_typed first) (ill_typed first') = one_first _ _ _ first first'
-of_program program rule rule' place place' (ill_typed first) (too_large {before = front} {export = other} {first = v'} is' first') = absurd (none _ _ is'.typed first.there)
-of_program program rule rule' place place' (ill_typed first) (out_of_range {before = front} {export = other} {first = v'} small' first') = absurd (none _ _ small'.well_formed.typed first.there)
-of_program program rule rule' place place' (ill_typed first) (too_much_work {before = front} {export = other} {first = v'} small' in_range' first') = absurd (none _ _ small'.well_formed.typed first.there)
-of_program program rule rule' place place' (too_large {before = before} {export = export} {first = v} is first) (ill_typed first') = absurd (none _ _ is.typed first'.there)
-of_program program rule rule' place place' (too_large {before = before} {export = export} {first = v} is first) (too_large {before = front} {export = other} {first = v'} is' first') =
-    one_first _ v v' first (of_same (λ (b : List ProcedureTree) (e : ProcedureTree). IsFirst (size_violations b e) v') program front before other export is' is first')
-of_program program rule rule' place place' (too_large {before = before} {export = export} {first = v} is first) (out_of_range {before = front} {export = other} {first = v'} small' first') =
-    absurd (none _ _ (of_same HasSize program front before other export small'.well_formed is small'.sized) first.there)
-of_program program rule rule' place place' (too_large {before = before} {export = export} {first = v} is first) (too_much_work {before = front} {export = other} {first = v'} small' in_range' first') =
-    absurd (none _ _ (of_same HasSize program front before other export small'.well_formed is small'.sized) first.there)
-of_program program rule rule' place place' (out_of_range {before = before} {export = export} {first = v} small first) (ill_typed first') = absurd (none _ _ small.well_formed.typed first'.there)
-of_program program rule rule' place place' (out_of_range {before = before} {export = export} {first = v} small first) (too_large {before = front} {export = other} {first = v'} is' first') =
-    absurd (none _ _ (of_same HasSize program before front export other small.well_formed is' small.sized) first'.there)
-of_program program rule rule' place place' (out_of_range {before = before} {export = export} {first = v} small first) (out_of_range {before = front} {export = other} {first = v'} small' first') =
-    one_first _ v v' first (of_same (λ (b : List ProcedureTree) (e : ProcedureTree). IsFirst (range_violations (flattened b e)) v') program front before other export small'.well_formed small.well_formed first')
-of_program program rule rule' place place' (out_of_range {before = before} {export = export} {first = v} small first) (too_much_work {before = front} {export = other} {first = v'} small' in_range' first') =
-    absurd (none _ _ (of_same IsInRange program front before other export small'.well_formed small.well_formed in_range') first.there)
-of_program program rule rule' place place' (too_much_work {before = before} {export = export} {first = v} small in_range first) (ill_typed first') = absurd (none _ _ small.well_formed.typed first'.there)
-of_program program rule rule' place place' (too_much_work {before = before} {export = export} {first = v} small in_range first) (too_large {before = front} {export = other} {first = v'} is' first') =
-    absurd (none _ _ (of_same HasSize program before front export other small.well_formed is' small.sized) first'.there)
-of_program program rule rule' place place' (too_much_work {before = before} {export = export} {first = v} small in_range first) (out_of_range {before = front} {export = other} {first = v'} small' first') =
-    absurd (none _ _ (of_same IsInRange program before front export other small.well_formed small'.well_formed in_range) first'.there)
-of_program program rule rule' place place' (too_much_work {before = before} {export = export} {first = v} small in_range first) (too_much_work {before = front} {export = other} {first = v'} small' in_range' first') =
-    one_first _ v v' first (of_same (λ (b : List ProcedureTree) (e : ProcedureTree). IsFirst (work_violations (flattened b e)) v') program front before other export small'.well_formed small.well_formed first')
-
 abbrev pub AreOne : Rule → Place → Rule → Place → Type 0
 AreOne rule place rule' place' = (rule ≡ rule') × (place ≡ place')
 
--- the offset decides the place
-at_one_place : (text : List ℕ) (program : ProgramTree) (rule rule' : Rule) (place place' : Place) → Reads text (accepted program) → JudgesProgram program (refuses rule place) → JudgesProgram program (refuses rule' place') → AreOne rule place rule' place'
-at_one_place text program rule rule' place place' reads judges judges' =
-    let alike = of_program program rule rule' place place' judges judges' in
-    (alike.0, one_place text place place' (refused_in_place text program rule place reads judges) (refused_in_place text program rule' place' reads judges') alike.1)
+module _ (profile : Profile) where
+  of_program : (program : ProgramTree) (rule rule' : Rule) (place place' : Place) → JudgesProgram profile program (refuses rule place) → JudgesProgram profile program (refuses rule' place') → AreAlike rule place rule' place'
+  of_program program rule rule' place place' (ill_typed first) (ill_typed first') = one_first _ _ _ first first'
+  of_program program rule rule' place place' (ill_typed first) (too_large {before = front} {export = other} {first = v'} is' first') = absurd (none _ _ is'.typed first.there)
+  of_program program rule rule' place place' (ill_typed first) (out_of_range {before = front} {export = other} {first = v'} small' first') = absurd (none _ _ small'.well_formed.typed first.there)
+  of_program program rule rule' place place' (ill_typed first) (too_much_work {before = front} {export = other} {first = v'} small' in_range' first') = absurd (none _ _ small'.well_formed.typed first.there)
+  of_program program rule rule' place place' (too_large {before = before} {export = export} {first = v} is first) (ill_typed first') = absurd (none _ _ is.typed first'.there)
+  of_program program rule rule' place place' (too_large {before = before} {export = export} {first = v} is first) (too_large {before = front} {export = other} {first = v'} is' first') =
+      one_first _ v v' first (of_same profile (λ (b : List ProcedureTree) (e : ProcedureTree). IsFirst (size_violations b e) v') program front before other export is' is first')
+  of_program program rule rule' place place' (too_large {before = before} {export = export} {first = v} is first) (out_of_range {before = front} {export = other} {first = v'} small' first') =
+      absurd (none _ _ (of_same profile HasSize program front before other export small'.well_formed is small'.sized) first.there)
+  of_program program rule rule' place place' (too_large {before = before} {export = export} {first = v} is first) (too_much_work {before = front} {export = other} {first = v'} small' in_range' first') =
+      absurd (none _ _ (of_same profile HasSize program front before other export small'.well_formed is small'.sized) first.there)
+  of_program program rule rule' place place' (out_of_range {before = before} {export = export} {first = v} small first) (ill_typed first') = absurd (none _ _ small.well_formed.typed first'.there)
+  of_program program rule rule' place place' (out_of_range {before = before} {export = export} {first = v} small first) (too_large {before = front} {export = other} {first = v'} is' first') =
+      absurd (none _ _ (of_same profile HasSize program before front export other small.well_formed is' small.sized) first'.there)
+  of_program program rule rule' place place' (out_of_range {before = before} {export = export} {first = v} small first) (out_of_range {before = front} {export = other} {first = v'} small' first') =
+      one_first _ v v' first (of_same profile (λ (b : List ProcedureTree) (e : ProcedureTree). IsFirst (range_violations (flattened profile b e)) v') program front before other export small'.well_formed small.well_formed first')
+  of_program program rule rule' place place' (out_of_range {before = before} {export = export} {first = v} small first) (too_much_work {before = front} {export = other} {first = v'} small' in_range' first') =
+      absurd (none _ _ (of_same profile (IsInRange profile) program front before other export small'.well_formed small.well_formed in_range') first.there)
+  of_program program rule rule' place place' (too_much_work {before = before} {export = export} {first = v} small in_range first) (ill_typed first') = absurd (none _ _ small.well_formed.typed first'.there)
+  of_program program rule rule' place place' (too_much_work {before = before} {export = export} {first = v} small in_range first) (too_large {before = front} {export = other} {first = v'} is' first') =
+      absurd (none _ _ (of_same profile HasSize program before front export other small.well_formed is' small.sized) first'.there)
+  of_program program rule rule' place place' (too_much_work {before = before} {export = export} {first = v} small in_range first) (out_of_range {before = front} {export = other} {first = v'} small' first') =
+      absurd (none _ _ (of_same profile (IsInRange profile) program before front export other small.well_formed small'.well_formed in_range) first'.there)
+  of_program program rule rule' place place' (too_much_work {before = before} {export = export} {first = v} small in_range first) (too_much_work {before = front} {export = other} {first = v'} small' in_range' first') =
+      one_first _ v v' first (of_same profile (λ (b : List ProcedureTree) (e : ProcedureTree). IsFirst (work_violations (flattened profile b e)) v') program front before other export small'.well_formed small.well_formed first')
 
-pub one_refusal_for : OneAnswer → (text : List ℕ) (rule rule' : Rule) (place place' : Place) → Judges text (refuses rule place) → Judges text (refuses rule' place') → AreOne rule place rule' place'
-one_refusal_for one text rule rule' place place' (unreadable reads) (unreadable reads') =
-    let answer : refused rule place ≡ refused rule' place' = one text (refused rule place) (refused rule' place') reads reads' in
-    let same : rule ≡ rule' = cc in
-    let at : place ≡ place' = cc in
-    (same, at)
-one_refusal_for one text rule rule' place place' (unreadable reads) (readable {program} reads' judges') =
-    let answer : refused rule place ≡ accepted program = one text (refused rule place) (accepted program) reads reads' in
-    cc
-one_refusal_for one text rule rule' place place' (readable {program} reads judges) (unreadable reads') =
-    let answer : accepted program ≡ refused rule' place' = one text (accepted program) (refused rule' place') reads reads' in
-    cc
-one_refusal_for one text rule rule' place place' (readable {program} reads judges) (readable {program = other} reads' judges') =
-    let answer : accepted program ≡ accepted other = one text (accepted program) (accepted other) reads reads' in
-    let same : program ≡ other = cc in
-    at_one_place text other rule rule' place place' reads' (subst (λ (p : ProgramTree). JudgesProgram p (refuses rule place)) same judges) judges'
+  -- the offset decides the place
+  at_one_place : (text : List ℕ) (program : ProgramTree) (rule rule' : Rule) (place place' : Place) → Reads text (accepted program) → JudgesProgram profile program (refuses rule place) → JudgesProgram profile program (refuses rule' place') → AreOne rule place rule' place'
+  at_one_place text program rule rule' place place' reads judges judges' =
+      let alike = of_program program rule rule' place place' judges judges' in
+      (alike.0, one_place text place place' (refused_in_place profile text program rule place reads judges) (refused_in_place profile text program rule' place' reads judges') alike.1)
+
+  pub one_refusal_for : OneAnswer → (text : List ℕ) (rule rule' : Rule) (place place' : Place) → Judges profile text (refuses rule place) → Judges profile text (refuses rule' place') → AreOne rule place rule' place'
+  one_refusal_for one text rule rule' place place' (unreadable reads) (unreadable reads') =
+      let answer : refused rule place ≡ refused rule' place' = one text (refused rule place) (refused rule' place') reads reads' in
+      let same : rule ≡ rule' = cc in
+      let at : place ≡ place' = cc in
+      (same, at)
+  one_refusal_for one text rule rule' place place' (unreadable reads) (readable {program} reads' judges') =
+      let answer : refused rule place ≡ accepted program = one text (refused rule place) (accepted program) reads reads' in
+      cc
+  one_refusal_for one text rule rule' place place' (readable {program} reads judges) (unreadable reads') =
+      let answer : accepted program ≡ refused rule' place' = one text (accepted program) (refused rule' place') reads reads' in
+      cc
+  one_refusal_for one text rule rule' place place' (readable {program} reads judges) (readable {program = other} reads' judges') =
+      let answer : accepted program ≡ accepted other = one text (accepted program) (accepted other) reads reads' in
+      let same : program ≡ other = cc in
+      at_one_place text other rule rule' place place' reads' (subst (λ (p : ProgramTree). JudgesProgram profile p (refuses rule place)) same judges) judges'

@@ -33,6 +33,7 @@ use Rattle.hepurita.specs.Built.{IsSmall, Judges, JudgesProgram, accepts, readab
 use Rattle.hepurita.proofs.Compiler.{compiled}
 use Rattle.hepurita.proofs.Exports.{of_export}
 use Rattle.hepurita.proofs.JudgementLemmas.{small_of, in_range_of}
+use Rattle.word.specs.declared.profile.Profile.{Profile}
 
 -- ---- an accepted program's export
 
@@ -40,11 +41,11 @@ use Rattle.hepurita.proofs.JudgementLemmas.{small_of, in_range_of}
 abbrev pub HasGrammaticalExport : ProgramTree → Type 0
 HasGrammaticalExport program = (before : List ProcedureTree) (p : ProcedureTree) → exported [] program.procedures ≡ Some (before, p) → AllByRecursion IsGrammatical before × IsGrammatical p
 
-pub flat_typed : (program : ProgramTree) (before : List ProcedureTree) (export : ProcedureTree) → HasGrammaticalExport program → IsSmall program before export → IsTypedProgram (flattened before export)
-flat_typed program before export plain small =
+pub flat_typed : (profile : Profile) (program : ProgramTree) (before : List ProcedureTree) (export : ProcedureTree) → HasGrammaticalExport program → IsSmall profile program before export → IsTypedProgram (flattened profile before export)
+flat_typed profile program before export plain small =
     let is = small.well_formed in
     let parts = plain before export is.is_export in
-    flat_is_typed program before export is.typed is.is_export parts.0 parts.1
+    flat_is_typed profile program before export is.typed is.is_export parts.0 parts.1
 
 -- a body without too much work is within the limit
 pub within_work : (flat : FlatProgram) → length (work_violations flat) ≡ 0 → work_of flat ≤ MOST_WORK
@@ -55,30 +56,30 @@ within_work flat none = by (nat_lt MOST_WORK (work_of flat)) refl none
     by false is h = grind (arith, nat_tests)
 
 -- the one meaning on arguments, of an export that is safe
-pub safe_means : (program : ProgramTree) (before : List ProcedureTree) (export : ProcedureTree) → HasGrammaticalExport program → IsSmall program before export → IsSafe (flattened before export) (turns_of (flattened before export)) → (args : List Arg) → AreWithin (map param_of export.parameters) args → Means program args (outcome_of (flattened before export) args)
-safe_means program before export plain small safe args within =
+pub safe_means : (profile : Profile) (program : ProgramTree) (before : List ProcedureTree) (export : ProcedureTree) → HasGrammaticalExport program → IsSmall profile program before export → IsSafe (flattened profile before export) (turns_of (flattened profile before export)) → (args : List Arg) → AreWithin (map param_of export.parameters) args → Means program args (outcome_of (flattened profile before export) args)
+safe_means profile program before export plain small safe args within =
     let is = small.well_formed in
     let parts = plain before export is.is_export in
-    let meant = flat_keeps_meaning program before export args is.typed is.is_export parts.0 parts.1 within in
-    let given : Gives program args (gives (outcome_of (flattened before export) args)) = subst (λ (e : Ending Results). Gives program args e) (safe_runs_meet_no_fault (flattened before export) (turns_of (flattened before export)) args safe within) meant in
-    record { given = given; alone = λ other is_other. sym (worked-out program args other is_other) ∙ worked-out program args (gives (outcome_of (flattened before export) args)) given }
+    let meant = flat_keeps_meaning profile program before export args is.typed is.is_export parts.0 parts.1 within in
+    let given : Gives program args (gives (outcome_of (flattened profile before export) args)) = subst (λ (e : Ending Results). Gives program args e) (safe_runs_meet_no_fault (flattened profile before export) (turns_of (flattened profile before export)) args safe within) meant in
+    record { given = given; alone = λ other is_other. sym (worked-out program args other is_other) ∙ worked-out program args (gives (outcome_of (flattened profile before export) args)) given }
 
 -- ---- an accepted text's image
 
-pub export_compiled : (program : ProgramTree) (before : List ProcedureTree) (export : ProcedureTree) (straight : StraightProgram) (image : Fields) → HasGrammaticalExport program → IsSmall program before export → length (range_violations (flattened before export)) ≡ 0 → IsRemoved (ranged (flattened before export)) straight → IsGenerated straight image → IsCompiled program before export image
-export_compiled program before export straight image plain small in_range removed generated =
-    let safe = accepted_is_safe (flattened before export) (flat_typed program before export plain small) in_range in
-    compiled program before export straight image (safe_means program before export plain small safe) removed generated
+pub export_compiled : (profile : Profile) (program : ProgramTree) (before : List ProcedureTree) (export : ProcedureTree) (straight : StraightProgram) (image : Fields) → HasGrammaticalExport program → IsSmall profile program before export → length (range_violations (flattened profile before export)) ≡ 0 → IsRemoved (ranged (flattened profile before export)) straight → IsGenerated straight image → IsCompiled program before export image
+export_compiled profile program before export straight image plain small in_range removed generated =
+    let safe = accepted_is_safe (flattened profile before export) (flat_typed profile program before export plain small) in_range in
+    compiled profile program before export straight image (safe_means profile program before export plain small safe) removed generated
 
 -- the export of a program that a text is, is grammatical, and so are those before it
 pub grammatical_export : (text : List ℕ) (program : ProgramTree) → Reads text (accepted program) → HasGrammaticalExport program
 grammatical_export text program reads before p is =
     of_export IsGrammatical program.procedures before p is (read_text text program reads)
 
-pub texts_compiled : (text : List ℕ) (program : ProgramTree) (before : List ProcedureTree) (export : ProcedureTree) (straight : StraightProgram) (image : Fields) → Reads text (accepted program) → JudgesProgram program (accepts program before export) → IsRemoved (ranged (flattened before export)) straight → IsGenerated straight image → IsCompiled program before export image
-texts_compiled text program before export straight image reads judged removed generated =
-    export_compiled program before export straight image (grammatical_export text program reads) (small_of program program before export judged) (in_range_of program program before export judged) removed generated
+pub texts_compiled : (profile : Profile) (text : List ℕ) (program : ProgramTree) (before : List ProcedureTree) (export : ProcedureTree) (straight : StraightProgram) (image : Fields) → Reads text (accepted program) → JudgesProgram profile program (accepts program before export) → IsRemoved (ranged (flattened profile before export)) straight → IsGenerated straight image → IsCompiled program before export image
+texts_compiled profile text program before export straight image reads judged removed generated =
+    export_compiled profile program before export straight image (grammatical_export text program reads) (small_of profile program program before export judged) (in_range_of profile program program before export judged) removed generated
 
-pub judged_compiled : (text : List ℕ) (program : ProgramTree) (before : List ProcedureTree) (export : ProcedureTree) (straight : StraightProgram) (image : Fields) → Judges text (accepts program before export) → IsRemoved (ranged (flattened before export)) straight → IsGenerated straight image → IsCompiled program before export image
-judged_compiled text program before export straight image (readable reads (fine small in_range in_time)) removed generated =
-    export_compiled program before export straight image (grammatical_export text program reads) small in_range removed generated
+pub judged_compiled : (profile : Profile) (text : List ℕ) (program : ProgramTree) (before : List ProcedureTree) (export : ProcedureTree) (straight : StraightProgram) (image : Fields) → Judges profile text (accepts program before export) → IsRemoved (ranged (flattened profile before export)) straight → IsGenerated straight image → IsCompiled program before export image
+judged_compiled profile text program before export straight image (readable reads (fine small in_range in_time)) removed generated =
+    export_compiled profile program before export straight image (grammatical_export text program reads) small in_range removed generated

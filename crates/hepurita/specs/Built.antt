@@ -9,6 +9,7 @@ use Rattle.inline.specs.Numbering.{flattened}
 use Rattle.intervals.specs.Ranges.{range_violations}
 use Rattle.intervals.specs.Work.{work_violations}
 use Rattle.word.specs.declared.place.Place.{Place}
+use Rattle.word.specs.declared.profile.Profile.{Profile}
 use Rattle.language.specs.declared.refusal.Refusal.{Refusal}
 use Rattle.language.specs.declared.rule.Rule.{Rule}
 use Rattle.language.specs.declared.typing.Violation.{Violation}
@@ -26,47 +27,48 @@ pub data Judgement : Type 0 where
   refuses : (rule : Rule) (place : Place) → Judgement
 
 -- a program with this export behind these procedures, that violates no rule on names, types and labels
-pub record IsWellFormed (program : ProgramTree) (before : List ProcedureTree) (export : ProcedureTree) : Type 0 where
-  pub typed : length (violations program) ≡ 0
+pub record IsWellFormed (profile : Profile) (program : ProgramTree) (before : List ProcedureTree) (export : ProcedureTree) : Type 0 where
+  pub typed : length (violations profile program) ≡ 0
   pub is_export : exported [] program.procedures ≡ Some (before, export)
 
 -- whose export, with the bodies that it calls, passes no limit on size
-pub record IsSmall (program : ProgramTree) (before : List ProcedureTree) (export : ProcedureTree) : Type 0 where
-  pub well_formed : IsWellFormed program before export
+pub record IsSmall (profile : Profile) (program : ProgramTree) (before : List ProcedureTree) (export : ProcedureTree) : Type 0 where
+  pub well_formed : IsWellFormed profile program before export
   pub sized : length (size_violations before export) ≡ 0
 
--- the judgement on a program
-pub data JudgesProgram (program : ProgramTree) : Judgement → Type 0 where
+-- the judgement on a program, for an observer
+pub data JudgesProgram (profile : Profile) (program : ProgramTree) : Judgement → Type 0 where
   -- it violates a rule on names, types and labels
-  ill_typed : {first : Violation} → IsFirst (violations program) first → JudgesProgram program (refuses first.rule first.place)
+  ill_typed : {first : Violation} → IsFirst (violations profile program) first → JudgesProgram profile program (refuses first.rule first.place)
   -- its export passes a limit on size
-  too_large : {before : List ProcedureTree} {export : ProcedureTree} {first : Violation} → IsWellFormed program before export → IsFirst (size_violations before export) first → JudgesProgram program (refuses first.rule first.place)
+  too_large : {before : List ProcedureTree} {export : ProcedureTree} {first : Violation} → IsWellFormed profile program before export → IsFirst (size_violations before export) first → JudgesProgram profile program (refuses first.rule first.place)
   -- an index in it may be out of range, or a divisor 0
-  out_of_range : {before : List ProcedureTree} {export : ProcedureTree} {first : Violation} → IsSmall program before export → IsFirst (range_violations (flattened before export)) first → JudgesProgram program (refuses first.rule first.place)
+  out_of_range : {before : List ProcedureTree} {export : ProcedureTree} {first : Violation} → IsSmall profile program before export → IsFirst (range_violations (flattened profile before export)) first → JudgesProgram profile program (refuses first.rule first.place)
   -- it is too much work
-  too_much_work : {before : List ProcedureTree} {export : ProcedureTree} {first : Violation} → IsSmall program before export → length (range_violations (flattened before export)) ≡ 0 → IsFirst (work_violations (flattened before export)) first → JudgesProgram program (refuses first.rule first.place)
+  too_much_work : {before : List ProcedureTree} {export : ProcedureTree} {first : Violation} → IsSmall profile program before export → length (range_violations (flattened profile before export)) ≡ 0 → IsFirst (work_violations (flattened profile before export)) first → JudgesProgram profile program (refuses first.rule first.place)
   -- nothing is violated
-  fine : {before : List ProcedureTree} {export : ProcedureTree} → IsSmall program before export → length (range_violations (flattened before export)) ≡ 0 → length (work_violations (flattened before export)) ≡ 0 → JudgesProgram program (accepts program before export)
+  fine : {before : List ProcedureTree} {export : ProcedureTree} → IsSmall profile program before export → length (range_violations (flattened profile before export)) ≡ 0 → length (work_violations (flattened profile before export)) ≡ 0 → JudgesProgram profile program (accepts program before export)
 
--- the judgement on a text
-pub data Judges (text : List ℕ) : Judgement → Type 0 where
+-- the judgement on a text, for an observer
+pub data Judges (profile : Profile) (text : List ℕ) : Judgement → Type 0 where
   -- it is no program
-  unreadable : {rule : Rule} {place : Place} → Reads text (refused rule place) → Judges text (refuses rule place)
+  unreadable : {rule : Rule} {place : Place} → Reads text (refused rule place) → Judges profile text (refuses rule place)
   -- it is one
-  readable : {program : ProgramTree} {judgement : Judgement} → Reads text (accepted program) → JudgesProgram program judgement → Judges text judgement
+  readable : {program : ProgramTree} {judgement : Judgement} → Reads text (accepted program) → JudgesProgram profile program judgement → Judges profile text judgement
 
 -- the refusal is want of memory, which has no place, or it has a place and is the judgement
 abbrev pub IsRefusal : (Judgement → Type 0) → Refusal → Type 0
 IsRefusal J refusal = IsWantOfMemory refusal.rule refusal.place ⊎ ((place : Place) × (refusal.place ≡ Some place) × J (refuses refusal.rule place))
 
--- the bytes are the image of an accepted text: they spell fields, which are those of the exported procedure and what it calls,
+-- the bytes are the image of an accepted text, for an observer: they spell fields, which are those of the exported procedure and what it calls,
 -- compiled
-pub record IsBuilt (text bytes : List ℕ) : Type 0 where
+pub record IsBuilt (profile : Profile) (text bytes : List ℕ) : Type 0 where
   pub program : ProgramTree
   pub before : List ProcedureTree
   pub export : ProcedureTree
   pub image : Fields
-  pub judged : Judges text (accepts program before export)
+  pub judged : Judges profile text (accepts program before export)
+  pub observed : image.profile ≡ profile
   pub allowed : IsImage image
   pub spelled : Spells bytes image
   pub compiled : IsCompiled program before export image

@@ -17,52 +17,60 @@ use branch_removal::remove;
 use codegen::{Code, generate};
 use image::write;
 use intervals::check_ranges;
-use language::{Program, Refusal};
+use language::{Profile, Program, Refusal};
 use std::alloc::Global;
 use syntax::{one_answer_for_a_text, parse};
 
 /// The code of a program that violates no rule, or the first refusal.
-fn compile(alloc: Global, program: &Program<'_>) -> Result<Code, Refusal>
-    ensures accepted { IfOk result (λ image. (before : List ProcedureTree) × (export : ProcedureTree) × JudgesProgram (program_tree program.now) (accepts (program_tree program.now) before export) × ((straight : StraightProgram) × IsRemoved (ranged (flattened before export)) straight × IsGenerated straight image)) }
+fn compile(alloc: Global, program: &Program<'_>, profile: Profile) -> Result<Code, Refusal>
+    ensures accepted { IfOk result (λ image. (before : List ProcedureTree) × (export : ProcedureTree) × JudgesProgram profile (program_tree program.now) (accepts (program_tree program.now) before export) × ((straight : StraightProgram) × IsRemoved (ranged (flattened profile before export)) straight × IsGenerated straight image)) }
     ensures allowed { IfOk result IsImage }
-    ensures refused { IfErr result (IsRefusal (JudgesProgram (program_tree program.now))) }
+    ensures refused { IfErr result (IsRefusal (JudgesProgram profile (program_tree program.now))) }
 {
-    let flat = flat_of(alloc, program)?;
+    let flat = flat_of(alloc, program, profile)?;
     let ranged = check_ranges(alloc, &flat)?;
     let straight = remove(alloc, &ranged)?;
     generate(alloc, &straight)
 }
 
-/// The bytes of the image of an accepted text, or the first refusal. Passes are asked in the order:
-/// the text itself; names, types and labels; sizes; ranges; work.
+/// The bytes of the image of a text that is accepted for an observer of profile 1, or the first refusal.
+pub fn build(alloc: Global, text: &str) -> Result<Vec<u8>, Refusal>
+    ensures accepted { IfOk result (λ bytes. IsBuilt Profile.P1 text.now bytes.items) }
+    ensures refused { IfErr result (IsRefusal (Judges Profile.P1 text.now)) }
+{
+    build_as(alloc, text, Profile::P1)
+}
+
+/// The bytes of the image of a text that is accepted for an observer of this profile, or the first refusal. Passes
+/// are asked in the order: the text itself; names, types and labels; sizes; ranges; work.
 ///
 /// The image, run on any arguments within the parameter types, gives what the text means, within its
-/// stated steps and its frame; and on arguments that are equal where they are public an observer
+/// stated steps and its frame; and on arguments that are equal where they are public the observer
 /// sees one and the same.
-pub fn build(alloc: Global, text: &str) -> Result<Vec<u8>, Refusal>
-    ensures accepted { IfOk result (λ bytes. IsBuilt text.now bytes.items) }
-    ensures refused { IfErr result (IsRefusal (Judges text.now)) }
+pub fn build_as(alloc: Global, text: &str, profile: Profile) -> Result<Vec<u8>, Refusal>
+    ensures accepted { IfOk result (λ bytes. IsBuilt profile text.now bytes.items) }
+    ensures refused { IfErr result (IsRefusal (Judges profile text.now)) }
 {
     let program = parse(alloc, text)?;
-    let code = compile(alloc, &program)?;
+    let code = compile(alloc, &program, profile)?;
     write(alloc, &code)
 }
 
-/// A text is not both accepted and refused.
+/// A text is not both accepted and refused, for one observer.
 pub fn accepted_or_refused()
-    ensures { (text : List ℕ) (program : ProgramTree) (before : List ProcedureTree) (export : ProcedureTree) (rule : Rule) (place : Place) → Judges text (accepts program before export) → Judges text (refuses rule place) → ⊥ }
+    ensures { (profile : Profile) (text : List ℕ) (program : ProgramTree) (before : List ProcedureTree) (export : ProcedureTree) (rule : Rule) (place : Place) → Judges profile text (accepts program before export) → Judges profile text (refuses rule place) → ⊥ }
 {
     one_answer_for_a_text();
 }
 
-/// A text is refused for one rule at one place.
+/// For one observer a text is refused for one rule at one place.
 pub fn one_refusal()
-    ensures { (text : List ℕ) (rule rule' : Rule) (place place' : Place) → Judges text (refuses rule place) → Judges text (refuses rule' place') → (rule ≡ rule') × (place ≡ place') }
+    ensures { (profile : Profile) (text : List ℕ) (rule rule' : Rule) (place place' : Place) → Judges profile text (refuses rule place) → Judges profile text (refuses rule' place') → (rule ≡ rule') × (place ≡ place') }
 {
     one_answer_for_a_text();
 }
 
-/// Each text is accepted or refused: with the laws above it has exactly one judgement.
+/// Each text is accepted or refused, for each observer: with the laws above it has exactly one judgement.
 pub fn each_text_is_judged()
-    ensures { (text : List ℕ) → (judgement : Judgement) × Judges text judgement }
+    ensures { (profile : Profile) (text : List ℕ) → (judgement : Judgement) × Judges profile text judgement }
 {}

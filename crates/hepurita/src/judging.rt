@@ -1,4 +1,5 @@
-// What a text is judged to be: what is refused first, and the program and parameters of an accepted text.
+// What a text is judged to be, for an observer: what is refused first, and the program and parameters of an accepted
+// text.
 
 ghost use Rattle.std.specs.Prelude.{◌≡◌, List, map, IfOk, IfErr};
 ghost use Rattle.inline.specs.Numbering.{flattened, param_of};
@@ -7,18 +8,22 @@ ghost use Rattle.hepurita.specs.Built.{IsSmall, Judges, JudgesProgram, IsRefusal
 
 use inline::{Flat, inline};
 use intervals::check_ranges;
-use labels::check;
-use language::{Param, Program, Refusal};
+use labels::check_as;
+use language::{Param, Profile, Program, Refusal};
 use std::alloc::Global;
 use syntax::parse;
 
 /// The export of a program that violates no rule on names, types and labels, with the bodies that it
 /// calls as one body within the limits on size; or the first refusal.
-pub(crate) fn flat_of(alloc: Global, program: &Program<'_>) -> Result<Flat, Refusal>
-    ensures accepted { IfOk result (λ flat. (before : List ProcedureTree) × (export : ProcedureTree) × IsSmall (program_tree program.now) before export × (flat ≡ flattened before export)) }
-    ensures refused { IfErr result (IsRefusal (JudgesProgram (program_tree program.now))) }
+pub(crate) fn flat_of(
+    alloc: Global,
+    program: &Program<'_>,
+    profile: Profile,
+) -> Result<Flat, Refusal>
+    ensures accepted { IfOk result (λ flat. (before : List ProcedureTree) × (export : ProcedureTree) × IsSmall profile (program_tree program.now) before export × (flat ≡ flattened profile before export)) }
+    ensures refused { IfErr result (IsRefusal (JudgesProgram profile (program_tree program.now))) }
 {
-    let checked = check(alloc, program)?;
+    let checked = check_as(alloc, program, profile)?;
     inline(alloc, &checked)
 }
 
@@ -29,13 +34,22 @@ pub struct Accepted<'a> {
     pub params: Vec<Param>,
 }
 
-/// The program of an accepted text, or the first refusal: the one that `build` names.
+/// The program of a text that is accepted for an observer of profile 1, or the first refusal: the one that
+/// `build` names.
 pub fn judge<'a>(alloc: Global, text: &'a str) -> Result<Accepted<'a>, Refusal>
-    ensures accepted { IfOk result (λ accepted. (before : List ProcedureTree) × (export : ProcedureTree) × Judges text.now (accepts (program_tree accepted.program) before export) × (accepted.params.items ≡ map param_of export.parameters)) }
-    ensures refused { IfErr result (IsRefusal (Judges text.now)) }
+    ensures accepted { IfOk result (λ accepted. (before : List ProcedureTree) × (export : ProcedureTree) × Judges Profile.P1 text.now (accepts (program_tree accepted.program) before export) × (accepted.params.items ≡ map param_of export.parameters)) }
+    ensures refused { IfErr result (IsRefusal (Judges Profile.P1 text.now)) }
+{
+    judge_as(alloc, text, Profile::P1)
+}
+
+/// The same for an observer of this profile: the refusal is the one that `build_as` names.
+pub fn judge_as<'a>(alloc: Global, text: &'a str, profile: Profile) -> Result<Accepted<'a>, Refusal>
+    ensures accepted { IfOk result (λ accepted. (before : List ProcedureTree) × (export : ProcedureTree) × Judges profile text.now (accepts (program_tree accepted.program) before export) × (accepted.params.items ≡ map param_of export.parameters)) }
+    ensures refused { IfErr result (IsRefusal (Judges profile text.now)) }
 {
     let program = parse(alloc, text)?;
-    let flat = flat_of(alloc, &program)?;
+    let flat = flat_of(alloc, &program, profile)?;
     let _ranged = check_ranges(alloc, &flat)?;
     let params = flat.parameters().to_vec(alloc)?;
     Ok(Accepted { program, params })

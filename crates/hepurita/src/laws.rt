@@ -26,6 +26,7 @@ ghost use Rattle.language.specs.declared.signature.Param.{Param};
 ghost use Rattle.language.specs.declared.values.Arg.{Arg};
 ghost use Rattle.language.specs.Results.{Results};
 ghost use Rattle.language.specs.Tree.{ProcedureTree, ProgramTree};
+ghost use Rattle.word.specs.declared.profile.Profile.{Profile};
 ghost use Rattle.hepurita.specs.declared.fault.RunFault.{RunFault};
 ghost use Rattle.hepurita.specs.Answers.{Builds, IsTheOutcome, IsSame};
 ghost use Rattle.hepurita.specs.Executed.{Executed, WantsMemory};
@@ -34,12 +35,12 @@ ghost use Rattle.hepurita.specs.Paired.{Paired};
 use arguments::faultless_arguments;
 use syntax::one_answer_for_a_text;
 
-/// What the passes promise, put together. Where a text is a program that is accepted with an export, the image for
-/// straight code for the export, with the bodies that it calls, is that export, compiled.
+/// What the passes promise, put together. Where a text is a program that is accepted with an export, for an observer, the
+/// image for straight code for the export, with the bodies that it calls, is that export, compiled.
 pub fn texts_are_compiled()
-    ensures { (text : List ℕ) (program : ProgramTree) (before : List ProcedureTree) (export : ProcedureTree) (straight : StraightProgram) (image : Fields) → Reads text (accepted program)
-        → JudgesProgram program (accepts program before export)
-        → IsRemoved (ranged (flattened before export)) straight → IsGenerated straight image → IsCompiled program before export image }
+    ensures { (profile : Profile) (text : List ℕ) (program : ProgramTree) (before : List ProcedureTree) (export : ProcedureTree) (straight : StraightProgram) (image : Fields) → Reads text (accepted program)
+        → JudgesProgram profile program (accepts program before export)
+        → IsRemoved (ranged (flattened profile before export)) straight → IsGenerated straight image → IsCompiled program before export image }
 {}
 
 /// Code and frame of a compiled image may lie at the standard bases, and those of eight images beside one
@@ -49,23 +50,23 @@ pub fn bases_fit()
         → AreBases image (code_base + code_distance * k) (frame_base + frame_distance * k) }
 {}
 
-/// The calls, one after another. The image of an accepted text, read from the bytes that `build`
-/// answers and executed on arguments within the parameter types, gives the one outcome that the text
+/// The calls, one after another. The image of a text that is accepted for an observer, read from the bytes that
+/// `build_as` answers and executed on arguments within the parameter types, gives the one outcome that the text
 /// means. On two lists of arguments that are equal where they are public `pair` answers `same`, the
 /// recorder takes one and the same list, and the return and the `mut` arrays are equal where they are public. Other
 /// answers are want of memory and a recorder that refuses.
 pub fn images_do_what_texts_mean()
-    ensures outcome { (text bytes : List ℕ) (program : ProgramTree) (before : List ProcedureTree) (export : ProcedureTree) (image : Fields) (args : List Arg) (keeps : Bool) (list after : List Observation) (answer : Result Results RunFault)
-        → Builds text bytes program before export image → AreWithin (params_of image) args
+    ensures outcome { (profile : Profile) (text bytes : List ℕ) (program : ProgramTree) (before : List ProcedureTree) (export : ProcedureTree) (image : Fields) (args : List Arg) (keeps : Bool) (list after : List Observation) (answer : Result Results RunFault)
+        → Builds profile text bytes program before export image → AreWithin (params_of image) args
         → Executed image args keeps list answer after → IsTheOutcome program args answer }
-    ensures same { (text bytes : List ℕ) (program : ProgramTree) (before : List ProcedureTree) (export : ProcedureTree) (image : Fields) (one other : List Arg) (answer : Result Pairing RunFault)
-        → Builds text bytes program before export image → Agree (params_of image) one other
+    ensures same { (profile : Profile) (text bytes : List ℕ) (program : ProgramTree) (before : List ProcedureTree) (export : ProcedureTree) (image : Fields) (one other : List Arg) (answer : Result Pairing RunFault)
+        → Builds profile text bytes program before export image → Agree (params_of image) one other
         → Paired image one other answer → IsSame answer }
-    ensures shown { (text bytes : List ℕ) (program : ProgramTree) (before : List ProcedureTree) (export : ProcedureTree) (image : Fields) (one other : List Arg) (keeps : Bool) (list after after' : List Observation) (a b : Results)
-        → Builds text bytes program before export image → Agree (params_of image) one other
+    ensures shown { (profile : Profile) (text bytes : List ℕ) (program : ProgramTree) (before : List ProcedureTree) (export : ProcedureTree) (image : Fields) (one other : List Arg) (keeps : Bool) (list after after' : List Observation) (a b : Results)
+        → Builds profile text bytes program before export image → Agree (params_of image) one other
         → Executed image one keeps list (Ok a) after → Executed image other keeps list (Ok b) after' → after ≡ after' }
-    ensures public { (text bytes : List ℕ) (program : ProgramTree) (before : List ProcedureTree) (export : ProcedureTree) (image : Fields) (one other : List Arg) (keeps : Bool) (list after after' : List Observation) (a b : Results)
-        → Builds text bytes program before export image → Agree (params_of image) one other
+    ensures public { (profile : Profile) (text bytes : List ℕ) (program : ProgramTree) (before : List ProcedureTree) (export : ProcedureTree) (image : Fields) (one other : List Arg) (keeps : Bool) (list after after' : List Observation) (a b : Results)
+        → Builds profile text bytes program before export image → Agree (params_of image) one other
         → Executed image one keeps list (Ok a) after → Executed image other keeps list (Ok b) after' → AgreeInPublic (params_of image) export.result a b }
 {
     one_answer_for_a_text();
@@ -75,8 +76,8 @@ pub fn images_do_what_texts_mean()
 /// What `eval` answers for an accepted text, with a budget that the most work fits, as the command gives it: the one outcome
 /// that the text means. So it never says that the text has no meaning, or that the budget is used up.
 pub fn accepted_texts_are_evaluated()
-    ensures { (text : List ℕ) (program : ProgramTree) (before : List ProcedureTree) (export : ProcedureTree) (args : List Arg) (budget : ℕ)
-        → Judges text (accepts program before export) → AreWithin (map param_of export.parameters) args → MOST_WORK ≤ budget
+    ensures { (profile : Profile) (text : List ℕ) (program : ProgramTree) (before : List ProcedureTree) (export : ProcedureTree) (args : List Arg) (budget : ℕ)
+        → Judges profile text (accepts program before export) → AreWithin (map param_of export.parameters) args → MOST_WORK ≤ budget
         → (results : Results) × Means program args results × (answer program args budget ≡ Ok results) }
 {
     faultless_arguments();

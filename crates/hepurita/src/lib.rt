@@ -14,11 +14,11 @@ mod loading;
 mod reading;
 mod results;
 
-pub use building::{accepted_or_refused, build, each_text_is_judged, one_refusal};
+pub use building::{accepted_or_refused, build, build_as, each_text_is_judged, one_refusal};
 pub use comparing::pair;
 pub use executing::execute;
 pub use fault::RunFault;
-pub use judging::{Accepted, judge};
+pub use judging::{Accepted, judge, judge_as};
 pub use laws::{
     accepted_texts_are_evaluated, bases_fit, comparisons_agree, executions_agree,
     images_do_what_texts_mean, readings_agree, texts_are_compiled,

@@ -66,11 +66,11 @@ pub fn put_arguments<M: Memory>(memory: &mut M, frame: u32, slots: &[Slot], args
     }
 }
 
-/// An image's code at the standard base.
+/// An image's code at the standard base, for its observer.
 pub fn code(alloc: Global, image: &Image) -> Result<CodeRegion, AllocError>
     ensures { IfOk result (λ code. code_of code ≡ code_at code_base image.now) }
 {
-    CodeRegion::new(alloc, CODE_BASE, image.words())
+    CodeRegion::new_as(alloc, CODE_BASE, image.words(), image.profile())
 }
 
 /// An image's frame at the standard base: zeros, and no other data.

@@ -3,7 +3,7 @@ use Rattle.std.specs.Prelude.{ℕ, ◌+◌, ◌/◌, ◌%◌, nat_lt, List, [], 
 use Rattle.rv_machine.specs.declared.memory.Size.{Size}
 use Rattle.rv_machine.specs.declared.memory.Size.TheVariants.{Byte, Half, Word}
 use Rattle.rv_machine.specs.declared.observation.Event.{Event}
-use Rattle.rv_machine.specs.declared.observation.Event.TheVariants.{Load, Store, Div}
+use Rattle.rv_machine.specs.declared.observation.Event.TheVariants.{Load, Store, Div, Mul}
 use Rattle.rv_machine.specs.declared.observation.Observation.{Observation}
 use Rattle.rv_machine.specs.declared.stops.Stop.{Stop}
 use Rattle.rv_machine.specs.Entries.{Entry, program_counter, event, entries_of}
@@ -29,11 +29,12 @@ size_text Byte = codes "1"
 size_text Half = codes "2"
 size_text Word = codes "4"
 
--- the line of an event: an address and how many bytes, or what is divided and by what
+-- the line of an event: an address and how many bytes, or what is divided and by what, or what is multiplied
 abbrev pub event_line : Event → List ℕ
 event_line (Load a n) = codes "load " ++ eight_digits a ++ codes " " ++ size_text n ++ codes "\n"
 event_line (Store a n) = codes "store " ++ eight_digits a ++ codes " " ++ size_text n ++ codes "\n"
 event_line (Div a b) = codes "div " ++ eight_digits a ++ codes " " ++ eight_digits b ++ codes "\n"
+event_line (Mul a b) = codes "mul " ++ eight_digits a ++ codes " " ++ eight_digits b ++ codes "\n"
 
 -- the line of an entry
 abbrev pub entry_line : Entry → List ℕ

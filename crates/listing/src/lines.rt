@@ -43,12 +43,12 @@ fn append_access(lines: &mut Lines, name: &[u8], a: u32, size: Size)
     append(lines, b"\n");
 }
 
-/// Puts the line of a division at the end: what is divided, and by what.
-fn append_division(lines: &mut Lines, a: u32, b: u32)
-    requires { array_vec_len lines.old + 22 ≤ 34 }
-    ensures { lines.new.items ≡ lines.old.items ++ (codes "div " ++ eight_digits a ++ codes " " ++ eight_digits b ++ codes "\n") }
+/// Puts the line of an operation at the end: its name and its operands.
+fn append_operation(lines: &mut Lines, name: &[u8], a: u32, b: u32)
+    requires { array_vec_len lines.old + length name.now + 18 ≤ 34 }
+    ensures { lines.new.items ≡ lines.old.items ++ (name.now ++ eight_digits a ++ codes " " ++ eight_digits b ++ codes "\n") }
 {
-    append(lines, b"div ");
+    append(lines, name);
     append(lines, &eight(a));
     append(lines, b" ");
     append(lines, &eight(b));
@@ -63,7 +63,8 @@ fn append_event(lines: &mut Lines, event: Event)
     match event {
         Event::Load(a, size) => append_access(lines, b"load ", a, size),
         Event::Store(a, size) => append_access(lines, b"store ", a, size),
-        Event::Div(a, b) => append_division(lines, a, b),
+        Event::Div(a, b) => append_operation(lines, b"div ", a, b),
+        Event::Mul(a, b) => append_operation(lines, b"mul ", a, b),
     }
 }
 

@@ -7,6 +7,7 @@ use Rattle.language.specs.declared.rule.Rule.TheVariants.{TextTooLong}
 use Rattle.language.specs.WantOfMemory.{IsWantOfMemory}
 use Rattle.syntax.specs.declared.lexer.TheConstants.{TEXT_LIMIT}
 use Rattle.word.specs.Places.{origin}
+use Rattle.word.specs.declared.profile.Profile.{Profile}
 use Rattle.stream_build.specs.declared.fault.BuildFault.{BuildFault}
 use Rattle.stream_build.specs.declared.fault.BuildFault.TheVariants.{Read, NotUtf8, Refused, Write}
 
@@ -25,9 +26,9 @@ NoText bytes NotUtf8 = (length bytes ≤ TEXT_LIMIT) × ¬ IsUtf8 bytes
 NoText bytes (Refused refusal) = IsWantOfMemory refusal.rule refusal.place ⊎ IsTooLong bytes refusal
 NoText bytes Write = ⊥
 
--- why a source's bytes are not built to a sink: they are not had as a text, or are one that is refused, or whose image is not all written
-abbrev pub IsFaultOf : List ℕ → BuildFault Refusal → Type 0
-IsFaultOf bytes Read = ⊤
-IsFaultOf bytes NotUtf8 = NoText bytes NotUtf8
-IsFaultOf bytes (Refused refusal) = NoText bytes (Refused refusal) ⊎ (IsText bytes × IsRefusal (Judges bytes) refusal)
-IsFaultOf bytes Write = IsText bytes
+-- why a source's bytes are not built to a sink, for an observer: they are not had as a text, or are one that is refused, or whose image is not all written
+abbrev pub IsFaultOf : Profile → List ℕ → BuildFault Refusal → Type 0
+IsFaultOf profile bytes Read = ⊤
+IsFaultOf profile bytes NotUtf8 = NoText bytes NotUtf8
+IsFaultOf profile bytes (Refused refusal) = NoText bytes (Refused refusal) ⊎ (IsText bytes × IsRefusal (Judges profile bytes) refusal)
+IsFaultOf profile bytes Write = IsText bytes

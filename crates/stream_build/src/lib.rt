@@ -6,7 +6,7 @@ mod building;
 mod fault;
 mod reading;
 
-pub use building::{build_source, build_stream};
+pub use building::{build_source, build_source_as, build_stream, build_stream_as};
 pub use fault::BuildFault;
 pub use reading::read_text;
 

@@ -14,7 +14,7 @@ pub returns-in_err-ranged-clause-refused : goal.returns-in_err-ranged-clause-ref
 returns-in_err-ranged-clause-refused c =
     let p = err_from_is_err_and c.from_residual-in_err-ranged.result c.from_residual-in_err-ranged.ensures.1 in
     let made = c.in_ok-flat.ensures.accepted in
-    rw (p.1, p.2) (refusal_of_ranges (program_tree c.args.program.now) made.0 made.1 c.in_ok-flat.flat c.in_err-ranged.field-0.0 made.2 made.3 c.in_err-ranged.ensures.refused)
+    rw (p.1, p.2) (refusal_of_ranges c.args.profile (program_tree c.args.program.now) made.0 made.1 c.in_ok-flat.flat c.in_err-ranged.field-0.0 made.2 made.3 c.in_err-ranged.ensures.refused)
 
 pub returns-in_err-straight-clause-refused : goal.returns-in_err-straight-clause-refused
 returns-in_err-straight-clause-refused c =
