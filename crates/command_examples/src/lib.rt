@@ -9,6 +9,8 @@ mod listings;
 #[cfg(test)]
 mod memory_files;
 #[cfg(test)]
+mod profiles;
+#[cfg(test)]
 mod side_by_side;
 #[cfg(test)]
 mod slow_streams;

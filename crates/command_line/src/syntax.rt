@@ -23,7 +23,8 @@ pub fn factc<'a>(alloc: Global) -> Result<Command<'a>, AllocError> {
 fn check_command<'a>(alloc: Global) -> Result<Command<'a>, AllocError> {
     Command::new(alloc, "check")
         .about("Says whether a text is accepted, or names the first rule that it violates")
-        .arg(path(alloc, "FILE", "The text to judge"))
+        .arg(path(alloc, "FILE", "The text to judge"))?
+        .arg(profile(alloc))
 }
 
 fn build_command<'a>(alloc: Global) -> Result<Command<'a>, AllocError> {
@@ -34,7 +35,8 @@ fn build_command<'a>(alloc: Global) -> Result<Command<'a>, AllocError> {
             alloc,
             "IMAGE",
             "Where to write the image; the text of a refused FILE leaves it as it was",
-        ))
+        ))?
+        .arg(profile(alloc))
 }
 
 fn eval_command<'a>(alloc: Global) -> Result<Command<'a>, AllocError> {
@@ -105,6 +107,23 @@ fn path<'a>(alloc: Global, name: &'a str, help: &'a str) -> Arg<'a> {
         .action(ArgAction::Set)
         .required(true)
         .help(help)
+}
+
+/// The numbers of the profiles.
+static PROFILES: [&str; 2] = ["1", "2"];
+
+/// For which observer a text is judged or compiled.
+fn profile<'a>(alloc: Global) -> Arg<'a> {
+    Arg::new(alloc, "profile")
+        .long("profile")
+        .value_name("N")
+        .action(ArgAction::Set)
+        .value_parser(PROFILES.as_slice())
+        .default_value("1")
+        .help(
+            "From whom secrets are kept: from an observer to whom multiplications show nothing of their operands \
+             (1), or from one who sees the operands of multiplications too (2)",
+        )
 }
 
 /// Every word after a path, also one that begins with a hyphen.

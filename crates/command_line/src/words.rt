@@ -2,15 +2,18 @@ use crate::syntax::factc;
 use clap::error::ErrorKind;
 use clap::{ArgMatches, Error};
 use std::alloc::Global;
+use word::Profile;
 
 /// What the words ask for.
 pub enum Request<'a> {
     Check {
         file: &'a str,
+        profile: Profile,
     },
     Build {
         file: &'a str,
         image: &'a str,
+        profile: Profile,
     },
     Eval {
         file: &'a str,
@@ -73,10 +76,12 @@ fn asked<'a>(alloc: Global, words: &'a [&'a str]) -> Result<Request<'a>, Error> 
     match matches.subcommand() {
         Some(("check", check)) => Ok(Request::Check {
             file: text_of(check, "FILE"),
+            profile: profile_of(check),
         }),
         Some(("build", build)) => Ok(Request::Build {
             file: text_of(build, "FILE"),
             image: text_of(build, "IMAGE"),
+            profile: profile_of(build),
         }),
         Some(("eval", eval)) => Ok(Request::Eval {
             file: text_of(eval, "FILE"),
@@ -107,6 +112,14 @@ fn asked<'a>(alloc: Global, words: &'a [&'a str]) -> Result<Request<'a>, Error> 
 /// The value of a required argument.
 fn text_of<'a>(matches: &ArgMatches<'a>, id: &str) -> &'a str {
     matches.get_str(id).unwrap_or("")
+}
+
+/// The profile of this number, which is 1 where none is given.
+fn profile_of(matches: &ArgMatches<'_>) -> Profile {
+    match matches.get_str("profile") {
+        Some("2") => Profile::P2,
+        _ => Profile::P1,
+    }
 }
 
 /// The words after a command and its FILE or IMAGE. Each of them is an argument, also `--`, which

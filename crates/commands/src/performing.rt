@@ -6,14 +6,14 @@ use crate::outcome;
 use crate::side_by_side::{run_side_by_side, whole_text};
 use arguments::ArgumentRule;
 use command_line::{NoRequest, Request, parse};
-use hepurita::{RunFault, execute, judge, pair, read_args};
+use hepurita::{RunFault, execute, judge, judge_as, pair, read_args};
 use image::{Image, LONGEST_IMAGE};
-use language::{Args, Param, Refusal};
+use language::{Args, Param, Profile, Refusal};
 use listing::{LeakFault, leak, list};
 use rv_machine::{NullRecorder, Pairing, Stop};
 use source_eval::eval;
 use std::alloc::Global;
-use stream_build::{BuildFault, build_source, read_text};
+use stream_build::{BuildFault, build_source_as, read_text};
 use streams::{ReadFault, Sink, get_up_to, put_all};
 
 /// The path that stands for standard output.
@@ -103,11 +103,15 @@ fn perform<'a, F: Files, O: Sink>(
     ensures calm { OnOk result (O.failures out.new ≡ O.failures out.old) }
 {
     match request {
-        Request::Check { file } => {
-            check_text(alloc, file, files)?;
+        Request::Check { file, profile } => {
+            check_text(alloc, file, profile, files)?;
             print(out, b"accepted\n")?;
         }
-        Request::Build { file, image } => build_image(alloc, file, image, files)?,
+        Request::Build {
+            file,
+            image,
+            profile,
+        } => build_image(alloc, file, image, profile, files)?,
         Request::Eval { file, arguments } => {
             let text = evaluate_text(alloc, file, arguments, files)?;
             print(out, text.as_bytes())?;
@@ -166,27 +170,33 @@ fn text_of<'a, F: Files>(alloc: Global, file: &'a str, files: &mut F) -> Result<
     }
 }
 
-/// Compiles the text of one file to the image of another, which is opened only once the text was
-/// accepted.
+/// Compiles the text of one file, for an observer, to the image of another, which is opened only once the
+/// text was accepted.
 fn build_image<'a, F: Files>(
     alloc: Global,
     file: &'a str,
     image: &'a str,
+    profile: Profile,
     files: &mut F,
 ) -> Result<(), Fault<'a>> {
     let Ok(mut source) = files.open(file) else {
         return Err(Fault::File(FileFault::CannotRead(file)));
     };
-    match build_source(alloc, &mut source) {
+    match build_source_as(alloc, &mut source, profile) {
         Ok(built) => write_file(image, built.as_slice(), files),
         Err(fault) => Err(text_fault(file, fault)),
     }
 }
 
-/// Judges the text of a file.
-fn check_text<'a, F: Files>(alloc: Global, file: &'a str, files: &mut F) -> Result<(), Fault<'a>> {
+/// Judges the text of a file, for an observer.
+fn check_text<'a, F: Files>(
+    alloc: Global,
+    file: &'a str,
+    profile: Profile,
+    files: &mut F,
+) -> Result<(), Fault<'a>> {
     let text = text_of(alloc, file, files)?;
-    let _accepted = judge(alloc, text.as_str())?;
+    let _accepted = judge_as(alloc, text.as_str(), profile)?;
     Ok(())
 }
 
