@@ -31,8 +31,8 @@ def result(offset, kind=UINT32, label=SECRET):
     return struct.pack("<BBBI", 1, kind, label, offset)
 
 
-def image(parameters=(), returned=b"\0", frame=0, steps=2, words=(ADD_ONE, ECALL), count=None):
-    head = b"FACI" + struct.pack("<HHH", 1, 1, len(parameters))
+def image(parameters=(), returned=b"\0", frame=0, steps=2, words=(ADD_ONE, ECALL), count=None, profile=1):
+    head = b"FACI" + struct.pack("<HHH", 1, profile, len(parameters))
     tail = struct.pack("<IQI", frame, steps, len(words) if count is None else count)
     return head + b"".join(parameters) + returned + tail + struct.pack(f"<{len(words)}I", *words)
 
@@ -78,7 +78,7 @@ def first_fault(data):
     fields = Fields(data)
     fields.number(4, lambda value: value == int.from_bytes(b"FACI", "little"), "B1: magic")
     fields.number(2, lambda value: value == 1, "B2: version")
-    fields.number(2, lambda value: value == 1, "B3: profile")
+    fields.number(2, lambda value: 1 <= value <= 2, "B3: profile")
     end = 0
     for _ in range(fields.number(2, lambda value: value <= 8_192)):
         end = fields.slot(end) if fields.fault is None else end

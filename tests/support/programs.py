@@ -1,12 +1,14 @@
 """Random programs of the language, well typed by the way in which they are made, and arguments for them.
 
-A program may still be refused: for its size, or where an interval says too little of an index or a divisor.
+A program may still be refused: for its size, or where an interval says too little of an index or a divisor. For an observer
+of profile 2 only public operands are multiplied.
 """
 
 WIDTHS = {"bool": 1, "uint8": 8, "uint16": 16, "uint32": 32}
 NUMBERS = ("uint8", "uint16", "uint32")
 SUFFIX = {"uint8": "u8", "uint16": "u16", "uint32": ""}
 ARITHMETIC = ("+", "-", "*", "&", "|", "^")
+SUMS = tuple(sign for sign in ARITHMETIC if sign != "*")
 ORDERS = ("<", "<=", ">", ">=")
 LENGTHS = (1, 2, 4, 8, 16)
 
@@ -27,10 +29,10 @@ class Procedure:
 
 
 class Writer:
-    """Writes one procedure; `random` decides, `earlier` may be called."""
+    """Writes one procedure for an observer; `random` decides, `earlier` may be called."""
 
-    def __init__(self, random, earlier, name):
-        self.random, self.earlier, self.name = random, earlier, name
+    def __init__(self, random, earlier, name, profile):
+        self.random, self.earlier, self.name, self.profile = random, earlier, name, profile
         self.names = 0
         self.changes_public = False
 
@@ -100,7 +102,8 @@ class Writer:
             divisor = self.random.choice((self.literal(kind), f"(({self.expression(scope, 'public', kind, depth - 1)}) | 1{SUFFIX[kind]})"))
             return f"({inner}) {self.random.choice('/%')} {divisor}"
         other = self.expression(scope, label, kind, depth - 1)
-        return f"({inner}) {self.random.choice(ARITHMETIC)} ({other})"
+        signs = SUMS if self.profile == 2 and label == "secret" else ARITHMETIC
+        return f"({inner}) {self.random.choice(signs)} ({other})"
 
     def expression(self, scope, label, kind, depth):
         if depth <= 0 or self.random.random() < 0.3:
@@ -245,12 +248,12 @@ def written(parameter):
     return f"{parameter.label} {'mut ' if parameter.mutable else ''}{parameter.kind}[{parameter.length}] {parameter.name}"
 
 
-def program(random):
-    """A program's text, and the parameters of its export."""
+def program(random, profile=1):
+    """A program's text for an observer, and the parameters of its export."""
     earlier = []
     for number in range(random.randrange(4)):
-        earlier.append(Writer(random, earlier, f"p{number}").procedure(False))
-    export = Writer(random, earlier, "main").procedure(True)
+        earlier.append(Writer(random, earlier, f"p{number}", profile).procedure(False))
+    export = Writer(random, earlier, "main", profile).procedure(True)
     return "".join(p.text for p in earlier) + export.text, export.parameters
 
 
