@@ -19,6 +19,7 @@ const SEEN_IN_2: &[u8] =
     b"pc 00010000\npc 00010004\npc 00010008\nmul 00000009 00000003\npc 0001000c\nstop Ecall\n";
 
 /// What a command on files leaves.
+#[derive(Drop)]
 struct Done {
     status: u8,
     image: ByteSink,
@@ -27,7 +28,7 @@ struct Done {
 }
 
 /// Does a command, where each file has these bytes.
-fn done(rt: &(impl Abort + AllocGlobal), bytes: &[u8], words: &[&str]) -> Done {
+fn performed(rt: &(impl Abort + AllocGlobal), bytes: &[u8], words: &[&str]) -> Done {
     let mut files = MemoryFiles::new(rt, bytes, FAST);
     let mut out = ByteSink::new(rt.alloc());
     let mut err = ByteSink::new(rt.alloc());
@@ -43,14 +44,14 @@ fn done(rt: &(impl Abort + AllocGlobal), bytes: &[u8], words: &[&str]) -> Done {
 
 #[test]
 fn a_secret_product_is_refused_where_it_shows(rt: HostRuntime) {
-    let checked = done(&rt, SECRET_PRODUCT, &["factc", "check", "in"]);
+    let checked = performed(&rt, SECRET_PRODUCT, &["factc", "check", "in"]);
     assert_eq!(rt; checked.out.as_slice(), b"accepted\n".as_slice());
     assert_eq!(rt; checked.status, 0);
     for words in [
         ["factc", "check", "--profile", "2", "in"].as_slice(),
         ["factc", "build", "--profile", "2", "in", "image"].as_slice(),
     ] {
-        let refused = done(&rt, SECRET_PRODUCT, words);
+        let refused = performed(&rt, SECRET_PRODUCT, words);
         assert_eq!(rt; refused.out.as_slice(), b"".as_slice());
         assert_eq!(rt;
             refused.err.as_slice(),
@@ -85,13 +86,13 @@ fn shows(listing: &[u8], wanted: &[u8]) -> bool {
 fn a_public_product_shows_in_profile_2(rt: HostRuntime) {
     for (profile, products) in [("1", 0), ("2", 1)] {
         let words = ["factc", "build", "in", "image", "--profile", profile];
-        let built = done(&rt, PUBLIC_PRODUCT, &words);
+        let built = performed(&rt, PUBLIC_PRODUCT, &words);
         assert_eq!(rt; built.status, 0);
         let image = built.image.as_slice();
-        let ran = done(&rt, image, &["factc", "run", "in", "5"]);
+        let ran = performed(&rt, image, &["factc", "run", "in", "5"]);
         assert_eq!(rt; ran.out.as_slice(), b"return 15\n".as_slice());
         assert_eq!(rt; ran.status, 0);
-        let leaked = done(&rt, image, &["factc", "leak", "in", "5"]);
+        let leaked = performed(&rt, image, &["factc", "leak", "in", "5"]);
         assert_eq!(rt; leaked.status, 0);
         let listing = leaked.out.as_slice();
         assert_eq!(rt; products_in(listing), products);
@@ -104,11 +105,11 @@ fn a_public_product_shows_in_profile_2(rt: HostRuntime) {
 fn an_image_is_for_its_own_observer(rt: HostRuntime) {
     let words = ["factc", "leak", "in"];
     let mut image = MULTIPLIES;
-    assert_eq!(rt; done(&rt, &image, &words).out.as_slice(), SEEN_IN_2);
+    assert_eq!(rt; performed(&rt, &image, &words).out.as_slice(), SEEN_IN_2);
     image[6] = 1;
-    assert_eq!(rt; done(&rt, &image, &words).out.as_slice(), SEEN_IN_1);
+    assert_eq!(rt; performed(&rt, &image, &words).out.as_slice(), SEEN_IN_1);
     image[6] = 3;
-    let refused = done(&rt, &image, &words);
+    let refused = performed(&rt, &image, &words);
     assert_eq!(rt;
         refused.err.as_slice(),
         b"refused: B3 at byte 6: profile\n".as_slice()
@@ -123,7 +124,7 @@ fn there_is_no_third_profile(rt: HostRuntime) {
         ["factc", "check", "--profile", "text", "in"],
         ["factc", "check", "in", "--profile", ""],
     ] {
-        let wrong = done(&rt, PUBLIC_PRODUCT, &words);
+        let wrong = performed(&rt, PUBLIC_PRODUCT, &words);
         assert_eq!(rt; wrong.status, 2);
         assert_eq!(rt; wrong.out.as_slice(), b"".as_slice());
         assert!(rt; wrong.err.as_slice().starts_with(b"error: "));
