@@ -1,9 +1,10 @@
-ghost use Rattle.std.specs.Prelude.{◌≡◌, None, fold, length, map, replicate, IfErr, IfOk, OnOk};
+ghost use Rattle.std.specs.Prelude.{◌≡◌, None, Some, fold, length, map, replicate, IfErr, IfOk, OnOk};
 ghost use Rattle.intervals.specs.Loose.{IsSafe};
 ghost use Rattle.intervals.specs.Ranges.{bound_by, bound_of, first_bounds, range_violations, result_violations, turns_of};
 ghost use Rattle.intervals.specs.Work.{IsRefusedByRanges, ranged, work_violations};
 ghost use Rattle.labels.specs.Sooner.{sooner};
-ghost use Rattle.language.specs.FirstViolation.{IsRefusedFor};
+ghost use Rattle.language.specs.FirstViolation.{IsFirst};
+ghost use Rattle.language.specs.declared.typing.Violation.{Violation};
 
 use crate::known::Known;
 use crate::operators::full_of;
@@ -81,13 +82,13 @@ fn walked(alloc: Global, flat: &Flat) -> Result<Walk, AllocError>
     Ok(walk)
 }
 
-/// The body with these turns and its work, where that is within the limit.
+/// The body with these turns and its work, where that is within the limit. It asks for no memory.
 fn with_work<'f>(flat: &'f Flat, turns: Vec<u32>) -> Result<Ranged<'f>, Refusal>
     requires turns { turns.items ≡ turns_of flat.now }
     requires safe { IsSafe flat.now turns.items }
     ensures accepted { IfOk result (λ result. result ≡ ranged flat.now) }
     ensures worked { OnOk result (length (work_violations flat.now) ≡ 0) }
-    ensures refused { IfErr result (λ refusal. IsRefusedFor (work_violations flat.now) refusal.rule refusal.place) }
+    ensures refused { IfErr result (λ refusal. (first : Violation) × IsFirst (work_violations flat.now) first × (refusal.rule ≡ first.rule) × (refusal.place ≡ Some first.place)) }
 {
     match work(turns.as_slice(), flat) {
         Some(work) => Ok(Ranged::new(flat, turns, work)),

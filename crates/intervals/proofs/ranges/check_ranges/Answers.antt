@@ -15,7 +15,7 @@ returns-in-None-clause-in_range c =
 
 pub returns-in-None-clause-refused : goal.returns-in-None-clause-refused
 returns-in-None-clause-refused c =
-    on_error c.with_work.result (λ refusal h. inr (found_none (range_violations c.args.flat.now) (sym c.in_ok-walk.ensures.first ∙ c.in-None.is), h)) c.with_work.ensures.refused
+    on_error c.with_work.result (λ refusal h. inr (found_none (range_violations c.args.flat.now) (sym c.in_ok-walk.ensures.first ∙ c.in-None.is), inr h)) c.with_work.ensures.refused
 
 pub with_work-requires : goal.with_work-requires
 with_work-requires c =

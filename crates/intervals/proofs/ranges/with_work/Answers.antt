@@ -1,4 +1,4 @@
-use Rattle.std.proofs.Common.{◌≡◌, ℕ, ◌+◌, List, Some, inr, ap, ap₂, ◌∙◌, arith}
+use Rattle.std.proofs.Common.{◌≡◌, ℕ, ◌+◌, List, Some, ap, ap₂, ◌∙◌, arith}
 use Rattle.inline.specs.FlatSize.{value_nodes}
 use Rattle.intervals.specs.Ranged.{RangedProgram}
 use Rattle.intervals.specs.Work.{body_work, work_of}
@@ -24,4 +24,4 @@ pub returns-clause-refused : goal.returns-clause-refused
 returns-clause-refused c =
     let p = c.args.flat.now in
     let same = ap (λ ts. body_work ts p.body + value_nodes p.value) (c.as_slice.ensures.value ∙ c.requires.turns) in
-    inr (record { place = p.place; rule = TooMuchWork }, above_limit p (λ few. c.in-None.ensures (omega (arith, same, few))), c.at.ensures.rule, c.at.ensures.place ∙ ap Some c.place.ensures)
+    (record { place = p.place; rule = TooMuchWork }, above_limit p (λ few. c.in-None.ensures (omega (arith, same, few))), c.at.ensures.rule, c.at.ensures.place ∙ ap Some c.place.ensures)
