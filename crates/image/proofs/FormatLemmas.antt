@@ -14,7 +14,7 @@ use Rattle.image.specs.declared.fault.ImageRule.{ImageRule}
 use Rattle.image.specs.declared.fault.ImageRule.TheVariants.{Magic, Version, Profile, Truncated, FieldOutOfRange, TrailingBytes}
 use Rattle.image.specs.declared.fault.ImageFault.{ImageFault}
 use Rattle.image.specs.declared.fault.ImageFault.TheVariants.{Field}
-use Rattle.image.specs.declared.preamble.TheConstants.{MAGIC, VERSION}
+use Rattle.image.specs.Limits.{magic_number, format_version}
 use Rattle.word.specs.declared.profile.Profile as observer
 use Rattle.image.specs.declared.fields.Fault.{Fault}
 use Rattle.image_fields.specs.Fields.{Fields, slot_end, slots_end, is_length}
@@ -195,13 +195,13 @@ module _ (total : ℕ) where
     at_profile version = field Profile 2 is_profile (λ profile. next (numbered_profile profile))
 
     abbrev at_version : ℕ → Format
-    at_version magic = field Version 2 (λ n. eqb n VERSION) at_profile
+    at_version magic = field Version 2 (λ n. eqb n format_version) at_profile
 
-    preamble_joins : (left : List ℕ) → read_by total (field Magic 4 (λ n. eqb n MAGIC) at_version) left ≡ onward (preamble_at left) (λ x. read_by total (next x.0) x.1)
+    preamble_joins : (left : List ℕ) → read_by total (field Magic 4 (λ n. eqb n magic_number) at_version) left ≡ onward (preamble_at left) (λ x. read_by total (next x.0) x.1)
     unfolding preamble_at
     preamble_joins left =
-        field_joins Magic 4 (λ n. eqb n MAGIC) at_version left
-        ∙ steps _ _ _ _ (λ (magic : ℕ × List ℕ). field_joins Version 2 (λ n. eqb n VERSION) at_profile magic.1
+        field_joins Magic 4 (λ n. eqb n magic_number) at_version left
+        ∙ steps _ _ _ _ (λ (magic : ℕ × List ℕ). field_joins Version 2 (λ n. eqb n format_version) at_profile magic.1
         ∙ steps _ _ _ _ (λ (version : ℕ × List ℕ). field_joins Profile 2 is_profile (λ profile. next (numbered_profile profile)) version.1
         ∙ steps (field_at 2 is_profile Profile version.1) (λ (x : ℕ × List ℕ). Ok (numbered_profile x.0, x.1)) _ (λ (x : observer.Profile × List ℕ). read_by total (next x.0) x.1) (λ (number : ℕ × List ℕ). refl)))
 

@@ -9,7 +9,7 @@ use Rattle.image_fields.specs.declared.slot.Slot.{Slot}
 use Rattle.image_fields.specs.declared.slot.ResultSlot.{ResultSlot}
 use Rattle.image.specs.declared.fault.ImageRule.TheVariants.{Magic, Version, Profile, FieldOutOfRange, TrailingBytes}
 use Rattle.image.specs.declared.fault.ImageFault.{ImageFault}
-use Rattle.image.specs.declared.preamble.TheConstants.{MAGIC, VERSION}
+use Rattle.image.specs.Limits.{magic_number, format_version}
 use Rattle.word.specs.declared.profile.Profile as observer
 use Rattle.word.specs.declared.profile.Profile.TheVariants.{P1, P2}
 use Rattle.image.specs.declared.fields.Fault.{Fault}
@@ -49,20 +49,20 @@ number_fits P2 = lit< tt
 preamble_takes : (bytes : List ℕ) (x : observer.Profile × List ℕ) → IsBytes bytes → preamble_at bytes ≡ Ok x → Takes bytes (preamble x.0) x.1
 unfolding preamble_at
 preamble_takes bytes x fits e =
-    let a = bind_ok (field_at 4 (λ n. eqb n MAGIC) Magic bytes) (λ magic. field_at 2 (λ n. eqb n VERSION) Version magic.1 >>= λ version. field_at 2 is_profile Profile version.1 >>= λ profile. Ok (numbered_profile profile.0, profile.1)) x e in
-    let b = bind_ok (field_at 2 (λ n. eqb n VERSION) Version a.0.1) (λ version. field_at 2 is_profile Profile version.1 >>= λ profile. Ok (numbered_profile profile.0, profile.1)) x a.2 in
+    let a = bind_ok (field_at 4 (λ n. eqb n magic_number) Magic bytes) (λ magic. field_at 2 (λ n. eqb n format_version) Version magic.1 >>= λ version. field_at 2 is_profile Profile version.1 >>= λ profile. Ok (numbered_profile profile.0, profile.1)) x e in
+    let b = bind_ok (field_at 2 (λ n. eqb n format_version) Version a.0.1) (λ version. field_at 2 is_profile Profile version.1 >>= λ profile. Ok (numbered_profile profile.0, profile.1)) x a.2 in
     let c = bind_ok (field_at 2 is_profile Profile b.0.1) (λ profile. Ok (numbered_profile profile.0, profile.1)) x b.2 in
-    let t0 = field_takes 4 wide4 (λ n. eqb n MAGIC) Magic bytes a.0 fits a.1 in
-    let t1 = field_takes 2 wide2 (λ n. eqb n VERSION) Version a.0.1 b.0 t0.0.rest_fits b.1 in
+    let t0 = field_takes 4 wide4 (λ n. eqb n magic_number) Magic bytes a.0 fits a.1 in
+    let t1 = field_takes 2 wide2 (λ n. eqb n format_version) Version a.0.1 b.0 t0.0.rest_fits b.1 in
     let t2 = field_takes 2 wide2 is_profile Profile b.0.1 c.0 t1.0.rest_fits c.1 in
     let e12 = Takes-then a.0.1 (little_bytes 2 b.0.0) b.0.1 (little_bytes 2 c.0.0) c.0.1 t1.0 t2.0 in
     let e02 = Takes-then bytes (little_bytes 4 a.0.0) a.0.1 (little_bytes 2 b.0.0 ++ little_bytes 2 c.0.0) c.0.1 t0.0 e12 in
-    let n0 : a.0.0 ≡ MAGIC = eqb-true a.0.0 MAGIC t0.2 in
-    let n1 : b.0.0 ≡ VERSION = eqb-true b.0.0 VERSION t1.2 in
+    let n0 : a.0.0 ≡ magic_number = eqb-true a.0.0 magic_number t0.2 in
+    let n1 : b.0.0 ≡ format_version = eqb-true b.0.0 format_version t1.2 in
     let n2 : c.0.0 ≡ profile_number (numbered_profile c.0.0) = number_back c.0.0 t2.2 in
     let f0 = subst (λ (n : ℕ). Takes bytes (little_bytes 4 n ++ (little_bytes 2 b.0.0 ++ little_bytes 2 c.0.0)) c.0.1) n0 e02 in
-    let f1 = subst (λ (n : ℕ). Takes bytes (little_bytes 4 MAGIC ++ (little_bytes 2 n ++ little_bytes 2 c.0.0)) c.0.1) n1 f0 in
-    let f2 = subst (λ (n : ℕ). Takes bytes (little_bytes 4 MAGIC ++ (little_bytes 2 VERSION ++ little_bytes 2 n)) c.0.1) n2 f1 in
+    let f1 = subst (λ (n : ℕ). Takes bytes (little_bytes 4 magic_number ++ (little_bytes 2 n ++ little_bytes 2 c.0.0)) c.0.1) n1 f0 in
+    let f2 = subst (λ (n : ℕ). Takes bytes (little_bytes 4 magic_number ++ (little_bytes 2 format_version ++ little_bytes 2 n)) c.0.1) n2 f1 in
     let made : observer.Profile × List ℕ = (numbered_profile c.0.0, c.0.1) in
     subst (λ (y : observer.Profile × List ℕ). Takes bytes (preamble y.0) y.1) (ok_is made x c.2) f2
 
@@ -71,8 +71,8 @@ unfolding preamble_at
 preamble_again profile rest =
     let number = profile_number profile in
     let after_version = little_bytes 2 number ++ rest in
-    let regrouped : preamble profile ++ rest ≡ little_bytes 4 MAGIC ++ (little_bytes 2 VERSION ++ after_version) = refl in
-    ap preamble_at regrouped ∙ rw (field_again 4 (λ n. eqb n MAGIC) Magic MAGIC (little_bytes 2 VERSION ++ after_version) (lit< tt) refl, field_again 2 (λ n. eqb n VERSION) Version VERSION after_version (lit< tt) refl, field_again 2 is_profile Profile number rest (number_fits profile) (number_is profile), profile_again profile) refl
+    let regrouped : preamble profile ++ rest ≡ little_bytes 4 magic_number ++ (little_bytes 2 format_version ++ after_version) = refl in
+    ap preamble_at regrouped ∙ rw (field_again 4 (λ n. eqb n magic_number) Magic magic_number (little_bytes 2 format_version ++ after_version) (lit< tt) refl, field_again 2 (λ n. eqb n format_version) Version format_version after_version (lit< tt) refl, field_again 2 is_profile Profile number rest (number_fits profile) (number_is profile), profile_again profile) refl
 
 -- ---- code words
 

@@ -4,7 +4,7 @@ use Rattle.std.specs.List.{flat_map}
 use Rattle.std.proofs.lemmas.List.Concat.{flat_map-cons}
 use Rattle.byteorder.specs.Endian.{little_bytes}
 use Rattle.byteorder.specs.Numbers.{length-bytes_low_first}
-use Rattle.image.specs.declared.limits.TheConstants.{LONGEST_IMAGE}
+use Rattle.image.specs.Limits.{longest_image}
 use Rattle.image_fields.specs.declared.slot.Slot.{Slot}
 use Rattle.image_fields.specs.declared.slot.ResultSlot.{ResultSlot}
 use Rattle.image_fields.specs.Fields.{Fields, IsImage}
@@ -57,7 +57,7 @@ code_long f =
       length-append (little_bytes 4 (length f.words)) (flat_map (λ word. little_bytes 4 word) f.words),
     )
 
-pub short : (f : Fields) → IsImage f → length (spelling f) ≤ LONGEST_IMAGE
+pub short : (f : Fields) → IsImage f → length (spelling f) ≤ longest_image
 short f h =
     let layout = layout_long f in
     let code = code_long f in

@@ -11,7 +11,7 @@ use Rattle.language.specs.declared.signature.Label.{Label}
 use Rattle.language.specs.declared.signature.Label.TheVariants.{Public, Secret}
 use Rattle.language.specs.declared.signature.Form.{Form}
 use Rattle.language.specs.declared.signature.Form.TheVariants.{SingleWord, FixedArray, MutableArray}
-use Rattle.language.specs.declared.limits.TheConstants.{MOST_ELEMENTS}
+use Rattle.language.specs.Limits.{most_elements}
 use Rattle.image_fields.specs.declared.slot.Slot.{Slot}
 use Rattle.image_fields.specs.declared.slot.ResultSlot.{ResultSlot}
 use Rattle.image.specs.declared.fault.ImageRule.TheVariants.{FieldOutOfRange}
@@ -59,8 +59,8 @@ form_again MutableArray = refl
 
 -- ---- lengths
 
-array_length_fits : (n : ℕ) → (leb 1 n && leb n MOST_ELEMENTS) ≡ true → n < 256 ^ 2
-array_length_fits n e = let few : n ≤ MOST_ELEMENTS = leb-true n MOST_ELEMENTS (and_parts (leb 1 n) (leb n MOST_ELEMENTS) e).1 in omega (arith, few)
+array_length_fits : (n : ℕ) → (leb 1 n && leb n most_elements) ≡ true → n < 256 ^ 2
+array_length_fits n e = let few : n ≤ most_elements = leb-true n most_elements (and_parts (leb 1 n) (leb n most_elements) e).1 in omega (arith, few)
 
 length_fits : (form : Form) (n : ℕ) → is_length form n ≡ true → n < 256 ^ 2
 length_fits SingleWord n e = let one : n ≡ 1 = eqb-true n 1 e in omega (arith, one)

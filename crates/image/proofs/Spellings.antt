@@ -14,7 +14,7 @@ use Rattle.language.specs.declared.signature.Label.TheVariants.{Public, Secret}
 use Rattle.image_fields.specs.declared.slot.Slot.{Slot}
 use Rattle.image_fields.specs.declared.slot.ResultSlot.{ResultSlot}
 use Rattle.image_fields.specs.Fields.{Fields, IsImage}
-use Rattle.image.specs.declared.preamble.TheConstants.{MAGIC, VERSION}
+use Rattle.image.specs.Limits.{magic_number, format_version}
 use Rattle.word.specs.declared.profile.Profile.{Profile}
 use Rattle.image.specs.Reading.{AreBytes, Spells}
 use Rattle.image.specs.private.Spelling.{profile_number, kind_code, label_code, form_code, preamble, spelled_slot, spelled_result, spelled_layout, spelled_code, spelling}
@@ -83,8 +83,8 @@ result_small (Some slot) = (omega arith, (kind_small slot.kind, (label_small slo
 preamble_small : (profile : Profile) → AreBytes (preamble profile)
 preamble_small profile =
     let number = profile_number profile in
-    both_bytes (little_bytes 4 MAGIC) (little_bytes 2 VERSION ++ little_bytes 2 number) (number_bytes 0 4 MAGIC)
-    (both_bytes (little_bytes 2 VERSION) (little_bytes 2 number) (number_bytes 0 2 VERSION) (number_bytes 0 2 number))
+    both_bytes (little_bytes 4 magic_number) (little_bytes 2 format_version ++ little_bytes 2 number) (number_bytes 0 4 magic_number)
+    (both_bytes (little_bytes 2 format_version) (little_bytes 2 number) (number_bytes 0 2 format_version) (number_bytes 0 2 number))
 
 module _ (f : Fields) where
   layout_small : AreBytes (spelled_layout f)

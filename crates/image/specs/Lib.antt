@@ -1,3 +1,4 @@
+pub mod Limits
 pub mod RuleNames
 pub mod Format
 pub mod Reading

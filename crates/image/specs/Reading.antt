@@ -14,7 +14,7 @@ use Rattle.image.specs.declared.fault.ImageFault.{ImageFault}
 use Rattle.image.specs.declared.fault.ImageFault.TheVariants.{Field, Memory}
 use Rattle.image_fields.specs.Fields.{Fields, slot_end, slots_end, result_end, is_length}
 use Rattle.image_fields.specs.declared.limits.TheConstants.{MOST_PARAMETERS, MOST_FRAME_BYTES, MOST_STEPS, MOST_WORDS}
-use Rattle.image.specs.declared.preamble.TheConstants.{MAGIC, VERSION}
+use Rattle.image.specs.Limits.{magic_number, format_version}
 use Rattle.word.specs.declared.profile.Profile as observer
 use Rattle.word.specs.declared.profile.Profile.TheVariants.{P1, P2}
 use Rattle.image.specs.Format.{Format, ends, field, read_by}
@@ -97,8 +97,8 @@ layout_end low (Some slot) = result_end slot
 -- from the first field to the last
 unfoldable pub image_format : Format
 image_format =
-    field Magic 4 (λ n. n == MAGIC) (λ magic.
-    field Version 2 (λ n. n == VERSION) (λ version.
+    field Magic 4 (λ n. n == magic_number) (λ magic.
+    field Version 2 (λ n. n == format_version) (λ version.
     field Profile 2 is_profile (λ profile.
     field FieldOutOfRange 2 (λ n. nat_le n MOST_PARAMETERS) (λ count.
     slots_format count 0 (λ slots.

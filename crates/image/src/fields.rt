@@ -3,6 +3,8 @@
 ghost use Rattle.std.specs.Prelude.{◌≡◌, ◌+◌, ◌%◌, ◌==◌, nat_le, length, Ok};
 ghost use Rattle.image.specs.declared.fields.ReadError.TheVariants.{Memory};
 ghost use Rattle.image_fields.specs.Fields.{is_length};
+ghost use Rattle.image.specs.Limits.{magic_number, format_version};
+ghost use Rattle.image_fields.specs.declared.limits.TheConstants.{MOST_PARAMETERS};
 ghost use Rattle.image.specs.Reading.{numbered_profile, is_profile, is_offset, is_frame_size, is_step_limit, is_word_count};
 ghost use Rattle.image.specs.private.Parts.{Gives, Fails, byte_at, number_at, field_at, coded_at, kind_of, label_of, form_of, preamble_at, slot_at, result_slot_at, returned_at};
 
@@ -95,7 +97,7 @@ fn read_u64(bytes: &[u8]) -> Result<(u64, &[u8]), ReadError>
 
 #[tactic(auto, unfolding(crate::specs::private::Parts::field_at))]
 fn read_magic(bytes: &[u8]) -> Result<(u32, &[u8]), ReadError>
-    ensures { Gives (λ x. (x.0, x.1.now)) result (field_at 4 (λ n. n == MAGIC) ImageRule.Magic bytes.now) }
+    ensures { Gives (λ x. (x.0, x.1.now)) result (field_at 4 (λ n. n == magic_number) ImageRule.Magic bytes.now) }
 {
     let (magic, rest) = read_u32(bytes)?;
     if magic != MAGIC {
@@ -106,7 +108,7 @@ fn read_magic(bytes: &[u8]) -> Result<(u32, &[u8]), ReadError>
 
 #[tactic(auto, unfolding(crate::specs::private::Parts::field_at))]
 fn read_version(bytes: &[u8]) -> Result<(u16, &[u8]), ReadError>
-    ensures { Gives (λ x. (x.0, x.1.now)) result (field_at 2 (λ n. n == VERSION) ImageRule.Version bytes.now) }
+    ensures { Gives (λ x. (x.0, x.1.now)) result (field_at 2 (λ n. n == format_version) ImageRule.Version bytes.now) }
 {
     let (version, rest) = read_u16(bytes)?;
     if version != VERSION {

@@ -5,9 +5,9 @@ use Rattle.word.specs.declared.profile.Profile.{Profile}
 use Rattle.language.specs.declared.signature.Kind.{Kind}
 use Rattle.language.specs.declared.signature.Form.{Form}
 use Rattle.language.specs.declared.signature.Form.TheVariants.{SingleWord, FixedArray, MutableArray}
-use Rattle.language.specs.declared.limits.TheConstants.{MOST_ELEMENTS}
+use Rattle.language.specs.Limits.{most_elements}
 use Rattle.language.specs.Size.{held_words}
-use Rattle.image_fields.specs.declared.limits.TheConstants.{MOST_PARAMETERS, MOST_FRAME_BYTES, MOST_STEPS, MOST_WORDS}
+use Rattle.image_fields.specs.Limits.{most_parameters, most_frame_bytes, most_steps, most_words}
 use Rattle.image_fields.specs.declared.slot.Slot.{Slot}
 use Rattle.image_fields.specs.declared.slot.ResultSlot.{ResultSlot}
 
@@ -40,8 +40,8 @@ slots_end low (slot ∷ slots) = slots_end (slot_end slot) slots
 -- whether a parameter may hold so many words: a single word is one
 abbrev pub is_length : Form → ℕ → Bool
 is_length SingleWord n = n == 1
-is_length FixedArray n = nat_le 1 n && nat_le n MOST_ELEMENTS
-is_length MutableArray n = nat_le 1 n && nat_le n MOST_ELEMENTS
+is_length FixedArray n = nat_le 1 n && nat_le n most_elements
+is_length MutableArray n = nat_le 1 n && nat_le n most_elements
 
 -- a slot that begins not below `low`
 pub record IsSlot (low : ℕ) (slot : Slot) : Type 0 where
@@ -63,15 +63,15 @@ pub record IsResultSlot (low : ℕ) (slot : ResultSlot) : Type 0 where
 
 -- fields that an image may have
 pub record IsImage (fields : Fields) : Type 0 where
-  pub count : length fields.slots ≤ MOST_PARAMETERS
+  pub count : length fields.slots ≤ most_parameters
   pub slots : AreSlots 0 fields.slots
   pub returned : IfSome fields.returned (λ slot. IsResultSlot (slots_end 0 fields.slots) slot)
   pub frame_aligned : fields.frame_bytes % 4 ≡ 0
-  pub frame_size : fields.frame_bytes ≤ MOST_FRAME_BYTES
+  pub frame_size : fields.frame_bytes ≤ most_frame_bytes
   pub slots_inside : AllByRecursion (λ slot. slot_end slot ≤ fields.frame_bytes) fields.slots
   pub returned_inside : IfSome fields.returned (λ slot. result_end slot ≤ fields.frame_bytes)
   pub some_step : 1 ≤ fields.max_steps
-  pub steps : fields.max_steps ≤ MOST_STEPS
+  pub steps : fields.max_steps ≤ most_steps
   pub some_word : 1 ≤ length fields.words
-  pub word_count : length fields.words ≤ MOST_WORDS
+  pub word_count : length fields.words ≤ most_words
   pub words : AllByRecursion (λ word. word < 2 ^ 32) fields.words

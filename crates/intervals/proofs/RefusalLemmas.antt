@@ -3,7 +3,7 @@ use Rattle.std.proofs.Common.{◌≡◌, ℕ, ◌<◌, ◌≤◌, inr, Bool, tru
 use Rattle.std.proofs.lemmas.Bool.Decides.{nat_tests}
 use Rattle.std.proofs.lemmas.List.Elements.{All-cons, All-nil}
 use Rattle.inline.specs.Flat.{FlatProgram}
-use Rattle.intervals.specs.declared.limits.TheConstants.{MOST_WORK}
+use Rattle.intervals.specs.Limits.{most_work}
 use Rattle.intervals.specs.Work.{work_of, work_violations}
 use Rattle.language.specs.FirstViolation.{IsFirst, IsNoLaterThan}
 use Rattle.language.specs.Types.{at, when}
@@ -22,9 +22,9 @@ above a b h = grind (arith, nat_tests)
 not_above : (a b : ℕ) → b ≤ a → nat_lt a b ≡ false
 not_above a b h = grind (arith, nat_tests)
 
-pub above_limit : (p : FlatProgram) → (work_of p ≤ MOST_WORK → ⊥) → IsFirst (work_violations p) (record { place = p.place; rule = TooMuchWork })
+pub above_limit : (p : FlatProgram) → (work_of p ≤ most_work → ⊥) → IsFirst (work_violations p) (record { place = p.place; rule = TooMuchWork })
 above_limit p many =
-    subst (λ (b : Bool). IsFirst (at p.place (when b TooMuchWork)) (record { place = p.place; rule = TooMuchWork })) (sym (above MOST_WORK (work_of p) (grind (arith, many)))) (alone p.place)
+    subst (λ (b : Bool). IsFirst (at p.place (when b TooMuchWork)) (record { place = p.place; rule = TooMuchWork })) (sym (above most_work (work_of p) (grind (arith, many)))) (alone p.place)
 
 -- what holds anyway holds on success
 pub on_any : {T E P : Type 0} (result : Result T E) → P → OnOk result P

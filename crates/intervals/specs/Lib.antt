@@ -1,3 +1,4 @@
+pub mod Limits
 pub mod Ranged
 pub mod Codes
 pub mod Loose

@@ -6,7 +6,7 @@ use Rattle.intervals.specs.Ranged.{RangedProgram}
 use Rattle.intervals.specs.Ranges.{range_violations, turns_of}
 use Rattle.language.specs.FirstViolation.{IsRefusedFor}
 use Rattle.word.specs.declared.place.Place.{Place}
-use Rattle.intervals.specs.declared.limits.TheConstants.{MOST_WORK}
+use Rattle.intervals.specs.Limits.{most_work}
 use Rattle.language.specs.declared.rule.Rule.{Rule}
 use Rattle.language.specs.declared.rule.Rule.TheVariants.{TooMuchWork}
 use Rattle.language.specs.declared.typing.Violation.{Violation}
@@ -34,7 +34,7 @@ work_of p = body_work (turns_of p) p.body + value_nodes p.value
 
 -- the limit on work, at the name of the export
 abbrev pub work_violations : FlatProgram → List Violation
-work_violations p = at p.place (when (nat_lt MOST_WORK (work_of p)) TooMuchWork)
+work_violations p = at p.place (when (nat_lt most_work (work_of p)) TooMuchWork)
 
 -- the refusal is for a range, or else, where all ranges are kept, for the work
 abbrev pub IsRefusedByRanges : FlatProgram → Rule → Option Place → Type 0

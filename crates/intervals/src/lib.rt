@@ -19,6 +19,6 @@ pub use interval::Interval;
 pub use laws::{
     accepted_is_safe, safe_runs_are_within_work, safe_runs_meet_no_fault, strict_runs_are_loose,
 };
-pub use limits::MOST_WORK;
+pub use limits::{MOST_WORK, limits_are_as_stated};
 pub use ranged::Ranged;
 pub use ranges::check_ranges;

@@ -4,6 +4,7 @@ ghost use Rattle.std.specs.Prelude.{◌≡◌, ◌+◌, ◌-◌, ◌*◌, ◌≤
 ghost use Rattle.std.specs.Option.{SomeIff, option_map};
 ghost use Rattle.inline.specs.Flat.{flat_block, flat_tree, term_tree};
 ghost use Rattle.inline.specs.FlatSize.{term_nodes, terms_nodes, value_nodes};
+ghost use Rattle.intervals.specs.Limits.{most_work};
 ghost use Rattle.intervals.specs.Work.{body_work, tree_work};
 
 use crate::MOST_WORK;
@@ -112,7 +113,7 @@ fn value_after(value: Option<&Term>, room: u64) -> Option<u64>
 
 /// The work of a program for which these turns are counted, where it is within the limit.
 pub fn work(turns: &[u32], flat: &Flat) -> Option<u64>
-    ensures { SomeIff result (body_work turns.now flat.now.body + value_nodes flat.now.value ≤ 4294967296) (body_work turns.now flat.now.body + value_nodes flat.now.value) }
+    ensures { SomeIff result (body_work turns.now flat.now.body + value_nodes flat.now.value ≤ most_work) (body_work turns.now flat.now.body + value_nodes flat.now.value) }
 {
     let room = work_after_all(turns, flat.body(), MOST_WORK)?;
     Some(MOST_WORK - value_after(flat.value(), room)?)

@@ -1,7 +1,7 @@
 -- What the grammar gives of each procedure, whatever its types.
 use Rattle.std.specs.Prelude.{◌≡◌, ℕ, ◌^◌, ◌<◌, ◌≤◌, List, Option, Some, None}
 use Rattle.std.specs.List.{AllByRecursion}
-use Rattle.language.specs.declared.limits.TheConstants.{MOST_ELEMENTS}
+use Rattle.language.specs.Limits.{most_elements}
 use Rattle.language.specs.declared.signature.Form.{Form}
 use Rattle.language.specs.declared.signature.Form.TheVariants.{SingleWord, FixedArray, MutableArray}
 use Rattle.language.specs.declared.signature.Kind.{Kind}
@@ -18,7 +18,7 @@ IsNumberKind Uint32 = Unit {0}
 -- an array has 1 to 4096 elements
 pub record IsArrayLength (length : ℕ) : Type 0 where
   pub some : 1 ≤ length
-  pub few : length ≤ MOST_ELEMENTS
+  pub few : length ≤ most_elements
 
 -- each number and each amount is below 2 ^ 32, and literals and conversions are of the kinds of numbers
 abbrev pub AreSmall : ExprTree → Type 0

@@ -1,3 +1,4 @@
+pub mod Limits
 pub mod Rules
 pub mod Results
 pub mod Tree

@@ -1,7 +1,7 @@
 -- How large a program is, and the limits on it. What is counted is the exported procedure, with every call replaced by the
 -- called body.
 use Rattle.std.specs.Prelude.{ℕ, ◌+◌, ◌*◌, ◌/◌, ◌||◌, max, List, [], ◌∷◌, ◌++◌, Option, None, Some, nat_lt, if◌then◌else◌}
-pub use Rattle.language.specs.declared.limits.TheConstants.{MOST_NODES, MOST_DECLARED_BYTES, MOST_BODIES}
+pub use Rattle.language.specs.Limits.{most_nodes, most_declared_bytes, most_bodies}
 use Rattle.language.specs.declared.rule.Rule.TheVariants.{InlinedSize, DeclaredBytes}
 use Rattle.language.specs.declared.signature.Form.{Form}
 use Rattle.language.specs.declared.signature.Form.TheVariants.{SingleWord, FixedArray, MutableArray}
@@ -183,5 +183,5 @@ extents_of before = known_of extent_of before
 -- the limits that a procedure passes behind the earlier ones, at its name
 abbrev pub size_violations : List ProcedureTree → ProcedureTree → List Violation
 size_violations before p =
-    at p.place (when (nat_lt MOST_NODES (nodes_of (extents_of before) p) || nat_lt MOST_BODIES (bodies_of (extents_of before) p)) InlinedSize
-    ++ when (nat_lt MOST_DECLARED_BYTES (declared_bytes (extents_of before) p)) DeclaredBytes)
+    at p.place (when (nat_lt most_nodes (nodes_of (extents_of before) p) || nat_lt most_bodies (bodies_of (extents_of before) p)) InlinedSize
+    ++ when (nat_lt most_declared_bytes (declared_bytes (extents_of before) p)) DeclaredBytes)

@@ -13,7 +13,9 @@ mod typing;
 mod values;
 
 pub use laws::rows_are_blocks;
-pub use limits::{MOST_BODIES, MOST_DECLARED_BYTES, MOST_ELEMENTS, MOST_NODES};
+pub use limits::{
+    MOST_BODIES, MOST_DECLARED_BYTES, MOST_ELEMENTS, MOST_NODES, limits_are_as_stated,
+};
 pub use refusal::Refusal;
 pub use rule::Rule;
 pub use signature::{Form, Kind, Label, Param};

@@ -5,7 +5,7 @@ use Rattle.language.specs.declared.refusal.Refusal.{Refusal}
 use Rattle.language.specs.declared.rule.Rule.TheVariants.{TextTooLong}
 use Rattle.syntax.specs.Lexeme.{Lexeme}
 use Rattle.syntax.specs.Reading.{refused, Answers, Reads, too_long, by_tokens, OneAnswer, IsRefusedAs}
-use Rattle.syntax.specs.declared.lexer.TheConstants.{TEXT_LIMIT}
+use Rattle.syntax.specs.Limits.{text_limit}
 use Rattle.syntax.specs.Tokens.{Ending, Lexes}
 use Rattle.word.specs.Places.{origin}
 use Rattle.language.specs.WantOfMemory.{IsWantOfMemory}
@@ -22,21 +22,21 @@ one_answer text one two (by_tokens _ tokens ending _ short lexes h) (by_tokens _
     one_answer_for_tokens tokens' ending' one two (subst (λ e. Answers tokens' e one) same.1 (subst (λ ts. Answers ts ending one) same.0 h)) h'
 
 -- what refuses the tokens of a text refuses the text
-pub text-refused : (text : List ℕ) (tokens : List Lexeme) (ending : Ending) (r : Refusal) → length text ≤ TEXT_LIMIT → Lexes text tokens ending → IsRefusedAs (Answers tokens ending) r → IsRefusedAs (Reads text) r
+pub text-refused : (text : List ℕ) (tokens : List Lexeme) (ending : Ending) (r : Refusal) → length text ≤ text_limit → Lexes text tokens ending → IsRefusedAs (Answers tokens ending) r → IsRefusedAs (Reads text) r
 text-refused text tokens ending r short lexes (inl memory) = inl memory
 text-refused text tokens ending r short lexes (inr w) = inr (w.0, w.1, by_tokens text tokens ending (refused r.rule w.0) short lexes w.2)
 
-pub not-long : (n : ℕ) → (TEXT_LIMIT < n → ⊥) → n ≤ TEXT_LIMIT
-not-long n h = go (nat_lt TEXT_LIMIT n) refl
+pub not-long : (n : ℕ) → (text_limit < n → ⊥) → n ≤ text_limit
+not-long n h = go (nat_lt text_limit n) refl
   where
-    go : (b : Bool) → nat_lt TEXT_LIMIT n ≡ b → n ≤ TEXT_LIMIT
-    go true e = absurd (h (lt-true TEXT_LIMIT n e))
-    go false e = lt-false TEXT_LIMIT n e
+    go : (b : Bool) → nat_lt text_limit n ≡ b → n ≤ text_limit
+    go true e = absurd (h (lt-true text_limit n e))
+    go false e = lt-false text_limit n e
 
 -- what the lexer refuses
-pub lexer-refused : (text : List ℕ) (r : Refusal) → (TEXT_LIMIT < length text → (r.rule ≡ TextTooLong) × (r.place ≡ Some origin)) → (length text ≤ TEXT_LIMIT → IsWantOfMemory r.rule r.place) → IsRefusedAs (Reads text) r
-lexer-refused text r long memory = go (nat_lt TEXT_LIMIT (length text)) refl
+pub lexer-refused : (text : List ℕ) (r : Refusal) → (text_limit < length text → (r.rule ≡ TextTooLong) × (r.place ≡ Some origin)) → (length text ≤ text_limit → IsWantOfMemory r.rule r.place) → IsRefusedAs (Reads text) r
+lexer-refused text r long memory = go (nat_lt text_limit (length text)) refl
   where
-    go : (b : Bool) → nat_lt TEXT_LIMIT (length text) ≡ b → IsRefusedAs (Reads text) r
-    go true e = let w = long (lt-true TEXT_LIMIT (length text) e) in inr (origin, w.1, subst (λ rule. Reads text (refused rule origin)) (sym w.0) (too_long text (lt-true TEXT_LIMIT (length text) e)))
-    go false e = inl (memory (lt-false TEXT_LIMIT (length text) e))
+    go : (b : Bool) → nat_lt text_limit (length text) ≡ b → IsRefusedAs (Reads text) r
+    go true e = let w = long (lt-true text_limit (length text) e) in inr (origin, w.1, subst (λ rule. Reads text (refused rule origin)) (sym w.0) (too_long text (lt-true text_limit (length text) e)))
+    go false e = inl (memory (lt-false text_limit (length text) e))

@@ -8,7 +8,7 @@ use Rattle.std.specs.List.{AllByRecursion}
 use Rattle.syntax.specs.declared.lexer.piece.Piece.{Piece}
 use Rattle.syntax.specs.declared.lexer.piece.Piece.TheVariants as piece
 use Rattle.word.specs.declared.place.Place.{Place}
-use Rattle.language.specs.declared.limits.TheConstants.{MOST_ELEMENTS}
+use Rattle.language.specs.Limits.{most_elements}
 use Rattle.language.specs.declared.signature.Kind.{Kind}
 use Rattle.syntax.specs.declared.token.TokenKind.{TokenKind}
 use Rattle.syntax.specs.declared.token.TokenKind.TheVariants as token
@@ -77,7 +77,7 @@ amount_small (token.Keyword _) n h small = absurd (none-some _ h)
 amount_small token.Name n h small = absurd (none-some _ h)
 amount_small (token.Sign _) n h small = absurd (none-some _ h)
 
-between : (n : ℕ) → (nat_le 1 n && nat_le n MOST_ELEMENTS) ≡ true → IsArrayLength n
+between : (n : ℕ) → (nat_le 1 n && nat_le n most_elements) ≡ true → IsArrayLength n
 between n e = record { some = grind (arith, nat_tests); few = grind (arith, nat_tests) }
 
 length_within : (b : Bool) (m n : ℕ) → is_length m ≡ b → (if b then Some m else None) ≡ Some n → IsArrayLength n

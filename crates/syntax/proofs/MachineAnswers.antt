@@ -8,7 +8,7 @@ use Rattle.language.specs.declared.rule.Rule.TheVariants.{Nesting}
 use Rattle.syntax.specs.Grammar.{IsProgram, IsBeginning}
 use Rattle.syntax.specs.Lexeme.{Lexeme}
 use Rattle.syntax.specs.Nesting.{Nest, outside, after, after_all, AreWithin, AreWithinFrom}
-use Rattle.syntax.specs.declared.nesting.TheConstants.{NESTING_LIMIT}
+use Rattle.syntax.specs.Limits.{nesting_limit}
 use Rattle.syntax.specs.Reading.{Answer, refused, Answers, a_program, unexpected, unexpected_end, too_deep, bad_token, OneAnswerForTokens, OneProgram}
 use Rattle.syntax.specs.Tokens.{Ending, ends_at, stops}
 use Rattle.language.specs.Tree.{ProgramTree}
@@ -65,13 +65,13 @@ end_answer front s e within (ends_at place) (Some p) last = a_program front plac
 end_answer front s e within (ends_at place) None last = unexpected_end front place (begins_by_run front s e) (no_program front s e last) within
 end_answer front s e within (stops rule place) last is = bad_token front rule place (begins_by_run front s e) within
 
-deep_answer : (front ts : List Lexeme) (s next : State) (t : Lexeme) (ending : Ending) → run program front ≡ Some s → AreWithin front → step s t ≡ Some next → (deep : Bool) → nat_lt NESTING_LIMIT (after t.kind (after_all front outside)).count ≡ deep → (AreWithin (front ++ t ∷ []) → Answers (front ++ t ∷ ts) ending (verdict next (after t.kind (after_all front outside)) ts ending)) → Answers (front ++ t ∷ ts) ending (if deep then refused Nesting t.place else verdict next (after t.kind (after_all front outside)) ts ending)
+deep_answer : (front ts : List Lexeme) (s next : State) (t : Lexeme) (ending : Ending) → run program front ≡ Some s → AreWithin front → step s t ≡ Some next → (deep : Bool) → nat_lt nesting_limit (after t.kind (after_all front outside)).count ≡ deep → (AreWithin (front ++ t ∷ []) → Answers (front ++ t ∷ ts) ending (verdict next (after t.kind (after_all front outside)) ts ending)) → Answers (front ++ t ∷ ts) ending (if deep then refused Nesting t.place else verdict next (after t.kind (after_all front outside)) ts ending)
 deep_answer front ts s next t ending e within is true deep k = too_deep front ts t ending (begins_by_run (front ++ t ∷ []) next (run-append front (t ∷ []) program s e ∙ run-one s next t is)) within (lt-true _ _ deep)
 deep_answer front ts s next t ending e within is false deep k = k (AreWithin-append front (t ∷ []) outside within (lt-false _ _ deep, tt))
 
 step_answer : (front ts : List Lexeme) (s : State) (t : Lexeme) (ending : Ending) → run program front ≡ Some s → AreWithin front → (o : Option State) → step s t ≡ o → ((next : State) → step s t ≡ Some next → AreWithin (front ++ t ∷ []) → Answers (front ++ t ∷ ts) ending (verdict next (after t.kind (after_all front outside)) ts ending)) → Answers (front ++ t ∷ ts) ending (token_answer o t (after t.kind (after_all front outside)) (λ next. verdict next (after t.kind (after_all front outside)) ts ending))
 step_answer front ts s t ending e within None is k = unexpected front ts t ending (begins_by_run front s e) (no_step front s t e is) within
-step_answer front ts s t ending e within (Some next) is k = deep_answer front ts s next t ending e within is (nat_lt NESTING_LIMIT (after t.kind (after_all front outside)).count) refl (k next is)
+step_answer front ts s t ending e within (Some next) is k = deep_answer front ts s next t ending e within is (nat_lt nesting_limit (after t.kind (after_all front outside)).count) refl (k next is)
 
 -- after a front that the machine took
 answer_from : (front : List Lexeme) (s : State) → run program front ≡ Some s → AreWithin front → (ts : List Lexeme) (ending : Ending) → Answers (front ++ ts) ending (verdict s (after_all front outside) ts ending)
@@ -93,7 +93,7 @@ passes (t ∷ front) ts s next nest ending e within =
     let w = and_then_some (λ x. run x front) (step s t) next e in
     let n = after t.kind nest in
     ap (λ o. token_answer o t n (λ x. verdict x n (front ++ ts) ending)) w.1
-    ∙ ap (λ b. if b then refused Nesting t.place else verdict w.0 n (front ++ ts) ending) (false-lt NESTING_LIMIT n.count within.0)
+    ∙ ap (λ b. if b then refused Nesting t.place else verdict w.0 n (front ++ ts) ending) (false-lt nesting_limit n.count within.0)
     ∙ passes front ts w.0 next n ending w.2 within.1
 
 passes-all : (ts : List Lexeme) (s next : State) (nest : Nest) (ending : Ending) → run s ts ≡ Some next → AreWithinFrom nest ts → verdict s nest ts ending ≡ ending_answer ending (at_end next)
@@ -128,7 +128,7 @@ answered _ _ _ (too_deep front rest t ending begins within deep) =
     let n = after t.kind (after_all front outside) in
     sym (passes front (t ∷ rest) program w.0 outside ending w.1 within
     ∙ ap (λ o. token_answer o t n (λ x. verdict x n rest ending)) u.1
-    ∙ ap (λ b. if b then refused Nesting t.place else verdict u.0 n rest ending) (true-lt NESTING_LIMIT n.count deep))
+    ∙ ap (λ b. if b then refused Nesting t.place else verdict u.0 n rest ending) (true-lt nesting_limit n.count deep))
 answered _ _ _ (bad_token tokens rule place begins within) =
     let w = run_beginning tokens begins in
     sym (passes-all tokens program w.0 outside (stops rule place) w.1 within)

@@ -3,7 +3,7 @@
 use Rattle.std.specs.Prelude.{◌≡◌, ℕ, ◌+◌, ◌≤◌, Bool, true, false, ◌&&◌, if◌then◌else◌, List, [], ◌∷◌, ◌++◌, Option, Some, None}
 use Rattle.std.specs.Prelude.{nat_le}
 use Rattle.word.specs.declared.place.Place.{Place}
-use Rattle.language.specs.declared.limits.TheConstants.{MOST_ELEMENTS}
+use Rattle.language.specs.Limits.{most_elements}
 use Rattle.language.specs.declared.signature.Form.TheVariants.{SingleWord, FixedArray, MutableArray}
 use Rattle.language.specs.declared.signature.Kind.{Kind}
 use Rattle.language.specs.declared.signature.Kind.TheVariants.{Boolean, Uint8 as Uint8Kind, Uint16 as Uint16Kind, Uint32 as Uint32Kind}
@@ -134,7 +134,7 @@ amount_of _ = None
 
 -- an array has 1 to so many elements
 abbrev pub is_length : ℕ → Bool
-is_length length = nat_le 1 length && nat_le length MOST_ELEMENTS
+is_length length = nat_le 1 length && nat_le length most_elements
 
 -- the length that a token without a suffix writes
 abbrev pub length_of : TokenKind → Option ℕ

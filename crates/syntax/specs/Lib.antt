@@ -1,3 +1,4 @@
+pub mod Limits
 pub mod Lexeme
 pub mod Spelling
 pub mod Tokens

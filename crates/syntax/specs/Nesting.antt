@@ -1,6 +1,6 @@
 -- How deeply each token of a text is nested.
 use Rattle.std.specs.Prelude.{ℕ, ◌+◌, ◌-◌, ◌≤◌, Bool, true, false, List, [], ◌∷◌, ◌++◌, length, take, slice_index, if◌then◌else◌}
-use Rattle.syntax.specs.declared.nesting.TheConstants.{NESTING_LIMIT}
+use Rattle.syntax.specs.Limits.{nesting_limit}
 use Rattle.syntax.specs.declared.nesting.Effect.{Effect}
 use Rattle.syntax.specs.declared.nesting.Effect.TheVariants.{Opens, Closes, Raises, SetsBack, Stays}
 use Rattle.syntax.specs.declared.token.TokenKind.{TokenKind}
@@ -84,7 +84,7 @@ after_all (t ∷ tokens) nest = after_all tokens (after t.kind nest)
 -- no token's count is above the limit
 abbrev pub AreWithinFrom : Nest → List Lexeme → Type 0
 AreWithinFrom nest [] = Unit {0}
-AreWithinFrom nest (t ∷ tokens) = ((after t.kind nest).count ≤ NESTING_LIMIT) × AreWithinFrom (after t.kind nest) tokens
+AreWithinFrom nest (t ∷ tokens) = ((after t.kind nest).count ≤ nesting_limit) × AreWithinFrom (after t.kind nest) tokens
 
 abbrev pub AreWithin : List Lexeme → Type 0
 AreWithin tokens = AreWithinFrom outside tokens

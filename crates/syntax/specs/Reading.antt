@@ -8,8 +8,8 @@ use Rattle.language.specs.declared.rule.Rule.TheVariants.{UnexpectedToken, Nesti
 use Rattle.syntax.specs.Grammar.{IsProgram, IsBeginning}
 use Rattle.syntax.specs.Lexeme.{Lexeme}
 use Rattle.syntax.specs.Nesting.{outside, after, after_all, AreWithin}
-use Rattle.syntax.specs.declared.lexer.TheConstants.{TEXT_LIMIT}
-use Rattle.syntax.specs.declared.nesting.TheConstants.{NESTING_LIMIT}
+use Rattle.syntax.specs.Limits.{text_limit}
+use Rattle.syntax.specs.Limits.{nesting_limit}
 use Rattle.syntax.specs.Tokens.{Ending, ends_at, stops, Lexes}
 use Rattle.language.specs.Tree.{ProgramTree}
 use Rattle.language.specs.WantOfMemory.{IsWantOfMemory}
@@ -27,14 +27,14 @@ pub data Answers : List Lexeme → Ending → Answer → Type 0 where
   -- a program begins so, but the text ends here
   unexpected_end : (tokens : List Lexeme) (end : Place) → IsBeginning tokens → ((tree : ProgramTree) → ¬ IsProgram tokens tree) → AreWithin tokens → Answers tokens (ends_at end) (refused UnexpectedToken end)
   -- a program begins with the tokens up to this one, which is nested too deeply
-  too_deep : (front rest : List Lexeme) (t : Lexeme) (ending : Ending) → IsBeginning (front ++ t ∷ []) → AreWithin front → NESTING_LIMIT < (after t.kind (after_all front outside)).count → Answers (front ++ t ∷ rest) ending (refused Nesting t.place)
+  too_deep : (front rest : List Lexeme) (t : Lexeme) (ending : Ending) → IsBeginning (front ++ t ∷ []) → AreWithin front → nesting_limit < (after t.kind (after_all front outside)).count → Answers (front ++ t ∷ rest) ending (refused Nesting t.place)
   -- a program begins so, and a bad character or number stands next
   bad_token : (tokens : List Lexeme) (rule : Rule) (place : Place) → IsBeginning tokens → AreWithin tokens → Answers tokens (stops rule place) (refused rule place)
 
 -- the answer to a text
 pub data Reads : List ℕ → Answer → Type 0 where
-  too_long : (text : List ℕ) → TEXT_LIMIT < length text → Reads text (refused TextTooLong origin)
-  by_tokens : (text : List ℕ) (tokens : List Lexeme) (ending : Ending) (answer : Answer) → length text ≤ TEXT_LIMIT → Lexes text tokens ending → Answers tokens ending answer → Reads text answer
+  too_long : (text : List ℕ) → text_limit < length text → Reads text (refused TextTooLong origin)
+  by_tokens : (text : List ℕ) (tokens : List Lexeme) (ending : Ending) (answer : Answer) → length text ≤ text_limit → Lexes text tokens ending → Answers tokens ending answer → Reads text answer
 
 -- a list of tokens has one answer at most
 abbrev pub OneAnswerForTokens : Type 0

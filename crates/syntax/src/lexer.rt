@@ -1,6 +1,7 @@
 ghost use Rattle.std.specs.Prelude.{◌≡◌, ◌<◌, ◌≤◌, length, IfOk, IfErr, IsErrAnd, Some, None};
 ghost use Rattle.std.specs.List.{All};
 ghost use Rattle.syntax.specs.Lexeme.{lexemes};
+ghost use Rattle.syntax.specs.Limits.{text_limit};
 ghost use Rattle.syntax.specs.Tokens.{Lexes, OneList, IsSliceOf, ending};
 ghost use Rattle.word.specs.Places.{origin};
 ghost use Rattle.language.specs.WantOfMemory.{IsWantOfMemory};
@@ -41,8 +42,8 @@ pub fn lex(alloc: Global, text: &str) -> Result<Lexed<'_>, Refusal>
 
     // The tokens' texts are cut from the text.
     ensures slices { IfOk result (λ l. All (IsSliceOf text.now) (lexemes l.tokens.items)) }
-    ensures too_long { TEXT_LIMIT < length text.now → IsErrAnd result (λ r. (r.rule ≡ Rule.TextTooLong) × (r.place ≡ Some origin)) }
-    ensures memory { length text.now ≤ TEXT_LIMIT → IfErr result (λ r. IsWantOfMemory r.rule r.place) }
+    ensures too_long { text_limit < length text.now → IsErrAnd result (λ r. (r.rule ≡ Rule.TextTooLong) × (r.place ≡ Some origin)) }
+    ensures memory { length text.now ≤ text_limit → IfErr result (λ r. IsWantOfMemory r.rule r.place) }
 {
     if text.len() > TEXT_LIMIT {
         return Err(Refusal::at(Rule::TextTooLong, Place::ORIGIN));
@@ -52,7 +53,7 @@ pub fn lex(alloc: Global, text: &str) -> Result<Lexed<'_>, Refusal>
 
 /// The tokens of a text within the limit.
 fn tokens_of(alloc: Global, text: &str) -> Result<Lexed<'_>, Refusal>
-    requires { length text.now ≤ TEXT_LIMIT }
+    requires { length text.now ≤ text_limit }
     ensures tokens { IfOk result (λ l. Lexes text.now (lexemes l.tokens.items) (ending l.end)) }
     ensures memory { IfErr result (λ r. IsWantOfMemory r.rule r.place) }
 {
@@ -86,4 +87,9 @@ fn tokens_of(alloc: Global, text: &str) -> Result<Lexed<'_>, Refusal>
 /// A text has one list of tokens, and the list one end.
 pub fn one_list_for_a_text()
     ensures { OneList }
+{}
+
+/// The constant is the number that the definitions state.
+pub fn text_limit_is_as_stated()
+    ensures bytes { TEXT_LIMIT ≡ text_limit }
 {}

@@ -1,5 +1,5 @@
 ghost use Rattle.std.specs.Prelude.{◌≡◌, ◌<◌, ◌≤◌, OnOk};
-ghost use Rattle.syntax.specs.declared.nesting.TheConstants.{NESTING_LIMIT};
+ghost use Rattle.syntax.specs.Limits.{nesting_limit};
 ghost use Rattle.syntax.specs.Nesting.{effect_of as effect_that};
 
 use crate::{Keyword, Sign, TokenKind};
@@ -26,7 +26,7 @@ pub struct Nesting {
     bases: Vec<u8>,
     /// Whether a `}` came last.
     after_block: bool,
-    ghost within: { count ≤ NESTING_LIMIT },
+    ghost within: { count ≤ nesting_limit },
 }
 
 impl Nesting {
@@ -78,7 +78,7 @@ impl Nesting {
 
     /// Takes in a token that comes next.
     pub fn take(&mut self, kind: TokenKind) -> Result<(), AllocError>
-        requires { (after kind (nest self.old)).count ≤ NESTING_LIMIT }
+        requires { (after kind (nest self.old)).count ≤ nesting_limit }
         ensures { OnOk result (nest self.new ≡ after kind (nest self.old)) }
     {
         let count = self.count_after(kind);
@@ -109,3 +109,8 @@ fn effect_of(kind: TokenKind) -> Effect
         TokenKind::Keyword(_) | TokenKind::Name | TokenKind::Number(_, _) => Effect::Stays,
     }
 }
+
+/// The constant is the number that the definitions state.
+pub fn nesting_limit_is_as_stated()
+    ensures count { NESTING_LIMIT ≡ nesting_limit }
+{}

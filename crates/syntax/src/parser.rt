@@ -1,6 +1,6 @@
 ghost use Rattle.std.specs.Prelude.{◌≡◌, ℕ, ◌<◌, List, length, Contains, IfOk, IfErr, IsErrAnd, MatchResult};
 ghost use Rattle.word.specs.Places.{origin};
-ghost use Rattle.syntax.specs.declared.lexer.TheConstants.{TEXT_LIMIT};
+ghost use Rattle.syntax.specs.Limits.{text_limit};
 ghost use Rattle.language.specs.Grammatical.{IsGrammatical};
 ghost use Rattle.syntax.specs.Lexeme.{lexemes};
 ghost use Rattle.syntax.specs.private.Machine.{program as program_state};
@@ -100,7 +100,7 @@ fn parse_tokens<'t, 'a>(
 /// The program of a text, or the first refusal. A place is named for all refusals but want of
 /// memory. A text that is too long is refused as that whatever memory there is.
 pub fn parse(alloc: Global, text: &str) -> Result<Program<'_>, Refusal>
-    ensures too_long { TEXT_LIMIT < length text.now → IsErrAnd result (λ r. (r.rule ≡ Rule.TextTooLong) × (r.place ≡ Some origin)) }
+    ensures too_long { text_limit < length text.now → IsErrAnd result (λ r. (r.rule ≡ Rule.TextTooLong) × (r.place ≡ Some origin)) }
     ensures accepted { IfOk result (λ p. Reads text.now (accepted (program_tree p))) }
     ensures refused { IfErr result (IsRefusedAs (Reads text.now)) }
 {

@@ -11,7 +11,7 @@ use Rattle.image_fields.specs.declared.slot.Slot.{Slot}
 use Rattle.image_fields.specs.declared.slot.ResultSlot.{ResultSlot}
 use Rattle.image.specs.declared.fault.ImageRule.{ImageRule}
 use Rattle.image.specs.declared.fault.ImageRule.TheVariants.{Magic, Version, Profile, Truncated, FieldOutOfRange, TrailingBytes}
-use Rattle.image.specs.declared.preamble.TheConstants.{MAGIC, VERSION}
+use Rattle.image.specs.Limits.{magic_number, format_version}
 use Rattle.image.specs.declared.fields.Fault.{Fault}
 use Rattle.image.specs.declared.fields.ReadError.{ReadError}
 use Rattle.image.specs.declared.fields.ReadError.TheVariants as errors
@@ -79,8 +79,8 @@ form_of (suc (suc (suc n))) = None
 -- magic, version and profile, of which the last is kept, and what stands after them
 unfoldable pub preamble_at : List ℕ → Result (observer.Profile × List ℕ) Fault
 preamble_at bytes = do
-  magic ← field_at 4 (λ n. n == MAGIC) Magic bytes
-  version ← field_at 2 (λ n. n == VERSION) Version magic.1
+  magic ← field_at 4 (λ n. n == magic_number) Magic bytes
+  version ← field_at 2 (λ n. n == format_version) Version magic.1
   profile ← field_at 2 is_profile Profile version.1
   Ok (numbered_profile profile.0, profile.1)
 

@@ -11,7 +11,7 @@ use Rattle.language.specs.declared.signature.Form.TheVariants.{SingleWord, Fixed
 use Rattle.image_fields.specs.declared.slot.Slot.{Slot}
 use Rattle.image_fields.specs.declared.slot.ResultSlot.{ResultSlot}
 use Rattle.image_fields.specs.Fields.{Fields}
-use Rattle.image.specs.declared.preamble.TheConstants.{MAGIC, VERSION}
+use Rattle.image.specs.Limits.{magic_number, format_version}
 use Rattle.word.specs.declared.profile.Profile.{Profile}
 use Rattle.word.specs.declared.profile.Profile.TheVariants.{P1, P2}
 
@@ -36,7 +36,7 @@ form_code MutableArray = 2
 
 -- magic, version and profile
 abbrev pub preamble : Profile → List ℕ
-preamble profile = little_bytes 4 MAGIC ++ (little_bytes 2 VERSION ++ little_bytes 2 (profile_number profile))
+preamble profile = little_bytes 4 magic_number ++ (little_bytes 2 format_version ++ little_bytes 2 (profile_number profile))
 
 abbrev pub spelled_slot : Slot → List ℕ
 spelled_slot slot =

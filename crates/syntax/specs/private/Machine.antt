@@ -23,7 +23,7 @@ use Rattle.language.specs.declared.typing.WordType.{WordType}
 use Rattle.syntax.specs.Grammar.{prefix_of, operator_of, level_of, left_level_of, rotation_level, prefix_level, label_of, word_of, conversion_of, suffix_kind, amount_of, length_of}
 use Rattle.syntax.specs.Lexeme.{Lexeme}
 use Rattle.syntax.specs.Nesting.{Nest, after}
-use Rattle.syntax.specs.declared.nesting.TheConstants.{NESTING_LIMIT}
+use Rattle.syntax.specs.Limits.{nesting_limit}
 use Rattle.syntax.specs.Reading.{Answer, accepted, refused}
 use Rattle.syntax.specs.Spelling.{keyword_text, sign_text, suffix_text}
 use Rattle.syntax.specs.Tokens.{Ending, ends_at, stops}
@@ -311,7 +311,7 @@ ending_answer (stops rule place) _ = refused rule place
 
 abbrev pub token_answer : Option State → Lexeme → Nest → (State → Answer) → Answer
 token_answer None t nest k = refused UnexpectedToken t.place
-token_answer (Some s) t nest k = if nat_lt NESTING_LIMIT nest.count then refused Nesting t.place else k s
+token_answer (Some s) t nest k = if nat_lt nesting_limit nest.count then refused Nesting t.place else k s
 
 -- the answer from a state on
 abbrev pub verdict : State → Nest → List Lexeme → Ending → Answer

@@ -1,5 +1,5 @@
 use Rattle.std.proofs.Common.{◌≡◌, ◌≤◌, ◌∙◌, length, rules, ap, subst, sym}
-use Rattle.image.specs.declared.limits.TheConstants.{LONGEST_IMAGE}
+use Rattle.image.specs.Limits.{longest_image}
 use Rattle.image.specs.Reading.{reading}
 use Rattle.image.specs.private.Spelling.{spelling}
 use Rattle.image.proofs.Images.{reading_again}
@@ -14,4 +14,4 @@ returns-clause-spelled c =
 pub returns-clause-short : goal.returns-clause-short
 returns-clause-short c =
     let is : c.put_code.new.out.items ≡ spelling c.args.fields.now = search rules in
-    subst (λ bytes. length bytes ≤ LONGEST_IMAGE) (sym is) (short c.args.fields.now c.slots.ensures.allowed)
+    subst (λ bytes. length bytes ≤ longest_image) (sym is) (short c.args.fields.now c.slots.ensures.allowed)
