@@ -1,8 +1,7 @@
 -- The rules: the order in which they are asked at one place, what each is called, and how a refusal is printed.
-use Rattle.std.specs.Prelude.{ℕ, List, [], ◌++◌, Option, Some, None, codes, slice_get, option_map, unwrap_or}
+use Rattle.std.specs.Prelude.{ℕ, List, ◌++◌, Option, Some, None, codes}
 use Rattle.word.specs.Places.{place_text}
 use Rattle.word.specs.declared.place.Place.{Place}
-use Rattle.language.specs.declared.rule.TheConstants.{ROWS}
 use Rattle.language.specs.declared.rule.Rule.{Rule}
 use Rattle.language.specs.declared.rule.Rule.TheVariants.{UnknownCharacter, BadNumber, UnexpectedToken, Nesting, TextTooLong, UndeclaredName, NameDeclaredTwice, ProcedureNotDeclaredEarlier, NotExactlyOneExport, WidthsDiffer, WrongKind, LiteralOutOfRange, ArgumentCount, ArrayShapeOrLabel, NotMutable, ReturnMismatch, ArrayPassedTwice, InitialiserCount, SecretToPublic, PublicAssignedUnderSecretControl, SecretIndex, SecretBound, SecretDivisionOperand, CallAssignsPublicUnderSecretControl, SecretMultiplicationOperand, InlinedSize, DeclaredBytes, IndexOutOfRange, DivisorMayBeZero, TooMuchWork, OutOfMemory}
 
@@ -42,11 +41,71 @@ rank_of OutOfMemory = 30
 
 -- its short code
 abbrev pub code_of : Rule → List ℕ
-code_of rule = unwrap_or (option_map (λ row. row.0.now) (slice_get ROWS (rank_of rule))) []
+code_of UnknownCharacter = codes "X1"
+code_of BadNumber = codes "X2"
+code_of UnexpectedToken = codes "X3"
+code_of Nesting = codes "X4"
+code_of TextTooLong = codes "X5"
+code_of UndeclaredName = codes "N1"
+code_of NameDeclaredTwice = codes "N2"
+code_of ProcedureNotDeclaredEarlier = codes "N3"
+code_of NotExactlyOneExport = codes "N4"
+code_of WidthsDiffer = codes "T1"
+code_of WrongKind = codes "T2"
+code_of LiteralOutOfRange = codes "T3"
+code_of ArgumentCount = codes "T4"
+code_of ArrayShapeOrLabel = codes "T5"
+code_of NotMutable = codes "T6"
+code_of ReturnMismatch = codes "T7"
+code_of ArrayPassedTwice = codes "T8"
+code_of InitialiserCount = codes "T9"
+code_of SecretToPublic = codes "L1"
+code_of PublicAssignedUnderSecretControl = codes "L2"
+code_of SecretIndex = codes "L3"
+code_of SecretBound = codes "L4"
+code_of SecretDivisionOperand = codes "L5"
+code_of CallAssignsPublicUnderSecretControl = codes "L6"
+code_of SecretMultiplicationOperand = codes "L7"
+code_of InlinedSize = codes "S1"
+code_of DeclaredBytes = codes "S2"
+code_of IndexOutOfRange = codes "I1"
+code_of DivisorMayBeZero = codes "I2"
+code_of TooMuchWork = codes "S3"
+code_of OutOfMemory = codes "M1"
 
 -- what it says, in a few words
 abbrev pub name_of : Rule → List ℕ
-name_of rule = unwrap_or (option_map (λ row. row.1.now) (slice_get ROWS (rank_of rule))) []
+name_of UnknownCharacter = codes "unknown character"
+name_of BadNumber = codes "bad number"
+name_of UnexpectedToken = codes "unexpected token"
+name_of Nesting = codes "nesting"
+name_of TextTooLong = codes "text too long"
+name_of UndeclaredName = codes "undeclared name"
+name_of NameDeclaredTwice = codes "name declared twice"
+name_of ProcedureNotDeclaredEarlier = codes "procedure not declared earlier"
+name_of NotExactlyOneExport = codes "not exactly one export"
+name_of WidthsDiffer = codes "widths differ"
+name_of WrongKind = codes "wrong kind"
+name_of LiteralOutOfRange = codes "literal out of range"
+name_of ArgumentCount = codes "argument count"
+name_of ArrayShapeOrLabel = codes "array shape or label"
+name_of NotMutable = codes "not mutable"
+name_of ReturnMismatch = codes "return"
+name_of ArrayPassedTwice = codes "array passed twice"
+name_of InitialiserCount = codes "initialiser count"
+name_of SecretToPublic = codes "secret to public"
+name_of PublicAssignedUnderSecretControl = codes "public assigned under secret control"
+name_of SecretIndex = codes "secret index"
+name_of SecretBound = codes "secret bound"
+name_of SecretDivisionOperand = codes "secret division operand"
+name_of CallAssignsPublicUnderSecretControl = codes "call assigns public under secret control"
+name_of SecretMultiplicationOperand = codes "secret multiplication operand"
+name_of InlinedSize = codes "inlined size"
+name_of DeclaredBytes = codes "declared bytes"
+name_of IndexOutOfRange = codes "index out of range"
+name_of DivisorMayBeZero = codes "divisor may be 0"
+name_of TooMuchWork = codes "work"
+name_of OutOfMemory = codes "memory"
 
 -- a refusal: the code, where it has a place the place, and the name
 abbrev pub refusal_text : Rule → Option Place → List ℕ

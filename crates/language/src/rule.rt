@@ -40,41 +40,6 @@ pub enum Rule {
     OutOfMemory,
 }
 
-/// Each rule's short code, and what it says in a few words, in the order of the rules.
-const ROWS: [(&str, &str); 31] = [
-    ("X1", "unknown character"),
-    ("X2", "bad number"),
-    ("X3", "unexpected token"),
-    ("X4", "nesting"),
-    ("X5", "text too long"),
-    ("N1", "undeclared name"),
-    ("N2", "name declared twice"),
-    ("N3", "procedure not declared earlier"),
-    ("N4", "not exactly one export"),
-    ("T1", "widths differ"),
-    ("T2", "wrong kind"),
-    ("T3", "literal out of range"),
-    ("T4", "argument count"),
-    ("T5", "array shape or label"),
-    ("T6", "not mutable"),
-    ("T7", "return"),
-    ("T8", "array passed twice"),
-    ("T9", "initialiser count"),
-    ("L1", "secret to public"),
-    ("L2", "public assigned under secret control"),
-    ("L3", "secret index"),
-    ("L4", "secret bound"),
-    ("L5", "secret division operand"),
-    ("L6", "call assigns public under secret control"),
-    ("L7", "secret multiplication operand"),
-    ("S1", "inlined size"),
-    ("S2", "declared bytes"),
-    ("I1", "index out of range"),
-    ("I2", "divisor may be 0"),
-    ("S3", "work"),
-    ("M1", "memory"),
-];
-
 impl Rule {
     /// Its number in the order of declaration.
     pub fn rank(self) -> u8
@@ -87,14 +52,60 @@ impl Rule {
     pub fn code(self) -> &'static str
         ensures { result.now ≡ code_of self }
     {
-        ROWS[self as usize].0
+        self.row().0
     }
 
     /// What it says, in a few words, as `secret to public`.
     pub fn name(self) -> &'static str
         ensures { result.now ≡ name_of self }
     {
-        ROWS[self as usize].1
+        self.row().1
+    }
+
+    /// Its short code, and what it says.
+    fn row(self) -> (&'static str, &'static str)
+        ensures code { result.0.now ≡ code_of self }
+        ensures name { result.1.now ≡ name_of self }
+    {
+        match self {
+            Rule::UnknownCharacter => ("X1", "unknown character"),
+            Rule::BadNumber => ("X2", "bad number"),
+            Rule::UnexpectedToken => ("X3", "unexpected token"),
+            Rule::Nesting => ("X4", "nesting"),
+            Rule::TextTooLong => ("X5", "text too long"),
+            Rule::UndeclaredName => ("N1", "undeclared name"),
+            Rule::NameDeclaredTwice => ("N2", "name declared twice"),
+            Rule::ProcedureNotDeclaredEarlier => ("N3", "procedure not declared earlier"),
+            Rule::NotExactlyOneExport => ("N4", "not exactly one export"),
+            Rule::WidthsDiffer => ("T1", "widths differ"),
+            Rule::WrongKind => ("T2", "wrong kind"),
+            Rule::LiteralOutOfRange => ("T3", "literal out of range"),
+            Rule::ArgumentCount => ("T4", "argument count"),
+            Rule::ArrayShapeOrLabel => ("T5", "array shape or label"),
+            Rule::NotMutable => ("T6", "not mutable"),
+            Rule::ReturnMismatch => ("T7", "return"),
+            Rule::ArrayPassedTwice => ("T8", "array passed twice"),
+            Rule::InitialiserCount => ("T9", "initialiser count"),
+            Rule::SecretToPublic => ("L1", "secret to public"),
+            Rule::PublicAssignedUnderSecretControl => (
+                "L2",
+                "public assigned under secret control",
+            ),
+            Rule::SecretIndex => ("L3", "secret index"),
+            Rule::SecretBound => ("L4", "secret bound"),
+            Rule::SecretDivisionOperand => ("L5", "secret division operand"),
+            Rule::CallAssignsPublicUnderSecretControl => (
+                "L6",
+                "call assigns public under secret control",
+            ),
+            Rule::SecretMultiplicationOperand => ("L7", "secret multiplication operand"),
+            Rule::InlinedSize => ("S1", "inlined size"),
+            Rule::DeclaredBytes => ("S2", "declared bytes"),
+            Rule::IndexOutOfRange => ("I1", "index out of range"),
+            Rule::DivisorMayBeZero => ("I2", "divisor may be 0"),
+            Rule::TooMuchWork => ("S3", "work"),
+            Rule::OutOfMemory => ("M1", "memory"),
+        }
     }
 }
 

@@ -2,11 +2,10 @@
 use Rattle.std.specs.Prelude.{ℕ, List, ◌++◌, codes}
 use Rattle.std.specs.Fmt.{decimal}
 use Rattle.word.specs.declared.place.Place.{Place}
-use Rattle.word.specs.declared.place.TheConstants.Place.{ORIGIN}
 
 -- the beginning of a text
 abbrev pub origin : Place
-origin = ORIGIN
+origin = record { offset = 0; line = 1; column = 1 }
 
 -- how a place is printed
 abbrev pub place_text : Place → List ℕ
