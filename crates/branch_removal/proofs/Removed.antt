@@ -106,6 +106,8 @@ is_removed p typed sized safe fits = record {
   returned = refl;
   nodes = refl;
   work = refl;
+  turns = refl;
+  declared = refl;
   bounded = bounded p typed sized fits;
   typed = typed_straight p typed;
   outcome = λ args within. same_outcome p typed args;
@@ -119,7 +121,7 @@ is_removed p typed sized safe fits = record {
 }
 
 -- straight code of these controls and statements
-pub straight_of : (r : RangedProgram) (controls : ℕ) (body : StraightBlock) → controls ≡ controls_in_all r.flat.body → body ≡ removed_all None 0 r.flat.body
+pub as_listed : (r : RangedProgram) (controls : ℕ) (body : StraightBlock) → controls ≡ controls_in_all r.flat.body → body ≡ removed_all None 0 r.flat.body
     → record {
       profile = r.flat.profile;
       parameters = r.flat.parameters;
@@ -132,7 +134,7 @@ pub straight_of : (r : RangedProgram) (controls : ℕ) (body : StraightBlock) �
       body = body;
       value = r.flat.value;
     } ≡ straightened r
-straight_of r controls body counted same = rw (counted, same) refl
+as_listed r controls body counted same = rw (counted, same) refl
 
 -- so of a body with what is counted for it
 pub removed_as_promised : (r : RangedProgram) → IsFlat r.flat → IsRanged r → IsRemoved r (straightened r)

@@ -4,4 +4,5 @@ pub mod StraightTyping
 pub mod Bounds
 pub mod Kept
 pub mod Removed
+pub mod Exact
 pub mod private

@@ -2,6 +2,7 @@ ghost use Rattle.std.specs.Prelude.{◌≡◌, ◌+◌, ◌^◌, ◌<◌, ◌≤
 ghost use Rattle.inline.specs.Flat.{term_tree, flat_tree, flat_block};
 ghost use Rattle.language.specs.WantOfMemory.{IsWantOfMemory};
 ghost use Rattle.branch_removal.specs.private.Removal.{set_within, put_within, made, removed, removed_all, controls_in, controls_in_all};
+ghost use Rattle.branch_removal.specs.Exact.{straight_of};
 ghost use Rattle.branch_removal.specs.Removed.{IsRemoved};
 ghost use Rattle.branch_removal.specs.Straight.{straight_tree, straight_block, chain};
 
@@ -121,9 +122,10 @@ fn push_removed_all<'f>(
 }
 
 /// A body's straight code: its outcome is that of the body, it meets no fault, and what a run of it shows is
-/// decided by what is public. Want of memory alone refuses it.
+/// decided by what is public. The body alone decides which code it is. Want of memory alone refuses it.
 pub fn remove<'r>(alloc: Global, ranged: &'r Ranged<'_>) -> Result<Straight<'r>, Refusal>
     ensures removed { IfOk result (IsRemoved ranged.now) }
+    ensures exact { IfOk result (λ straight. straight ≡ straight_of ranged.now) }
     ensures memory { IfErr result (λ refusal. IsWantOfMemory refusal.rule refusal.place) }
 {
     let body = ranged.flat().body();

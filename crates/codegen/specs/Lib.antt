@@ -2,3 +2,4 @@ pub mod private
 pub mod Loaded
 pub mod Bases
 pub mod Followed
+pub mod Exact

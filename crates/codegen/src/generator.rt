@@ -1,5 +1,6 @@
 ghost use Rattle.std.specs.Prelude.{◌≡◌, ◌+◌, ◌*◌, ◌<◌, ◌≤◌, ◌^◌, map, All, IfOk, IfErr};
 ghost use Rattle.std.specs.Option.{option_map};
+ghost use Rattle.codegen.specs.Exact.{fields_of};
 ghost use Rattle.codegen.specs.Followed.{IsGenerated};
 ghost use Rattle.codegen.specs.private.Generated.{program_code, program_slots, result_slot, step_limit, image_of};
 ghost use Rattle.codegen.specs.private.Room.{HasRoom, frame_of};
@@ -108,9 +109,11 @@ fn listed(
 }
 
 /// The code of a straight program. The machine, running it, follows the program: the outcome is that of the program, and
-/// what it shows is decided by what the program's observer sees of the path. Want of memory alone refuses it.
+/// what it shows is decided by what the program's observer sees of the path. The program alone decides which code it is.
+/// Want of memory alone refuses it.
 pub fn generate(alloc: Global, straight: &Straight<'_>) -> Result<Code, Refusal>
     ensures generated { IfOk result (IsGenerated straight.now) }
+    ensures exact { IfOk result (λ code. code ≡ fields_of straight.now) }
     ensures allowed { IfOk result IsImage }
     ensures memory { IfErr result (λ refusal. IsWantOfMemory refusal.rule refusal.place) }
 {

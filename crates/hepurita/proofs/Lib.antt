@@ -13,6 +13,7 @@ pub mod RefusalLemmas
 pub mod Existence
 pub mod TheoremLemmas
 pub mod AnswerLemmas
+pub mod OneImage
 pub mod BaseLemmas
 pub mod Compiler
 pub mod LightBodies

@@ -1,10 +1,11 @@
 -- What the compiler answers to a text: the passes are asked in order, and each names its first violation.
 use Rattle.std.specs.Prelude.{◌≡◌, ◌⊎◌, ℕ, ◌+◌, ◌*◌, ◌<◌, List, [], length, Some}
 use Rattle.image_fields.specs.Fields.{Fields, IsImage}
-use Rattle.image.specs.Reading.{Spells}
+use Rattle.image.specs.Reading.{AreBytes, Spells}
 use Rattle.codegen.specs.Bases.{AreBases}
 use Rattle.hepurita.specs.Bases.{code_base, frame_base, most_images, code_distance, frame_distance}
 use Rattle.hepurita.specs.Compiled.{IsCompiled}
+use Rattle.hepurita.specs.Exact.{image_for}
 use Rattle.inline.specs.Numbering.{flattened}
 use Rattle.intervals.specs.Ranges.{range_violations}
 use Rattle.intervals.specs.Work.{work_violations}
@@ -69,7 +70,10 @@ pub record IsBuilt (profile : Profile) (text bytes : List ℕ) : Type 0 where
   pub image : Fields
   pub judged : Judges profile text (accepts program before export)
   pub observed : image.profile ≡ profile
+  -- the export decides which image it is
+  pub exact : image ≡ image_for profile before export
   pub allowed : IsImage image
+  pub are_bytes : AreBytes bytes
   pub spelled : Spells bytes image
   pub compiled : IsCompiled program before export image
   -- code and frame may lie at the standard bases, and those of several images side by side

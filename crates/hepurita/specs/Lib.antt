@@ -3,6 +3,7 @@ pub mod Frames
 pub mod Compiled
 pub mod Executed
 pub mod Paired
+pub mod Exact
 pub mod Built
 pub mod Answers
 pub mod Text

@@ -10,6 +10,7 @@ ghost use Rattle.intervals.specs.Work.{ranged};
 ghost use Rattle.language.specs.Tree.{ProcedureTree, ProgramTree, program_tree};
 ghost use Rattle.word.specs.declared.place.Place.{Place};
 ghost use Rattle.language.specs.declared.rule.Rule.{Rule};
+ghost use Rattle.hepurita.specs.Exact.{image_for};
 ghost use Rattle.hepurita.specs.Built.{Judgement, Judges, JudgesProgram, IsRefusal, IsBuilt, accepts, refuses};
 
 use crate::judging::flat_of;
@@ -23,7 +24,7 @@ use syntax::{one_answer_for_a_text, parse};
 
 /// The code of a program that violates no rule, or the first refusal.
 fn compile(alloc: Global, program: &Program<'_>, profile: Profile) -> Result<Code, Refusal>
-    ensures accepted { IfOk result (λ image. (before : List ProcedureTree) × (export : ProcedureTree) × JudgesProgram profile (program_tree program.now) (accepts (program_tree program.now) before export) × ((straight : StraightProgram) × IsRemoved (ranged (flattened profile before export)) straight × IsGenerated straight image)) }
+    ensures accepted { IfOk result (λ image. (before : List ProcedureTree) × (export : ProcedureTree) × JudgesProgram profile (program_tree program.now) (accepts (program_tree program.now) before export) × ((straight : StraightProgram) × IsRemoved (ranged (flattened profile before export)) straight × IsGenerated straight image) × (image ≡ image_for profile before export)) }
     ensures allowed { IfOk result IsImage }
     ensures refused { IfErr result (IsRefusal (JudgesProgram profile (program_tree program.now))) }
 {

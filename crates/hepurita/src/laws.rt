@@ -17,7 +17,7 @@ ghost use Rattle.arguments.specs.PublicResults.{AgreeInPublic};
 ghost use Rattle.language.specs.Size.{extents_of, nodes_of};
 ghost use Rattle.language.specs.declared.limits.TheConstants.{MOST_NODES};
 ghost use Rattle.hepurita.specs.Bases.{code_base, frame_base, most_images, code_distance, frame_distance};
-ghost use Rattle.hepurita.specs.Built.{Judges, JudgesProgram, accepts};
+ghost use Rattle.hepurita.specs.Built.{IsBuilt, Judges, JudgesProgram, accepts};
 ghost use Rattle.hepurita.specs.Compiled.{IsCompiled, Means};
 ghost use Rattle.source_eval.specs.Answer.{answer};
 ghost use Rattle.codegen.specs.Loaded.{params_of};
@@ -49,6 +49,13 @@ pub fn bases_fit()
     ensures { (program : ProgramTree) (before : List ProcedureTree) (p : ProcedureTree) (image : Fields) (k : ℕ) → IsCompiled program before p image → nodes_of (extents_of before) p ≤ MOST_NODES → k < most_images
         → AreBases image (code_base + code_distance * k) (frame_base + frame_distance * k) }
 {}
+
+/// A text has one image for an observer: what `build_as` answers twice is one list of bytes, so an image can be checked by its hash.
+pub fn builds_agree()
+    ensures { (profile : Profile) (text one other : List ℕ) → IsBuilt profile text one → IsBuilt profile text other → one ≡ other }
+{
+    one_answer_for_a_text();
+}
 
 /// The calls, one after another. The image of a text that is accepted for an observer, read from the bytes that
 /// `build_as` answers and executed on arguments within the parameter types, gives the one outcome that the text

@@ -98,7 +98,7 @@ module _ (f : Fields) where
       let words = flat_map (λ word. little_bytes 4 word) f.words in
       both_bytes (little_bytes 8 f.max_steps) (little_bytes 4 (length f.words) ++ words) (number_bytes 0 8 f.max_steps) (both_bytes (little_bytes 4 (length f.words)) words (number_bytes 0 4 (length f.words)) (words_small f.words))
 
-  spelling_small : AreBytes (spelling f)
+  pub spelling_small : AreBytes (spelling f)
   spelling_small = both_bytes (preamble f.profile) (spelled_layout f ++ spelled_code f) (preamble_small f.profile) (both_bytes (spelled_layout f) (spelled_code f) layout_small code_small)
 
 -- ---- the laws

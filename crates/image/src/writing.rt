@@ -3,7 +3,7 @@ ghost use Rattle.std.specs.List.{flat_map};
 ghost use Rattle.byteorder.specs.Endian.{little_bytes};
 ghost use Rattle.language.specs.WantOfMemory.{IsWantOfMemory};
 ghost use Rattle.image.specs.Limits.{longest_image};
-ghost use Rattle.image.specs.Reading.{Spells};
+ghost use Rattle.image.specs.Reading.{AreBytes, Spells};
 ghost use Rattle.image.specs.private.Spelling.{profile_number, preamble, kind_code, label_code, form_code, spelled_slot, spelled_result, spelled_layout, spelled_code};
 
 use crate::limits::{FIXED_BYTES, PARAMETER_BYTES, WORD_BYTES};
@@ -154,6 +154,7 @@ fn put_code(out: &mut Vec<u8>, fields: &ImageFields) -> Result<(), AllocError>
 
 fn spelled(alloc: Global, fields: &ImageFields) -> Result<Vec<u8>, AllocError>
     ensures spelled { IfOk result (λ bytes. Spells bytes.items fields.now) }
+    ensures bytes { IfOk result (λ bytes. AreBytes bytes.items) }
     ensures short { IfOk result (λ bytes. length bytes.items ≤ longest_image) }
 {
     let room = FIXED_BYTES
@@ -169,6 +170,7 @@ fn spelled(alloc: Global, fields: &ImageFields) -> Result<Vec<u8>, AllocError>
 /// The one spelling of generated code.
 pub fn write(alloc: Global, code: &Code) -> Result<Vec<u8>, Refusal>
     ensures spelled { IfOk result (λ bytes. Spells bytes.items code.now) }
+    ensures bytes { IfOk result (λ bytes. AreBytes bytes.items) }
     ensures short { IfOk result (λ bytes. length bytes.items ≤ longest_image) }
     ensures memory { IfErr result (λ refusal. IsWantOfMemory refusal.rule refusal.place) }
 {

@@ -1,5 +1,6 @@
 use Rattle.std.proofs.Common.{◌≡◌, ℕ, List, ap, ap₂, sym, subst, ◌∙◌, arith}
 use Rattle.codegen.specs.private.Emitted.{depth_in_all}
+use Rattle.codegen.specs.Exact.{fields_of}
 use Rattle.codegen.specs.Followed.{IsGenerated}
 use Rattle.codegen.specs.private.Room.{frame_of}
 use Rattle.codegen.proofs.GeneratedLemmas.{is_generated}
@@ -59,3 +60,7 @@ returns-clause-generated c =
     let p = c.args.straight.now in
     let room = has_room p c.body.ensures.kept.typed c.body.ensures.kept.bounded in
     subst (λ (fields : Fields). IsGenerated p fields) (sym (c.new.ensures ∙ c.in_ok-fields.ensures.exact)) (is_generated p room)
+
+pub returns-clause-exact : goal.returns-clause-exact
+unfolding fields_of
+returns-clause-exact c = c.new.ensures ∙ c.in_ok-fields.ensures.exact

@@ -3,6 +3,7 @@ use Rattle.language.specs.Tree.{program_tree}
 use Rattle.hepurita.specs.Built.{readable}
 use Rattle.hepurita.proofs.BuiltLemmas.{refusal_of_text, refusal_of_program}
 use Rattle.hepurita.proofs.BaseLemmas.{bases_of}
+use Rattle.hepurita.proofs.OneImage.{ok_both}
 use Rattle.hepurita.proofs.TheoremLemmas.{judged_compiled}
 use Rattle.hepurita.proofs.Compiler.{observed_as}
 use Rattle.hepurita.proofs.building.build_as.Goals as goal
@@ -23,4 +24,5 @@ returns-clause-accepted c =
     let made = c.in_ok-code.ensures.accepted in
     let judged = readable c.in_ok-program.ensures.accepted made.2 in
     let compiled = judged_compiled c.args.profile c.args.text.now program made.0 made.1 made.3.0 c.in_ok-code.code judged made.3.1 made.3.2 in
-    IfOk-weaker c.write.result _ _ (λ bytes h. record { program = program; before = made.0; export = made.1; image = c.in_ok-code.code; judged = judged; observed = observed_as c.args.profile made.0 made.1 made.3.0 c.in_ok-code.code made.3.1 made.3.2; allowed = c.in_ok-code.ensures.allowed; spelled = h; compiled = compiled; bases = bases_of c.args.profile program made.0 made.1 c.in_ok-code.code made.2 compiled }) c.write.ensures.spelled
+    IfOk-weaker c.write.result _ _ (λ bytes h. record { program = program; before = made.0; export = made.1; image = c.in_ok-code.code; judged = judged; observed = observed_as c.args.profile made.0 made.1 made.3.0 c.in_ok-code.code made.3.1 made.3.2; exact = made.4; allowed = c.in_ok-code.ensures.allowed; are_bytes = h.1; spelled = h.0; compiled = compiled; bases = bases_of c.args.profile program made.0 made.1 c.in_ok-code.code made.2 compiled })
+    (ok_both c.write.result _ _ c.write.ensures.spelled c.write.ensures.bytes)

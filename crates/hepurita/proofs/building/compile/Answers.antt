@@ -1,13 +1,17 @@
 use Rattle.std.proofs.Common.{◌≡◌, inl, length, subst, ap, ◌∙◌}
 use Rattle.std.proofs.lemmas.Result.{err_from_is_err_and, IfOk-weaker, IfErr-weaker}
+use Rattle.branch_removal.specs.Exact.{straight_of}
 use Rattle.branch_removal.specs.Removed.{IsRemoved}
+use Rattle.codegen.specs.Exact.{fields_of}
 use Rattle.inline.specs.Flat.{FlatProgram}
 use Rattle.intervals.specs.Ranged.{RangedProgram}
 use Rattle.intervals.specs.Ranges.{range_violations}
 use Rattle.intervals.specs.Work.{ranged, work_violations}
 use Rattle.language.specs.Tree.{program_tree}
 use Rattle.hepurita.specs.Built.{fine}
+use Rattle.hepurita.specs.Exact.{image_for}
 use Rattle.hepurita.proofs.BuiltLemmas.{refusal_of_ranges}
+use Rattle.hepurita.proofs.OneImage.{ok_both}
 use Rattle.hepurita.proofs.building.compile.Goals as goal
 
 pub returns-in_err-ranged-clause-refused : goal.returns-in_err-ranged-clause-refused
@@ -25,10 +29,13 @@ pub returns-clause-refused : goal.returns-clause-refused
 returns-clause-refused c = IfErr-weaker c.generate.result _ _ (λ refusal none. inl none) c.generate.ensures.memory
 
 pub returns-clause-accepted : goal.returns-clause-accepted
+unfolding image_for
 returns-clause-accepted c =
     let made = c.in_ok-flat.ensures.accepted in
     let is = c.in_ok-ranged.ensures.accepted ∙ ap ranged made.3 in
     let in_range = subst (λ (f : FlatProgram). length (range_violations f) ≡ 0) made.3 c.in_ok-ranged.ensures.in_range in
     let in_time = subst (λ (f : FlatProgram). length (work_violations f) ≡ 0) made.3 c.in_ok-ranged.ensures.worked in
     let removed = subst (λ (r : RangedProgram). IsRemoved r c.in_ok-straight.straight) is c.in_ok-straight.ensures.removed in
-    IfOk-weaker c.generate.result _ _ (λ code generated. (made.0, made.1, fine made.2 in_range in_time, (c.in_ok-straight.straight, removed, generated))) c.generate.ensures.generated
+    let straight = c.in_ok-straight.ensures.exact ∙ ap straight_of is in
+    IfOk-weaker c.generate.result _ _ (λ code both. (made.0, made.1, fine made.2 in_range in_time, (c.in_ok-straight.straight, removed, both.0), both.1 ∙ ap fields_of straight))
+    (ok_both c.generate.result _ _ c.generate.ensures.generated c.generate.ensures.exact)
