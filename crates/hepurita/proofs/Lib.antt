@@ -19,3 +19,4 @@ pub mod LightBodies
 pub mod RangePlaces
 pub mod EvalLemmas
 pub mod CallLemmas
+pub mod CutOffLemmas

@@ -6,3 +6,4 @@ pub mod Paired
 pub mod Built
 pub mod Answers
 pub mod Text
+pub mod CutOff
