@@ -1,11 +1,11 @@
 -- The ends of a run of accepted texts' images under a schedule, and what its recorder takes.
-use Rattle.std.specs.Prelude.{slice_get}
-use Rattle.std.proofs.Common.{◌≡◌, ℕ, zero, suc, ◌+◌, ◌≤◌, Bool, List, [], ◌∷◌, Some, Ok, sym, ap, ◌∙◌, arith}
+use Rattle.std.specs.Prelude.{◌⊎◌, slice_get}
+use Rattle.std.proofs.Common.{◌≡◌, ℕ, zero, suc, ◌+◌, ◌≤◌, Bool, List, [], ◌∷◌, Some, None, Ok, sym, ap, ◌∙◌, inl, inr, ⊎_elim, arith}
 use Rattle.std.proofs.lemmas.Option.{none-some, same_Some}
 use Rattle.std.specs.List.{AllByRecursion}
 use Rattle.codegen.specs.Loaded.{results_in}
 use Rattle.harts.proofs.EveryScheduleLemmas.{each_is_alone, one_list}
-use Rattle.harts.specs.Ends.{end_of, ends_from, ends_of}
+use Rattle.harts.specs.Ends.{end_of, ends_from, ends_of, still_going, ended_with}
 use Rattle.harts.specs.EverySchedule.{IsFromText, AllAgree}
 use Rattle.harts.specs.RunHarts.{RunsHarts, ran}
 use Rattle.harts.specs.SideBySide.{Job, frame_base_of}
@@ -46,6 +46,23 @@ ends_as_meant jobs schedule keeps list list' ends k job from all (ran {end = end
           ∙ ap (λ i. Some (end_of i job it.member.stop end.bytes)) place
           ∙ ap (λ stop. Some (end_of k job stop end.bytes)) finished.0,
     )
+
+-- however few its turns, it is still going, or has ended so
+pub ends_so_far : (jobs : List Job) (schedule : List ℕ) (keeps : Bool) (list list' : List HartObservation) (ends : List HartEnd) (k : ℕ) (job : Job) (from : IsFromText job) → AllByRecursion IsFromText jobs → RunsHarts jobs schedule keeps list (Ok ends) list' → slice_get jobs k ≡ Some job
+    → (slice_get ends k ≡ Some still_going) ⊎ ((results : Results) × Means from.built.program job.args results × (slice_get ends k ≡ Some (ended_with results)))
+ends_so_far jobs schedule keeps list list' ends k job from all (ran {end = end} allowed followed answered) at =
+    let it = each_is_alone jobs schedule followed.0 end k job from allowed.few.1 all followed.1 at in
+    let are : ends ≡ ends_of jobs end = cc in
+    let place : 0 + k ≡ k = omega arith in
+    let results = results_in (frame_base_of k) job.image end.bytes in
+    let there : slice_get ends k ≡ Some (end_of k job it.member.stop end.bytes) =
+    ap (λ (those : List HartEnd). slice_get those k) are
+    ∙ end_at 0 jobs end.members end.bytes k job it.member at it.there
+    ∙ ap (λ i. Some (end_of i job it.member.stop end.bytes)) place in
+    ⊎_elim
+    (λ (none : it.member.stop ≡ None). inl (there ∙ ap (λ stop. Some (end_of k job stop end.bytes)) none))
+    (λ (ended : (it.member.stop ≡ Some Ecall) × Means from.built.program job.args results). inr (results, ended.1, there ∙ ap (λ stop. Some (end_of k job stop end.bytes)) ended.0))
+    it.so_far
 
 -- two runs whose arguments agree record one list
 pub one_record : (one other : List Job) (schedule : List ℕ) (keeps : Bool) (list after after' : List HartObservation) (ends ends' : List HartEnd) → AllByRecursion IsFromText one → AllAgree one other → RunsHarts one schedule keeps list (Ok ends) after → RunsHarts other schedule keeps list (Ok ends') after' → after ≡ after'

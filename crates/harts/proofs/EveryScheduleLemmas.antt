@@ -1,6 +1,6 @@
 -- Every schedule: each hart is what it is alone, and argument lists that agree show one list.
-use Rattle.std.specs.Prelude.{slice_get, take}
-use Rattle.std.proofs.Common.{◌≡◌, ℕ, zero, suc, ◌+◌, ◌<◌, ◌≤◌, List, [], ◌∷◌, ◌++◌, length, Some, All, refl, sym, ap, subst, ◌∙◌, arith}
+use Rattle.std.specs.Prelude.{◌⊎◌, slice_get, take}
+use Rattle.std.proofs.Common.{◌≡◌, ℕ, zero, suc, ◌+◌, ◌<◌, ◌≤◌, List, [], ◌∷◌, ◌++◌, length, Option, Some, None, All, refl, sym, ap, subst, ◌∙◌, inl, inr, arith}
 use Rattle.std.proofs.lemmas.List.Elements.{All-take}
 use Rattle.std.proofs.lemmas.Option.{none-some, same_Some, slice_get_within}
 use Rattle.std.specs.List.{AllByRecursion}
@@ -8,6 +8,7 @@ use Rattle.codegen.specs.Bases.{AreBases, IsInside}
 use Rattle.codegen.specs.Loaded.{code_at, loaded_at, results_in, params_of}
 use Rattle.arguments.specs.Within.{AreWithin}
 use Rattle.harts.proofs.FrameLemmas.{frame_there, outcome_same}
+use Rattle.harts.proofs.Resting.{rests_on}
 use Rattle.harts.proofs.SystemLemmas.{IsFit, fit_of, all_fit, fit_at, run_of, member_at, job_at, own_of, own_is, jobs_apart}
 use Rattle.harts.specs.EverySchedule.{IsFromText, IsAlone, JobsAgree, AllAgree}
 use Rattle.harts.specs.SideBySide.{code_base_of, frame_base_of, Job, loaded_alone, member_of, members_from, system_of}
@@ -24,6 +25,7 @@ use Rattle.rv_machine.specs.Leakage.{Halts}
 use Rattle.rv_machine.specs.System.{Member, System, Follows, Makes, none, one_more, turns_of}
 use Rattle.rv_machine.specs.declared.hart_recording.HartObservation.{HartObservation}
 use Rattle.rv_machine.specs.declared.observation.Observation.{Observation}
+use Rattle.rv_machine.specs.declared.stops.Stop.{Stop}
 use Rattle.rv_machine.specs.declared.stops.Stop.TheVariants.{Ecall}
 
 -- What a hart is alone after so many turns is one thing.
@@ -50,14 +52,29 @@ module _ (k : ℕ) (below : k < most_images) (job : Job) (fit : IsFit job) (sche
       let is = shown_alone (member_of k job) it.member (loaded_alone k job).bytes it.bytes run.turns (turns_of k schedule) run.seen it.seen Ecall run.end refl run.halts it.makes in
       subst (All Inside) (sym is) (All-take Inside (turns_of k schedule) run.seen run.within_frame)
 
+  -- what its slots hold where its frame is as the run that halts leaves it
+  means_there : it.bytes ≡ (run_of k job fit below).end.bytes → Means fit.program job.args (results_in (frame_base_of k) job.image end.bytes)
+  means_there left =
+      let run = run_of k job fit below in
+      let same : results_in (frame_base_of k) job.image end.bytes ≡ results_in (frame_base_of k) job.image run.end.bytes =
+      outcome_same (frame_base_of k) job.image fit.allowed run.end.bytes end.bytes (λ x low high. same_frame x low high ∙ ap (λ (b : ByteMap). b x) left) in
+      subst (λ (results : Results). Means fit.program job.args results) (sym same) run.outcome
+
   has_finished : job.image.max_steps ≤ turns_of k schedule → (it.member.stop ≡ Some Ecall) × Means fit.program job.args (results_in (frame_base_of k) job.image end.bytes)
   has_finished enough =
       let run = run_of k job fit below in
       let steps = run.within_steps in
       let stop = stopped_alone (member_of k job) it.member (loaded_alone k job).bytes it.bytes run.turns (turns_of k schedule) run.seen it.seen Ecall run.end refl run.halts it.makes (omega (arith, enough, steps)) in
-      let same : results_in (frame_base_of k) job.image end.bytes ≡ results_in (frame_base_of k) job.image run.end.bytes =
-      outcome_same (frame_base_of k) job.image fit.allowed run.end.bytes end.bytes (λ x low high. same_frame x low high ∙ ap (λ (b : ByteMap). b x) stop.1) in
-      (stop.0, subst (λ (results : Results). Means fit.program job.args results) (sym same) run.outcome)
+      (stop.0, means_there stop.1)
+
+  -- it has not stopped, or is what it is after more turns
+  has_ended : (stop : Option Stop) → it.member.stop ≡ stop → (it.member.stop ≡ None) ⊎ ((it.member.stop ≡ Some Ecall) × Means fit.program job.args (results_in (frame_base_of k) job.image end.bytes))
+  has_ended None is = inl is
+  has_ended (Some stop) is =
+      let run = run_of k job fit below in
+      let longer = rests_on run.turns is it.makes in
+      let ended = stopped_alone (member_of k job) it.member (loaded_alone k job).bytes it.bytes run.turns (turns_of k schedule + run.turns) run.seen it.seen Ecall run.end refl run.halts longer (omega arith) in
+      inr (ended.0, means_there ended.1)
 
   is_alone : IsAlone fit.program k job schedule list end
   is_alone = record {
@@ -69,6 +86,7 @@ module _ (k : ℕ) (below : k < most_images) (job : Job) (fit : IsFit job) (sche
     frame = same_frame;
     shown = it.shown;
     within_frame = stays_within;
+    so_far = has_ended it.member.stop refl;
     finished = has_finished;
   }
 

@@ -5,3 +5,4 @@ pub mod Numbering
 pub mod RefusalLemmas
 pub mod SharedFrames
 mod SystemLemmas
+mod Resting

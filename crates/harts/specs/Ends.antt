@@ -38,3 +38,11 @@ ends_from k (job ∷ jobs) (m ∷ members) bytes = end_of k job m.stop bytes ∷
 -- the ends of all of them
 abbrev pub ends_of : List Job → System → List HartEnd
 ends_of jobs s = ends_from 0 jobs s.members s.bytes
+
+-- a hart that has not stopped
+abbrev pub still_going : HartEnd
+still_going = record { stop = None; outcome = None }
+
+-- one that has stopped by calling the environment, with this outcome
+abbrev pub ended_with : Results → HartEnd
+ended_with results = record { stop = Some Ecall; outcome = Some results }

@@ -1,7 +1,8 @@
 // What is promised of the images of accepted texts side by side.
 
-ghost use Rattle.std.specs.Prelude.{◌≡◌, ℕ, ◌≤◌, Bool, List, length, Some, Ok, slice_get};
+ghost use Rattle.std.specs.Prelude.{◌≡◌, ◌⊎◌, ℕ, ◌≤◌, Bool, List, length, Some, Ok, slice_get};
 ghost use Rattle.std.specs.List.{AllByRecursion};
+ghost use Rattle.harts.specs.Ends.{still_going, ended_with};
 ghost use Rattle.harts.specs.EverySchedule.{AllAgree, IsAlone, IsFromText};
 ghost use Rattle.harts.specs.RunHarts.{RunsHarts};
 ghost use Rattle.harts.specs.SideBySide.{Job, system_of};
@@ -17,7 +18,8 @@ ghost use Rattle.rv_machine.specs.declared.observation.Observation.{Observation}
 use rv_machine::Stop;
 
 /// Every schedule: images of accepted texts side by side on one memory, on arguments within their parameter types, their turns
-/// interleaved as a schedule says. Each hart is what it is alone after as many turns, and alone there is one such state. Where
+/// interleaved as a schedule says. Each hart is what it is alone after as many turns, and alone there is one such state; it has
+/// not stopped, or has with the outcome that its text means. Where
 /// each hart's arguments are equal where they are public, an observer sees one and the same list; so one who chooses the
 /// schedule by what was seen learns no more.
 pub fn every_schedule()
@@ -32,13 +34,17 @@ pub fn every_schedule()
 {}
 
 /// What `run_harts` answers and records of images of accepted texts, on arguments within their parameter types: a hart that the
-/// schedule gave as many turns as its image states has stopped with the outcome that its text means. Where each hart's arguments are equal
+/// schedule gave as many turns as its image states has stopped with the outcome that its text means, and one that it gave fewer
+/// has not stopped, or has in this way. Where each hart's arguments are equal
 /// where they are public, one and the same list is recorded.
 pub fn harts_do_what_texts_mean()
     ensures ended { (jobs : List Job) (schedule : List ℕ) (keeps : Bool) (list list' : List HartObservation) (ends : List HartEnd) (k : ℕ) (job : Job) (from : IsFromText job)
         → AllByRecursion IsFromText jobs → RunsHarts jobs schedule keeps list (Ok ends) list'
         → slice_get jobs k ≡ Some job → job.image.max_steps ≤ turns_of k schedule
         → (results : Results) × Means from.built.program job.args results × (slice_get ends k ≡ Some (record { stop = Some Stop.Ecall; outcome = Some results })) }
+    ensures so_far { (jobs : List Job) (schedule : List ℕ) (keeps : Bool) (list list' : List HartObservation) (ends : List HartEnd) (k : ℕ) (job : Job) (from : IsFromText job)
+        → AllByRecursion IsFromText jobs → RunsHarts jobs schedule keeps list (Ok ends) list' → slice_get jobs k ≡ Some job
+        → (slice_get ends k ≡ Some still_going) ⊎ ((results : Results) × Means from.built.program job.args results × (slice_get ends k ≡ Some (ended_with results))) }
     ensures recorded { (one other : List Job) (schedule : List ℕ) (keeps : Bool) (list after after' : List HartObservation) (ends ends' : List HartEnd)
         → AllByRecursion IsFromText one → AllAgree one other
         → RunsHarts one schedule keeps list (Ok ends) after → RunsHarts other schedule keeps list (Ok ends') after' → after ≡ after' }

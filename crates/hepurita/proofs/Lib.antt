@@ -20,3 +20,4 @@ pub mod LightBodies
 pub mod RangePlaces
 pub mod EvalLemmas
 pub mod CallLemmas
+pub mod CutOffLemmas

@@ -7,3 +7,4 @@ pub mod Exact
 pub mod Built
 pub mod Answers
 pub mod Text
+pub mod CutOff

@@ -11,7 +11,9 @@ ghost use Rattle.inline.specs.Numbering.{flattened, param_of};
 ghost use Rattle.intervals.specs.Work.{ranged};
 ghost use Rattle.intervals.specs.declared.limits.TheConstants.{MOST_WORK};
 ghost use Rattle.rv_machine.specs.declared.pairing.Pairing.{Pairing};
+ghost use Rattle.rv_machine.specs.Machine.{State};
 ghost use Rattle.rv_machine.specs.declared.observation.Observation.{Observation};
+ghost use Rattle.rv_machine.specs.declared.stops.Stop.{Stop};
 ghost use Rattle.arguments.specs.Agreement.{Agree};
 ghost use Rattle.arguments.specs.PublicResults.{AgreeInPublic};
 ghost use Rattle.language.specs.Size.{extents_of, nodes_of};
@@ -19,6 +21,7 @@ ghost use Rattle.language.specs.declared.limits.TheConstants.{MOST_NODES};
 ghost use Rattle.hepurita.specs.Bases.{code_base, frame_base, most_images, code_distance, frame_distance};
 ghost use Rattle.hepurita.specs.Built.{IsBuilt, Judges, JudgesProgram, accepts};
 ghost use Rattle.hepurita.specs.Compiled.{IsCompiled, Means};
+ghost use Rattle.hepurita.specs.CutOff.{RunsFor, IsRightSoFar};
 ghost use Rattle.source_eval.specs.Answer.{answer};
 ghost use Rattle.codegen.specs.Loaded.{params_of};
 ghost use Rattle.syntax.specs.Reading.{Reads, accepted};
@@ -78,6 +81,21 @@ pub fn images_do_what_texts_mean()
 {
     one_answer_for_a_text();
     faultless_arguments();
+}
+
+/// Runs that are cut off. However few turns the image of an accepted text is given, on arguments within the parameter types and
+/// with no recorder that refuses, it has stopped by `Ecall` with the one outcome that the text means, or it has not stopped and
+/// had fewer turns than the image states. On two lists of arguments that are equal where they are public, as many turns show one
+/// and the same list.
+pub fn cut_off_runs_are_right()
+    ensures outcome { (profile : Profile) (text bytes : List ℕ) (program : ProgramTree) (before : List ProcedureTree) (export : ProcedureTree) (image : Fields) (args : List Arg) (given : ℕ) (seen : List Observation) (stop : Stop) (end : State)
+        → Builds profile text bytes program before export image → AreWithin (params_of image) args
+        → RunsFor given image args seen stop end → IsRightSoFar program image args given stop end }
+    ensures shown { (profile : Profile) (text bytes : List ℕ) (program : ProgramTree) (before : List ProcedureTree) (export : ProcedureTree) (image : Fields) (one other : List Arg) (given : ℕ) (seen seen' : List Observation) (stop stop' : Stop) (end end' : State)
+        → Builds profile text bytes program before export image → Agree (params_of image) one other
+        → RunsFor given image one seen stop end → RunsFor given image other seen' stop' end' → seen ≡ seen' }
+{
+    one_answer_for_a_text();
 }
 
 /// What `eval` answers for an accepted text, with a budget that the most work fits, as the command gives it: the one outcome

@@ -20,8 +20,9 @@ pub use executing::execute;
 pub use fault::RunFault;
 pub use judging::{Accepted, judge, judge_as};
 pub use laws::{
-    accepted_texts_are_evaluated, bases_fit, builds_agree, comparisons_agree, executions_agree,
-    images_do_what_texts_mean, readings_agree, texts_are_compiled,
+    accepted_texts_are_evaluated, bases_fit, builds_agree, comparisons_agree,
+    cut_off_runs_are_right, executions_agree, images_do_what_texts_mean, readings_agree,
+    texts_are_compiled,
 };
 pub use loading::{CODE_BASE, FRAME_BASE, code, load, params, put_arguments};
 pub use reading::read_args;
