@@ -4,10 +4,12 @@
 
 mod building;
 mod fault;
+mod laws;
 mod reading;
 
 pub use building::{build_source, build_source_as, build_stream, build_stream_as};
 pub use fault::BuildFault;
+pub use laws::streams_agree;
 pub use reading::read_text;
 
 #[cfg(test)]
