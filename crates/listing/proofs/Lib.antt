@@ -3,3 +3,4 @@ pub mod LeakLaws
 pub mod LeakedLemmas
 pub mod Pieces
 pub mod Written
+pub mod PublicListings

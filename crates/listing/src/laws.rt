@@ -1,12 +1,19 @@
 // What the answers of calls of `leak` are to each other.
 
 ghost use Rattle.std.specs.Prelude.{ℕ, ◌≡◌, ◌≢◌, List, ◌++◌, Result, Err};
+ghost use Rattle.arguments.specs.Agreement.{Agree};
+ghost use Rattle.codegen.specs.Loaded.{params_of};
+ghost use Rattle.hepurita.specs.Answers.{Builds};
 ghost use Rattle.image_fields.specs.Fields.{Fields};
+ghost use Rattle.language.specs.Tree.{ProcedureTree, ProgramTree};
 ghost use Rattle.language.specs.declared.values.Arg.{Arg};
 ghost use Rattle.rv_machine.specs.declared.stops.Stop.{Stop};
 ghost use Rattle.streams.specs.Streams.{Writes, WritesPart};
 ghost use Rattle.listing.specs.declared.fault.LeakFault.{LeakFault};
 ghost use Rattle.listing.specs.Leaked.{Leaks, IsLeak};
+ghost use Rattle.word.specs.declared.profile.Profile.{Profile};
+
+use hepurita::cut_off_runs_are_right;
 
 /// An image on arguments has one stop and one listing. Two calls of `leak` answer the same, where neither wants memory and no
 /// call of a sink fails; and where one failed, what went out is a beginning of what went out where none did.
@@ -22,3 +29,14 @@ pub fn leaks_agree()
         → WritesPart (λ bytes. (stop : Stop) × IsLeak image args stop bytes) before part
         → (rest : List ℕ) × (whole ≡ part ++ rest) }
 {}
+
+/// What goes out shows only what is public. Of the image of an accepted text, on two lists of arguments that are equal where they
+/// are public, the listings are one list of bytes, and the stop is `Ecall`.
+pub fn listings_show_what_is_public()
+    ensures { (profile : Profile) (text bytes : List ℕ) (program : ProgramTree) (before : List ProcedureTree) (export : ProcedureTree) (image : Fields) (one other : List Arg) (stop stop' : Stop) (listed listed' : List ℕ)
+        → Builds profile text bytes program before export image → Agree (params_of image) one other
+        → IsLeak image one stop listed → IsLeak image other stop' listed'
+        → (listed ≡ listed') × (stop ≡ Stop.Ecall) × (stop' ≡ Stop.Ecall) }
+{
+    cut_off_runs_are_right();
+}

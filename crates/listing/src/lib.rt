@@ -12,7 +12,7 @@ mod turns;
 mod words;
 
 pub use fault::LeakFault;
-pub use laws::leaks_agree;
+pub use laws::{leaks_agree, listings_show_what_is_public};
 pub use leaking::leak;
 pub use lines::{Lines, lines_of, stop_line};
 pub use words::list;
