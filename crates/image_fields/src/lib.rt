@@ -8,7 +8,5 @@ mod limits;
 mod slot;
 
 pub use fields::ImageFields;
-pub use limits::{
-    MOST_FRAME_BYTES, MOST_PARAMETERS, MOST_STEPS, MOST_WORDS, limits_are_as_stated,
-};
+pub use limits::{MOST_FRAME_BYTES, MOST_PARAMETERS, MOST_STEPS, MOST_WORDS, limits_are_as_stated};
 pub use slot::{ResultSlot, Slot};
