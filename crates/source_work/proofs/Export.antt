@@ -1,11 +1,10 @@
 -- The law: the work of the export's source is that of its one body with numbered variables.
-use Rattle.std.proofs.Common.{◌≡◌, ℕ, ◌+◌, ◌-◌, List, [], ◌++◌, length, map, replicate, Option, None, Some, refl, sym, ap, ap₂, ◌∙◌, arith, length-append}
+use Rattle.std.proofs.Common.{◌≡◌, ◌-◌, List, [], ◌++◌, length, map, replicate, None, Some, refl, sym, ap, ap₂, arith, length-append}
 use Rattle.std.proofs.lemmas.List.{length-map, length-replicate}
 use Rattle.std.specs.List.{AllByRecursion}
-use Rattle.inline.specs.declared.flat.FlatVariable.{FlatVariable}
-use Rattle.inline.specs.Flat.{FlatBlock, FlatProgram, declaration_of}
+use Rattle.inline.specs.Flat.{declaration_of}
 use Rattle.inline.specs.FlatTyping.{parameter_types}
-use Rattle.inline.specs.Numbering.{Callables, block, callables, declared_in_all, flattened, param_of, parameter_names, return_names}
+use Rattle.inline.specs.Numbering.{Callables, block, callables, declared_in_all, flattened, param_of, return_names}
 use Rattle.inline.proofs.CallSizes.{same_result}
 use Rattle.inline.proofs.FlatPrograms.{flat_is_typed}
 use Rattle.inline.proofs.Procedures.{own_typing}
@@ -18,7 +17,7 @@ use Rattle.language.specs.Meaning.{exported}
 use Rattle.language.specs.Tree.{ProcedureTree, ProgramTree}
 use Rattle.language.specs.Typing.{violations}
 use Rattle.word.specs.declared.profile.Profile.{Profile}
-use Rattle.source_work.specs.SourceWork.{export_start, export_variables, source_work, works_of}
+use Rattle.source_work.specs.SourceWork.{export_start, export_variables, source_work}
 use Rattle.source_work.proofs.Sums.{Summed, numbered_alike, summed_one}
 use Rattle.source_work.proofs.Walked.{body_walked, walked_all}
 

@@ -1,5 +1,5 @@
 -- The work of a procedure's source is that of its body with numbered variables, wherever it is called.
-use Rattle.std.proofs.Common.{◌≡◌, ℕ, ◌+◌, ◌*◌, Bool, true, false, if◌then◌else◌, List, [], ◌∷◌, length, map, Option, None, Some, refl, sym, ap, ◌∙◌, subst, arith}
+use Rattle.std.proofs.Common.{◌≡◌, ℕ, ◌+◌, ◌*◌, Bool, true, false, if◌then◌else◌, List, [], ◌∷◌, length, Option, None, Some, refl, sym, ap, ◌∙◌, subst, arith}
 use Rattle.std.proofs.Math.Path.{fun_ext}
 use Rattle.std.specs.Option.{option_map}
 use Rattle.std.specs.Str.{bytes_eq}
@@ -7,7 +7,7 @@ use Rattle.inline.specs.declared.flat.FlatVariable.{FlatVariable}
 use Rattle.inline.specs.Flat.{TermTree, word_as, counter_type}
 use Rattle.inline.specs.Flat as flat
 use Rattle.inline.specs.FlatSize.{term_nodes, value_nodes}
-use Rattle.inline.specs.Numbering.{Numbers, Callable, Callables, callable, callables, passed, call_block, call_variables, call_result, call_value, right_block, right_end, right, value_given, value_of, dropped_block, element_block, names_after, names_after_all, naming, number_of, size_of, numbers_taken, numbers_taken_all, statement, block, single, term}
+use Rattle.inline.specs.Numbering.{Numbers, Callables, callable, callables, passed, call_block, call_variables, call_result, call_value, right_block, right_end, right, value_given, value_of, dropped_block, names_after_all, number_of, size_of, statement, block, single, term}
 use Rattle.inline.proofs.CallSizes.{same_nodes, same_all, same_result, GoTogether, value_there}
 use Rattle.inline.proofs.Procedures.{Stand, IsAt, IsWithin, earlier_within, callable_after, callable_declared, callable_parameters}
 use Rattle.intervals.specs.Intervals.{Bounds, interval, with_bound}
@@ -23,9 +23,9 @@ use Rattle.language.specs.Size.{nodes_passed}
 use Rattle.language.specs.Tree.{ExprTree, RightTree, CallTree, StatementTree, element_assignment, BlockTree, ParameterTree, ProcedureTree, ReturnTree, written}
 use Rattle.language.specs.Types.{Scope}
 use Rattle.language.specs.Typing.{result_value, with_procedure}
-use Rattle.language.specs.WellTyped.{labelled, ArePassed, IsCall, of_procedure, Gives, of_call, of_value, IsWellTyped, declares, declares_array, assigns, assigns_element, calls, chooses, repeats, AreWellTyped, no_statement, one_more, IsProcedure, Returns, nothing_returned, value_returned}
+use Rattle.language.specs.WellTyped.{labelled, IsCall, of_procedure, Gives, of_call, of_value, IsWellTyped, declares, declares_array, assigns, assigns_element, calls, chooses, repeats, AreWellTyped, no_statement, one_more, IsProcedure, Returns, nothing_returned, value_returned}
 use Rattle.word.specs.declared.place.Place.{Place}
-use Rattle.source_work.specs.SourceWork.{Here, here, Worked, Works, numberings, entered, called_work, right_work, behind_index, behind, turns, in_accepted, in_otherwise, in_turn, statement_work, block_work, worked, works_of}
+use Rattle.source_work.specs.SourceWork.{Here, here, Worked, Works, numberings, entered, called_work, right_work, behind, turns, in_accepted, in_otherwise, in_turn, statement_work, block_work, worked, works_of}
 use Rattle.source_work.proofs.Walked.{walked_all, walked_chain}
 
 -- Results.

@@ -1,7 +1,7 @@
 -- Work, as a sum over the source: how many nodes a run evaluates at most. Each node counts 1 and its parts, but a loop counts
 -- its body once for each turn that the intervals of its bounds allow, and once more; an array counts its elements too; and a
 -- call counts the words that it passes and the called body, there where it stands.
-use Rattle.std.specs.Prelude.{ℕ, ◌+◌, ◌*◌, false, nat_lt, List, [], ◌∷◌, ◌++◌, length, map, replicate, Option, None, Some}
+use Rattle.std.specs.Prelude.{ℕ, ◌+◌, ◌*◌, false, nat_lt, List, ◌++◌, length, map, replicate, Option, None, Some}
 use Rattle.std.specs.Option.{option_map}
 use Rattle.inline.specs.declared.flat.FlatVariable.{FlatVariable}
 use Rattle.inline.specs.Flat.{word_as, counter_type, declaration_of}
