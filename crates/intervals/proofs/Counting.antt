@@ -1,5 +1,5 @@
 -- The turns that are counted for a program are counted for each of its loops.
-use Rattle.std.proofs.Common.{◌≡◌, ℕ, false, ◌+◌, ◌<◌, ◌≤◌, List, length, slice_set, slice_index, refl, ◌∙◌, arith}
+use Rattle.std.proofs.Common.{◌≡◌, ℕ, false, ◌+◌, ◌<◌, ◌≤◌, List, length, slice_set, slice_index, refl, sym, ◌∙◌, arith}
 use Rattle.std.proofs.lemmas.List.{length-set, get_or-set_same, get_or-set_other}
 use Rattle.std.proofs.lemmas.Option.{slice_get_within}
 use Rattle.inline.specs.declared.flat.FlatVariable.{FlatVariable}
@@ -92,7 +92,7 @@ module _ (declared : List FlatVariable) where
           let listed = slice_get_within declared x (word_as counter_type false) typed.2.listed in
           let here : slice_index all x ≡ most =
           own x (omega (arith, numbered.0)) (omega (arith, numbered.0)) ∙ (stay body (n + 1) inside set numbered.1 x (omega (arith, numbered.0)) ∙ set_here turns x most (omega (arith, listed, count))) in (
-            omega (arith, here),
+            sym here,
             enough_all body (with_type types x (word_as counter_type false)) control (n + 1) inside set typed.3 numbered.1 (length-set turns x most ∙ count)
                 (λ y least below. own y (omega (arith, least)) (omega (arith, below))),
           )

@@ -68,7 +68,7 @@ counter_in low high i least most = by (nat_lt low.low high.high) refl
     by true e = (least, omega (arith, most))
     by false e = (least, grind (arith, nat_tests, e, least, most))
 
--- the turns of a statement's loops are within those that are counted
+-- the turns of a statement's loops are those that are counted
 module _ (declared : List FlatVariable) (turns : List ℕ) where
   abbrev mutual
     pub AreCounted : Bounds → FlatTree → Type 0
@@ -81,7 +81,7 @@ module _ (declared : List FlatVariable) (turns : List ℕ) where
     AreCounted bounds (branch label condition accepted otherwise) =
         AllCounted (where_true declared bounds label condition) accepted × AllCounted (where_false declared bounds label condition) otherwise
     AreCounted bounds (loop x low high body) =
-        (most_turns (interval declared bounds low) (interval declared bounds high) ≤ slice_index turns x) × AllCounted (in_loop declared bounds x low high) body
+        (most_turns (interval declared bounds low) (interval declared bounds high) ≡ slice_index turns x) × AllCounted (in_loop declared bounds x low high) body
 
     pub AllCounted : Bounds → FlatBlock → Type 0
     AllCounted bounds nothing = Unit {0}

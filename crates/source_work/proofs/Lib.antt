@@ -1,0 +1,3 @@
+mod Walked
+mod Sums
+pub mod Export
