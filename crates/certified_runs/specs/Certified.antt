@@ -1,0 +1,90 @@
+-- A turn and a run of what is known of a state. What instructions compute, and how turns end, is the machine's own.
+use Rattle.std.specs.Prelude.{◌≡◌, ℕ, Bool, true, false, List, [], ◌∷◌}
+use Rattle.std.proofs.Common.{zero, suc}
+use Rattle.rv_code.specs.declared.instructions.Instr.{Instr}
+use Rattle.rv_code.specs.declared.instructions.Instr.TheVariants.{Upper, Jump, JumpRegister, Branch, Load, Store, Immediate, Shift, Register, Multiply, Divide, Fence, Ecall, Ebreak}
+use Rattle.rv_machine.specs.declared.observation.Observation.{Observation}
+use Rattle.rv_machine.specs.declared.stops.Stop.{Stop}
+use Rattle.rv_machine.specs.declared.stops.Stop.TheVariants.{Budget}
+use Rattle.rv_machine.specs.Effects.{load_size, store_size, address_of}
+use Rattle.rv_machine.specs.Machine.{State, Code, IsAt, goes_on, stops, Turn}
+use Rattle.rv_machine.specs.Sizes.{byte_count}
+use Rattle.word.specs.declared.profile.Profile.{Profile}
+use Rattle.word.specs.declared.profile.Profile.TheVariants.{P1, P2}
+use Rattle.certified_runs.specs.Known.{Known, knows, knows_both, knows_bytes, with_register_known, with_bytes_known}
+
+-- whether a product is known as far as the observer of this profile sees it
+abbrev pub decides_product : Profile → Bool → Bool
+decides_product P1 known = true
+decides_product P2 known = known
+
+-- whether what an instruction shows, and where it leads, is decided by what is known of the registers: what a branch compares, a
+-- jump goes by, an access is addressed by, a division is of, and, where its operands are seen, a product
+abbrev pub decides : Profile → Instr → (ℕ → Bool) → Bool
+decides profile (Upper operation rd immediate) known = true
+decides profile (Jump rd offset) known = true
+decides profile (JumpRegister rd rs1 offset) known = knows known rs1
+decides profile (Branch test rs1 rs2 offset) known = knows_both known rs1 rs2
+decides profile (Load operation rd rs1 offset) known = knows known rs1
+decides profile (Store operation rs2 rs1 offset) known = knows known rs1
+decides profile (Immediate operation rd rs1 immediate) known = true
+decides profile (Shift operation rd rs1 amount) known = true
+decides profile (Register operation rd rs1 rs2) known = true
+decides profile (Multiply operation rd rs1 rs2) known = decides_product profile (knows_both known rs1 rs2)
+decides profile (Divide operation rd rs1 rs2) known = knows_both known rs1 rs2
+decides profile (Fence mode before after rs1 rd) known = true
+decides profile Ecall known = true
+decides profile Ebreak known = true
+
+-- the known registers after an instruction: what it gave a register is known where all that it is made of is
+abbrev pub registers_after : Instr → Known → ℕ → Bool
+registers_after (Upper operation rd immediate) k = with_register_known k.registers rd true
+registers_after (Jump rd offset) k = with_register_known k.registers rd true
+registers_after (JumpRegister rd rs1 offset) k = with_register_known k.registers rd true
+registers_after (Branch test rs1 rs2 offset) k = k.registers
+registers_after (Load operation rd rs1 offset) k =
+    with_register_known k.registers rd (knows_bytes k.bytes (byte_count (load_size operation)) (address_of k.state.regs rs1 offset))
+registers_after (Store operation rs2 rs1 offset) k = k.registers
+registers_after (Immediate operation rd rs1 immediate) k = with_register_known k.registers rd (knows k.registers rs1)
+registers_after (Shift operation rd rs1 amount) k = with_register_known k.registers rd (knows k.registers rs1)
+registers_after (Register operation rd rs1 rs2) k = with_register_known k.registers rd (knows_both k.registers rs1 rs2)
+registers_after (Multiply operation rd rs1 rs2) k = with_register_known k.registers rd (knows_both k.registers rs1 rs2)
+registers_after (Divide operation rd rs1 rs2) k = with_register_known k.registers rd (knows_both k.registers rs1 rs2)
+registers_after (Fence mode before after rs1 rd) k = k.registers
+registers_after Ecall k = k.registers
+registers_after Ebreak k = k.registers
+
+-- the known bytes after an instruction: those that it stored are known where the register is
+abbrev pub bytes_after : Instr → Known → ℕ → Bool
+bytes_after (Store operation rs2 rs1 offset) k =
+    with_bytes_known k.bytes (byte_count (store_size operation)) (address_of k.state.regs rs1 offset) (knows k.registers rs2)
+bytes_after _ k = k.bytes
+
+-- what is known after an instruction that leads to this state
+abbrev pub known_after : Instr → Known → State → Known
+known_after i k t = record { state = t; registers = registers_after i k; bytes = bytes_after i k }
+
+-- how a turn ends: it shows an observation and goes on, or it stops, having shown at most one, or what it shows may depend on what is
+-- unknown
+pub data KnownEnding : Type 0 where
+  leads_on : Observation → Known → KnownEnding
+  ends : List Observation → Stop → KnownEnding
+  depends : KnownEnding
+
+-- one turn of what is known
+pub data KnownTurn (code : Code) (k : Known) : KnownEnding → Type 0 where
+  decided : {o : Observation} {t : State} (i : Instr) → IsAt code k.state.pc i → decides code.profile i k.registers ≡ true → Turn code k.state (goes_on o t) → KnownTurn code k (leads_on o (known_after i k t))
+  stopped : {seen : List Observation} {stop : Stop} → ((i : Instr) → IsAt code k.state.pc i → decides code.profile i k.registers ≡ true) → Turn code k.state (stops seen stop) → KnownTurn code k (ends seen stop)
+  undecided : (i : Instr) → IsAt code k.state.pc i → decides code.profile i k.registers ≡ false → KnownTurn code k depends
+
+-- how a run ends: it is the same for all that is unknown and stops so, or the turn at this program counter may depend on it
+pub data RunEnding : Type 0 where
+  same : Stop → RunEnding
+  may_differ : ℕ → RunEnding
+
+-- turns until one stops or depends, or as many as the budget; what they show
+pub data CertifiedRun (code : Code) : ℕ → Known → List Observation → RunEnding → Type 0 where
+  spent : {k : Known} → CertifiedRun code zero k [] (same Budget)
+  halts : {n : ℕ} {k : Known} {seen : List Observation} {stop : Stop} → KnownTurn code k (ends seen stop) → CertifiedRun code (suc n) k seen (same stop)
+  cut : {n : ℕ} {k : Known} → KnownTurn code k depends → CertifiedRun code (suc n) k [] (may_differ k.state.pc)
+  turns : {n : ℕ} {k next : Known} {o : Observation} {seen : List Observation} {ending : RunEnding} → KnownTurn code k (leads_on o next) → CertifiedRun code n next seen ending → CertifiedRun code (suc n) k (o ∷ seen) ending

@@ -1,0 +1,46 @@
+// The laws of what is known, which hold of the definitions alone.
+
+ghost use Rattle.std.specs.Prelude.{◌≡◌, ◌≢◌, ℕ, ◌<◌, ◌∷◌, ◌++◌, List};
+ghost use Rattle.rv_machine.specs.declared.observation.Observation.{Observation};
+ghost use Rattle.rv_machine.specs.declared.stops.Stop.{Stop};
+ghost use Rattle.rv_machine.specs.Leakage.{Leads, Runs};
+ghost use Rattle.rv_machine.specs.Machine.{State, Code, Ending, Turn};
+ghost use Rattle.certified_runs.specs.Certified.{KnownEnding, KnownTurn, RunEnding, CertifiedRun};
+ghost use Rattle.certified_runs.specs.Known.{Known, Covers};
+
+use rv_machine::Stop;
+
+/// Whatever is known of a state, the state itself is covered.
+pub fn what_is_known_covers()
+    ensures { (k : Known) → Covers k k.state }
+{}
+
+/// A turn of what is known is a turn of each covered state: it shows the same and covers where that leads, or it stops
+/// alike.
+pub fn turns_keep_covering()
+    ensures leads_on { (code : Code) (k next : Known) (s : State) (o : Observation)
+        → KnownTurn code k (KnownEnding.leads_on o next) → Covers k s
+        → (t : State) × Turn code s (Ending.goes_on o t) × Covers next t }
+    ensures ends { (code : Code) (k : Known) (s : State) (seen : List Observation) (stop : Stop)
+        → KnownTurn code k (KnownEnding.ends seen stop) → Covers k s → Turn code s (Ending.stops seen stop) }
+{}
+
+/// Where a certified run is the same for all that is unknown, every run from a covered state with its budget, cut short
+/// by no recorder, shows its list and stops alike, and there is such a run.
+pub fn certified_runs_cover()
+    ensures some { (code : Code) (budget : ℕ) (k : Known) (s : State) (seen : List Observation) (stop : Stop)
+        → CertifiedRun code budget k seen (RunEnding.same stop) → Covers k s
+        → (t : State) × Runs code budget s seen stop t }
+    ensures every { (code : Code) (budget : ℕ) (k : Known) (s t : State) (seen shown : List Observation) (stop other : Stop)
+        → CertifiedRun code budget k seen (RunEnding.same stop) → Covers k s
+        → Runs code budget s shown other t → other ≢ Stop.RecorderRefused
+        → (shown ≡ seen) × (other ≡ stop) }
+{}
+
+/// Where a certified run may differ, each covered state makes turns that show its list, fewer than the budget, up to the
+/// program counter of the turn that may differ.
+pub fn certified_runs_cut_short_agree()
+    ensures { (code : Code) (budget : ℕ) (k : Known) (s : State) (seen : List Observation) (pc : ℕ)
+        → CertifiedRun code budget k seen (RunEnding.may_differ pc) → Covers k s
+        → (n : ℕ) × (t : State) × (n < budget) × Leads code n s seen t × (t.pc ≡ pc) }
+{}
