@@ -6,7 +6,8 @@ use Rattle.inline.specs.Flat.{TermTree, FlatTree, declare, array, assign, put, h
 use Rattle.inline.specs.Flat as flat
 use Rattle.inline.specs.FlatSize.{IsSized, term_nodes, tree_nodes, body_nodes}
 use Rattle.inline.specs.FlatTyping.{Types, types_after, with_type, IsTyped, AreTyped, IsTypedProgram}
-use Rattle.intervals.specs.declared.limits.TheConstants.{MOST_WORK}
+use Rattle.intervals.specs.Limits.{most_work}
+use Rattle.language.specs.Limits.{most_nodes}
 use Rattle.intervals.specs.Work.{tree_work, body_work, ranged}
 use Rattle.language.specs.declared.signature.Label.{Label}
 use Rattle.language.specs.declared.signature.Label.TheVariants.{Public, Secret}
@@ -182,10 +183,10 @@ mutual
   few_all (first s rest) = max-le (omega (arith, few s)) (omega (arith, few_all rest))
 
 -- there are no more control values than nodes
-pub few_controls : (p : FlatProgram) → IsSized p → controls_in_all p.body ≤ 6000
+pub few_controls : (p : FlatProgram) → IsSized p → controls_in_all p.body ≤ most_nodes
 few_controls p sized = omega (arith, few_all p.body, sized.counted, sized.nodes)
 
-pub bounded : (p : FlatProgram) → IsTypedProgram p → IsSized p → (ranged p).work ≤ MOST_WORK → IsBounded (straightened (ranged p))
+pub bounded : (p : FlatProgram) → IsTypedProgram p → IsSized p → (ranged p).work ≤ most_work → IsBounded (straightened (ranged p))
 bounded p typed sized fits = record {
   lengths = sized.lengths;
   parameters = sized.parameters;

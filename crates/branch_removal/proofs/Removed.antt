@@ -12,7 +12,7 @@ use Rattle.inline.specs.Path.{AreFine, seen}
 use Rattle.intervals.specs.Kept.{IsRanged}
 use Rattle.intervals.specs.Loose.{IsSafe}
 use Rattle.intervals.specs.Ranged.{RangedProgram}
-use Rattle.intervals.specs.declared.limits.TheConstants.{MOST_WORK}
+use Rattle.intervals.specs.Limits.{most_work}
 use Rattle.intervals.specs.Work.{ranged}
 use Rattle.language.specs.declared.signature.Label.TheVariants.{Public}
 use Rattle.language.specs.declared.signature.Param.{Param}
@@ -99,7 +99,7 @@ module _ (p : FlatProgram) (typed : IsTypedProgram p) where
         (same_seen_all p.profile p.declared (controls_in_all p.body) code typed_straight.body hidden_straight s t first_agree)
         (result_seen (types_of p.profile p.declared) _ _ end_agree p.returned p.value typed_straight.result)
 
-is_removed : (p : FlatProgram) → IsTypedProgram p → IsSized p → IsSafe p (ranged p).turns → (ranged p).work ≤ MOST_WORK → IsRemoved (ranged p) (straightened (ranged p))
+is_removed : (p : FlatProgram) → IsTypedProgram p → IsSized p → IsSafe p (ranged p).turns → (ranged p).work ≤ most_work → IsRemoved (ranged p) (straightened (ranged p))
 is_removed p typed sized safe fits = record {
   profile = refl;
   parameters = refl;
@@ -140,4 +140,4 @@ as_listed r controls body counted same = rw (counted, same) refl
 pub removed_as_promised : (r : RangedProgram) → IsFlat r.flat → IsRanged r → IsRemoved r (straightened r)
 removed_as_promised r flat kept =
     subst (λ (q : RangedProgram). IsRemoved q (straightened q)) (sym kept.counted)
-    (is_removed r.flat flat.typed flat.sized (subst (λ (q : RangedProgram). IsSafe r.flat q.turns) kept.counted kept.safe) (subst (λ (q : RangedProgram). q.work ≤ MOST_WORK) kept.counted kept.worked))
+    (is_removed r.flat flat.typed flat.sized (subst (λ (q : RangedProgram). IsSafe r.flat q.turns) kept.counted kept.safe) (subst (λ (q : RangedProgram). q.work ≤ most_work) kept.counted kept.worked))

@@ -1,12 +1,12 @@
 -- How large straight code is and how much work it is, and the bounds that it keeps.
 use Rattle.std.specs.Prelude.{ℕ, ◌+◌, ◌*◌, ◌≤◌, List, length, map, slice_index}
 use Rattle.std.specs.List.{AllByRecursion}
-use Rattle.inline.specs.declared.limits.TheConstants.{MOST_VARIABLE_BYTES}
+use Rattle.inline.specs.Limits.{most_variable_bytes}
 use Rattle.inline.specs.Flat.{declaration_of}
 use Rattle.inline.specs.FlatSize.{HasLength, declared_words, term_nodes, terms_nodes, value_nodes}
 use Rattle.branch_removal.specs.Straight.{StraightTree, set, clear, fill, put, take, set_under, put_under, branch, repeats, StraightBlock, nothing, first, StraightProgram}
-use Rattle.intervals.specs.declared.limits.TheConstants.{MOST_WORK}
-use Rattle.language.specs.declared.limits.TheConstants.{MOST_NODES, MOST_DECLARED_BYTES}
+use Rattle.intervals.specs.Limits.{most_work}
+use Rattle.language.specs.Limits.{most_nodes, most_declared_bytes}
 use Rattle.language.specs.declared.signature.Param.{Param}
 
 abbrev mutual
@@ -63,12 +63,12 @@ abbrev mutual
 -- a program within the limits on size
 pub record IsBounded (p : StraightProgram) : Type 0 where
   pub lengths : AllByRecursion (λ (parameter : Param). HasLength parameter.form parameter.length) p.parameters
-  pub parameters : 4 * declared_words (map declaration_of p.parameters) ≤ MOST_DECLARED_BYTES
-  pub declared : 4 * declared_words p.declared ≤ MOST_VARIABLE_BYTES
+  pub parameters : 4 * declared_words (map declaration_of p.parameters) ≤ most_declared_bytes
+  pub declared : 4 * declared_words p.declared ≤ most_variable_bytes
   -- it has no more nodes than the source, whose nodes are within the limit, and it is no more work
   pub counted : block_nodes p.body + value_nodes p.value ≤ p.nodes
-  pub nodes : p.nodes ≤ MOST_NODES
+  pub nodes : p.nodes ≤ most_nodes
   pub worked : block_work p.turns p.body + value_nodes p.value ≤ p.work
-  pub work_fits : p.work ≤ MOST_WORK
+  pub work_fits : p.work ≤ most_work
   -- there are at most two control values for each condition that is taken
   pub controls : p.controls ≤ 2 * taken_in_all p.body

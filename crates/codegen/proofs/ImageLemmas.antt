@@ -10,7 +10,7 @@ use Rattle.rv_code.specs.Words.{word_of}
 use Rattle.image_fields.specs.Fields.{IsImage, AreSlots, IsResultSlot, is_length, slot_end, result_end, slots_end}
 use Rattle.image_fields.specs.declared.slot.Slot.{Slot}
 use Rattle.image_fields.specs.declared.slot.ResultSlot.{ResultSlot}
-use Rattle.language.specs.declared.limits.TheConstants.{MOST_ELEMENTS}
+use Rattle.language.specs.Limits.{most_elements}
 use Rattle.language.specs.declared.signature.Form.{Form}
 use Rattle.language.specs.declared.signature.Form.TheVariants.{SingleWord, FixedArray, MutableArray}
 use Rattle.language.specs.declared.signature.Kind.{Kind}
@@ -40,8 +40,8 @@ pub length-slots_from : (low : ℕ) (ps : List Param) → length (slots_from low
 length-slots_from low [] = refl
 length-slots_from low (p ∷ ps) = ap suc (length-slots_from (low + 4 * words_of (declaration_of p)) ps)
 
-among_lengths : (n : ℕ) → 1 ≤ n → n ≤ MOST_ELEMENTS → is_length FixedArray n ≡ true
-among_lengths n some few = and_from _ _ (le-leb 1 n some) (le-leb n MOST_ELEMENTS few)
+among_lengths : (n : ℕ) → 1 ≤ n → n ≤ most_elements → is_length FixedArray n ≡ true
+among_lengths n some few = and_from _ _ (le-leb 1 n some) (le-leb n most_elements few)
 
 length_allowed : (form : Form) (n : ℕ) → HasLength form n → is_length form n ≡ true
 length_allowed SingleWord n is = eq-eqb n 1 is

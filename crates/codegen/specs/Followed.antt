@@ -8,7 +8,7 @@ use Rattle.branch_removal.specs.StraightMeaning.{outcome_of, path_of}
 use Rattle.codegen.specs.Bases.{AreBases, IsInside}
 use Rattle.codegen.specs.Loaded.{params_of, code_at, loaded_at, results_in}
 use Rattle.image_fields.specs.Fields.{Fields}
-use Rattle.image_fields.specs.declared.limits.TheConstants.{MOST_FRAME_BYTES}
+use Rattle.image_fields.specs.Limits.{most_frame_bytes}
 use Rattle.inline.specs.Path.{Path, AreFine, seen}
 use Rattle.image_fields.specs.declared.slot.ResultSlot.{ResultSlot}
 use Rattle.rv_machine.specs.Leakage.{Halts}
@@ -42,6 +42,6 @@ pub record IsGenerated (p : StraightProgram) (image : Fields) : Type 0 where
   pub parameters : params_of image ≡ p.parameters
   pub returned : option_map type_in image.returned ≡ p.returned
   pub max_steps : image.max_steps ≡ 32 * p.work + 64
-  pub frame_size : image.frame_bytes ≤ MOST_FRAME_BYTES
+  pub frame_size : image.frame_bytes ≤ most_frame_bytes
   pub word_count : length image.words ≤ 32 * p.nodes + 64
   pub follows : (code frame : ℕ) → AreBases image code frame → IsFollowed p image code frame

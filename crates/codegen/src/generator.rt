@@ -5,7 +5,7 @@ ghost use Rattle.codegen.specs.Followed.{IsGenerated};
 ghost use Rattle.codegen.specs.private.Generated.{program_code, program_slots, result_slot, step_limit, image_of};
 ghost use Rattle.codegen.specs.private.Room.{HasRoom, frame_of};
 ghost use Rattle.image_fields.specs.Fields.{IsImage};
-ghost use Rattle.intervals.specs.declared.limits.TheConstants.{MOST_WORK};
+ghost use Rattle.intervals.specs.Limits.{most_work};
 ghost use Rattle.language.specs.WantOfMemory.{IsWantOfMemory};
 ghost use Rattle.rv_code.specs.Words.{word_of};
 
@@ -81,7 +81,7 @@ fn result_slot(straight: &Straight<'_>, layout: &Layout<'_>) -> Option<ResultSlo
 
 /// How many instructions a run may take, by the work.
 fn step_limit(work: u64) -> u64
-    requires { work ≤ MOST_WORK }
+    requires { work ≤ most_work }
     ensures { result ≡ step_limit work }
 {
     32 * work + 64

@@ -1,7 +1,7 @@
 // Harts side by side, as a file says.
 
 ghost use Rattle.std.specs.Prelude.{◌≡◌, ◌≤◌, length, vec_len, IfOk, OnOk};
-ghost use Rattle.harts.specs.declared.bases.TheConstants.{MOST_IMAGES};
+ghost use Rattle.hepurita.specs.Bases.{most_images};
 
 use crate::fault::{Fault, FileFault};
 use crate::files::Files;
@@ -82,7 +82,7 @@ fn list_harts(
     seen: &[HartObservation],
     ends: &[HartEnd],
 ) -> Result<Vec<u8>, AllocError>
-    requires { length jobs.now ≤ MOST_IMAGES }
+    requires { length jobs.now ≤ most_images }
 {
     let mut text = Vec::new(alloc);
     for turn in seen {

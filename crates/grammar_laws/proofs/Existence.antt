@@ -5,7 +5,7 @@ use Rattle.std.specs.List.{position_or_len, starts_with}
 use Rattle.word.specs.Places.{origin}
 use Rattle.word.specs.declared.place.Place.{Place}
 use Rattle.language.specs.declared.rule.Rule.TheVariants.{UnknownCharacter, TextTooLong, BadNumber as BadNumberRule}
-use Rattle.syntax.specs.declared.lexer.TheConstants.{TEXT_LIMIT}
+use Rattle.syntax.specs.Limits.{text_limit}
 use Rattle.syntax.specs.declared.lexer.piece.Piece.{Piece}
 use Rattle.syntax.specs.declared.lexer.piece.Piece.TheVariants.{Space, Token, BadNumber}
 use Rattle.syntax.specs.declared.token.TokenKind.TheVariants.{Sign as SignToken}
@@ -94,4 +94,4 @@ answer_to text =
     (λ short.
     let h = tokens_of text in
     (verdict program outside h.0 h.1, by_tokens text h.0 h.1 _ short h.2 (answers h.0 h.1)))
-    (below TEXT_LIMIT (length text))
+    (below text_limit (length text))

@@ -7,7 +7,7 @@ use Rattle.language.specs.declared.rule.Rule.{Rule}
 use Rattle.language.specs.declared.rule.Rule.TheVariants.{InlinedSize, DeclaredBytes, NameDeclaredTwice, NotExactlyOneExport}
 use Rattle.language.specs.declared.signature.Label.{Label}
 use Rattle.language.specs.declared.signature.Label.TheVariants.{Public}
-use Rattle.language.specs.declared.limits.TheConstants.{MOST_BODIES, MOST_NODES, MOST_DECLARED_BYTES}
+use Rattle.language.specs.Limits.{most_bodies, most_nodes, most_declared_bytes}
 use Rattle.language.specs.declared.typing.Violation.{Violation}
 use Rattle.language.specs.declared.typing.WordType.{WordType}
 use Rattle.language.specs.ExprTyping.{binary_rules, convert_rules, element_rules, element_type, expr_violations, exprs_violations, name_rules, name_type, number_rules, prefix_rules, rotate_rules, select_rules, type_of, types_of}
@@ -143,5 +143,5 @@ module _ (w : Place → ℕ) where
   pub sizes_light : (before : List ProcedureTree) (p : ProcedureTree) → in_procedure w p ≡ 0 → AreAtLight (size_violations before p)
   sizes_light before p h =
       at_place p.place (omega (arith, h))
-      (when (nat_lt MOST_NODES (nodes_of (extents_of before) p) || nat_lt MOST_BODIES (bodies_of (extents_of before) p)) InlinedSize
-      ++ when (nat_lt MOST_DECLARED_BYTES (declared_bytes (extents_of before) p)) DeclaredBytes)
+      (when (nat_lt most_nodes (nodes_of (extents_of before) p) || nat_lt most_bodies (bodies_of (extents_of before) p)) InlinedSize
+      ++ when (nat_lt most_declared_bytes (declared_bytes (extents_of before) p)) DeclaredBytes)

@@ -1,8 +1,8 @@
 // Plans: harts, and the order of their turns.
 
 ghost use Rattle.std.specs.Prelude.{◌≡◌, ◌+◌, ◌-◌, ◌<◌, ◌≤◌, true, false, [], All, vec_len, IfOk};
-ghost use Rattle.harts.specs.declared.bases.TheConstants.{MOST_IMAGES};
-ghost use Rattle.harts.specs.declared.checking.TheConstants.{MOST_TURNS};
+ghost use Rattle.harts.specs.Refused.{most_turns};
+ghost use Rattle.hepurita.specs.Bases.{most_images};
 
 use crate::fault::PlanFault;
 use crate::lines::{Line, line_of};
@@ -21,9 +21,9 @@ pub struct Job<'a> {
 pub struct Plan<'a> {
     pub jobs: Vec<Job<'a>>,
     pub schedule: Vec<u8>,
-    ghost few: { vec_len jobs ≤ MOST_IMAGES },
+    ghost few: { vec_len jobs ≤ most_images },
     ghost known: { All (λ hart. hart < vec_len jobs) schedule.items },
-    ghost short: { vec_len schedule ≤ MOST_TURNS },
+    ghost short: { vec_len schedule ≤ most_turns },
 }
 
 /// What has been read of a plan.
@@ -33,9 +33,9 @@ struct Reader<'a> {
     schedule: Vec<u8>,
     /// Whether turns were read, after which there comes no hart.
     has_turns: bool,
-    ghost few: { vec_len jobs ≤ MOST_IMAGES },
+    ghost few: { vec_len jobs ≤ most_images },
     ghost known: { All (λ hart. hart < vec_len jobs) schedule.items },
-    ghost short: { vec_len schedule ≤ MOST_TURNS },
+    ghost short: { vec_len schedule ≤ most_turns },
     ghost begun: { has_turns ≡ false → schedule.items ≡ [] },
 }
 
@@ -108,7 +108,7 @@ impl<'a> Reader<'a> {
     /// One turn more, of this hart.
     fn push_turn(&mut self, hart: u8) -> Result<(), AllocError>
         requires known { hart < vec_len self.old.jobs }
-        requires room { vec_len self.old.schedule < MOST_TURNS }
+        requires room { vec_len self.old.schedule < most_turns }
         requires begun { self.old.has_turns ≡ true }
         ensures jobs { self.new.jobs ≡ self.old.jobs }
         ensures turns { self.new.has_turns ≡ true }
@@ -120,7 +120,7 @@ impl<'a> Reader<'a> {
 
     /// How many turns there may still be.
     fn turns_left(&self) -> u64
-        ensures { result ≡ MOST_TURNS - vec_len self.now.schedule }
+        ensures { result ≡ most_turns - vec_len self.now.schedule }
     {
         (MOST_TURNS - self.schedule.len()) as u64
     }

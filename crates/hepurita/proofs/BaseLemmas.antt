@@ -8,10 +8,10 @@ use Rattle.hepurita.proofs.JudgementLemmas.{few_nodes, small_of}
 use Rattle.image_fields.specs.Fields.{Fields}
 use Rattle.language.specs.Size.{extents_of, nodes_of}
 use Rattle.language.specs.Tree.{ProcedureTree, ProgramTree}
-use Rattle.language.specs.declared.limits.TheConstants.{MOST_NODES}
+use Rattle.language.specs.Limits.{most_nodes}
 use Rattle.word.specs.declared.profile.Profile.{Profile}
 
-pub standard_bases : (program : ProgramTree) (before : List ProcedureTree) (p : ProcedureTree) (image : Fields) (k : ℕ) → IsCompiled program before p image → nodes_of (extents_of before) p ≤ MOST_NODES → k < most_images → AreBases image (code_base + code_distance * k) (frame_base + frame_distance * k)
+pub standard_bases : (program : ProgramTree) (before : List ProcedureTree) (p : ProcedureTree) (image : Fields) (k : ℕ) → IsCompiled program before p image → nodes_of (extents_of before) p ≤ most_nodes → k < most_images → AreBases image (code_base + code_distance * k) (frame_base + frame_distance * k)
 standard_bases program before p image k is small below =
     let words = is.word_count in
     let size = is.frame_size in

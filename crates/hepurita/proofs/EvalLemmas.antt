@@ -7,13 +7,13 @@ use Rattle.arguments.specs.declared.fault.ArgumentFault.{ArgumentFault}
 use Rattle.inline.specs.FlatMeaning.{outcome_of}
 use Rattle.inline.specs.Numbering.{flattened, param_of}
 use Rattle.intervals.proofs.Safe.{accepted_is_safe}
-use Rattle.intervals.specs.declared.limits.TheConstants.{MOST_WORK}
+use Rattle.intervals.specs.Limits.{most_work}
 use Rattle.language.specs.Evaluation.{program_run}
 use Rattle.language.specs.Results.{Results}
 use Rattle.language.specs.Size.{bodies_of, declared_bytes, extents_of, nodes_of, size_violations}
 use Rattle.language.specs.Tree.{ProcedureTree, ProgramTree}
 use Rattle.language.specs.Types.{at, when}
-use Rattle.language.specs.declared.limits.TheConstants.{MOST_BODIES, MOST_DECLARED_BYTES, MOST_NODES}
+use Rattle.language.specs.Limits.{most_bodies, most_declared_bytes, most_nodes}
 use Rattle.language.specs.declared.rule.Rule.TheVariants.{InlinedSize, DeclaredBytes}
 use Rattle.language.specs.declared.signature.Param.{Param}
 use Rattle.language.specs.declared.values.Arg.{Arg}
@@ -32,9 +32,9 @@ few_bodies place true deep large none = absurd (omega (arith, none))
 few_bodies place false true large none = absurd (omega (arith, none))
 few_bodies place false false large none = refl
 
-bodies_fit : (before : List ProcedureTree) (export : ProcedureTree) → length (size_violations before export) ≡ 0 → bodies_of (extents_of before) export ≤ MOST_BODIES
+bodies_fit : (before : List ProcedureTree) (export : ProcedureTree) → length (size_violations before export) ≡ 0 → bodies_of (extents_of before) export ≤ most_bodies
 bodies_fit before export none =
-    let e = few_bodies export.place (nat_lt MOST_NODES (nodes_of (extents_of before) export)) (nat_lt MOST_BODIES (bodies_of (extents_of before) export)) (nat_lt MOST_DECLARED_BYTES (declared_bytes (extents_of before) export)) none in
+    let e = few_bodies export.place (nat_lt most_nodes (nodes_of (extents_of before) export)) (nat_lt most_bodies (bodies_of (extents_of before) export)) (nat_lt most_declared_bytes (declared_bytes (extents_of before) export)) none in
     grind (arith, nat_tests, e)
 
 -- arguments without a fault are answered by the run
@@ -43,7 +43,7 @@ judged : (program : ProgramTree) (args : List Arg) (budget : ℕ) (params : List
 judged program args budget params same none = ap (λ (fault : Option ArgumentFault). judged_answer fault (program_run program args) budget) (ap (λ ps. fault_of ps args) same ∙ none)
 
 pub evaluated : Faultless → (profile : Profile) (text : List ℕ) (program : ProgramTree) (before : List ProcedureTree) (export : ProcedureTree) (args : List Arg) (budget : ℕ) → Judges profile text (accepts program before export)
-    → AreWithin (map param_of export.parameters) args → MOST_WORK ≤ budget → (results : Results) × Means program args results × (answer program args budget ≡ Ok results)
+    → AreWithin (map param_of export.parameters) args → most_work ≤ budget → (results : Results) × Means program args results × (answer program args budget ≡ Ok results)
 evaluated faultless profile text program before export args budget (readable reads (fine small in_range in_time)) within enough =
     let plain = grammatical_export text program reads in
     let is = small.well_formed in

@@ -11,7 +11,7 @@ use Rattle.intervals.specs.Ranges.{range_violations}
 use Rattle.intervals.specs.Work.{work_violations}
 use Rattle.language.specs.Meaning.{exported}
 use Rattle.syntax.specs.Reading.{accepted, refused, OneAnswer}
-use Rattle.language.specs.declared.limits.TheConstants.{MOST_BODIES, MOST_NODES, MOST_DECLARED_BYTES}
+use Rattle.language.specs.Limits.{most_bodies, most_nodes, most_declared_bytes}
 use Rattle.language.specs.Size.{bodies_of, declared_bytes, extents_of, nodes_of, size_violations}
 use Rattle.language.specs.Tree.{ProcedureTree, ProgramTree}
 use Rattle.language.specs.Types.{when}
@@ -91,12 +91,12 @@ module _ (profile : Profile) where
       (same, both.0, both.1)
 
   -- what passes no limit on size has few nodes
-  pub few_nodes : (program : ProgramTree) (before : List ProcedureTree) (export : ProcedureTree) → IsSmall profile program before export → nodes_of (extents_of before) export ≤ MOST_NODES
+  pub few_nodes : (program : ProgramTree) (before : List ProcedureTree) (export : ProcedureTree) → IsSmall profile program before export → nodes_of (extents_of before) export ≤ most_nodes
   few_nodes program before export small =
-      let deep = nat_lt MOST_BODIES (bodies_of (extents_of before) export) in
-      let a = when (nat_lt MOST_NODES (nodes_of (extents_of before) export) || deep) InlinedSize in
-      let b = when (nat_lt MOST_DECLARED_BYTES (declared_bytes (extents_of before) export)) DeclaredBytes in
+      let deep = nat_lt most_bodies (bodies_of (extents_of before) export) in
+      let a = when (nat_lt most_nodes (nodes_of (extents_of before) export) || deep) InlinedSize in
+      let b = when (nat_lt most_declared_bytes (declared_bytes (extents_of before) export)) DeclaredBytes in
       let m = length-map {B = Violation} (a ++ b) (λ rule. record { place = export.place; rule = rule }) in
       let n = length-append a b in
       let sized = small.sized in
-      within MOST_NODES (nodes_of (extents_of before) export) deep (not_passed _ InlinedSize (omega (arith, sized, m, n)))
+      within most_nodes (nodes_of (extents_of before) export) deep (not_passed _ InlinedSize (omega (arith, sized, m, n)))

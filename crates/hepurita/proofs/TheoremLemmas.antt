@@ -16,7 +16,7 @@ use Rattle.intervals.proofs.Safe.{accepted_is_safe, safe_runs_meet_no_fault}
 use Rattle.intervals.specs.Loose.{IsSafe}
 use Rattle.intervals.specs.Ranges.{range_violations, turns_of}
 use Rattle.intervals.specs.Work.{ranged, work_of, work_violations}
-use Rattle.intervals.specs.declared.limits.TheConstants.{MOST_WORK}
+use Rattle.intervals.specs.Limits.{most_work}
 use Rattle.inline.specs.Flat.{FlatProgram}
 use Rattle.language.specs.Types.{at, when}
 use Rattle.language.specs.declared.rule.Rule.TheVariants.{TooMuchWork}
@@ -48,10 +48,10 @@ flat_typed profile program before export plain small =
     flat_is_typed profile program before export is.typed is.is_export parts.0 parts.1
 
 -- a body without too much work is within the limit
-pub within_work : (flat : FlatProgram) → length (work_violations flat) ≡ 0 → work_of flat ≤ MOST_WORK
-within_work flat none = by (nat_lt MOST_WORK (work_of flat)) refl none
+pub within_work : (flat : FlatProgram) → length (work_violations flat) ≡ 0 → work_of flat ≤ most_work
+within_work flat none = by (nat_lt most_work (work_of flat)) refl none
   where
-    by : (over : Bool) → nat_lt MOST_WORK (work_of flat) ≡ over → length (at flat.place (when over TooMuchWork)) ≡ 0 → work_of flat ≤ MOST_WORK
+    by : (over : Bool) → nat_lt most_work (work_of flat) ≡ over → length (at flat.place (when over TooMuchWork)) ≡ 0 → work_of flat ≤ most_work
     by true is h = absurd (omega (arith, h))
     by false is h = grind (arith, nat_tests)
 

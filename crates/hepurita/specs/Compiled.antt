@@ -6,7 +6,7 @@ use Rattle.arguments.specs.Within.{AreWithin}
 use Rattle.inline.specs.Numbering.{flattened, param_of}
 use Rattle.intervals.specs.Work.{work_of}
 use Rattle.image_fields.specs.Fields.{Fields}
-use Rattle.image_fields.specs.declared.limits.TheConstants.{MOST_FRAME_BYTES}
+use Rattle.image_fields.specs.Limits.{most_frame_bytes}
 use Rattle.rv_machine.specs.Leakage.{Halts}
 use Rattle.rv_machine.specs.Machine.{State}
 use Rattle.rv_machine.specs.declared.observation.Observation.{Observation}
@@ -41,7 +41,7 @@ pub record IsCompiled (program : ProgramTree) (before : List ProcedureTree) (p :
   pub params : params_of image ≡ map param_of p.parameters
   pub result : option_map type_in image.returned ≡ p.result
   pub max_steps : image.max_steps ≡ 32 * work_of (flattened image.profile before p) + 64
-  pub frame_size : image.frame_bytes ≤ MOST_FRAME_BYTES
+  pub frame_size : image.frame_bytes ≤ most_frame_bytes
   pub word_count : length image.words ≤ 32 * nodes_of (extents_of before) p + 64
   -- results: on all arguments within the parameter types
   pub results : (code frame : ℕ) (args : List Arg) → AreBases image code frame → AreWithin (params_of image) args → RunsTo program image code frame args

@@ -2,7 +2,7 @@
 
 ghost use Rattle.std.specs.Prelude.{◌≡◌, ◌≤◌, None, length};
 ghost use Rattle.arguments.specs.Within.{AreWithin};
-ghost use Rattle.image_fields.specs.declared.limits.TheConstants.{MOST_PARAMETERS};
+ghost use Rattle.image_fields.specs.Limits.{most_parameters};
 ghost use Rattle.hepurita.specs.Paired.{pair_fault, Paired};
 
 use crate::fault::RunFault;
@@ -15,7 +15,7 @@ use std::alloc::Global;
 
 /// The first fault of two lists of arguments; those of the second are numbered after the first's.
 fn fault_of_both(params: &[Param], one: &Args, other: &Args) -> Option<ArgumentFault>
-    requires { length params.now ≤ MOST_PARAMETERS }
+    requires { length params.now ≤ most_parameters }
     ensures first { result ≡ pair_fault params.now one.now other.now }
     ensures within { result ≡ None → AreWithin params.now one.now × AreWithin params.now other.now }
 {

@@ -9,7 +9,7 @@ ghost use Rattle.codegen.specs.Followed.{IsGenerated};
 ghost use Rattle.image_fields.specs.Fields.{Fields};
 ghost use Rattle.inline.specs.Numbering.{flattened, param_of};
 ghost use Rattle.intervals.specs.Work.{ranged};
-ghost use Rattle.intervals.specs.declared.limits.TheConstants.{MOST_WORK};
+ghost use Rattle.intervals.specs.Limits.{most_work};
 ghost use Rattle.rv_machine.specs.declared.pairing.Pairing.{Pairing};
 ghost use Rattle.rv_machine.specs.Machine.{State};
 ghost use Rattle.rv_machine.specs.declared.observation.Observation.{Observation};
@@ -17,7 +17,7 @@ ghost use Rattle.rv_machine.specs.declared.stops.Stop.{Stop};
 ghost use Rattle.arguments.specs.Agreement.{Agree};
 ghost use Rattle.arguments.specs.PublicResults.{AgreeInPublic};
 ghost use Rattle.language.specs.Size.{extents_of, nodes_of};
-ghost use Rattle.language.specs.declared.limits.TheConstants.{MOST_NODES};
+ghost use Rattle.language.specs.Limits.{most_nodes};
 ghost use Rattle.hepurita.specs.Bases.{code_base, frame_base, most_images, code_distance, frame_distance};
 ghost use Rattle.hepurita.specs.Built.{IsBuilt, Judges, JudgesProgram, accepts};
 ghost use Rattle.hepurita.specs.Compiled.{IsCompiled, Means};
@@ -49,7 +49,7 @@ pub fn texts_are_compiled()
 /// Code and frame of a compiled image may lie at the standard bases, and those of eight images beside one
 /// another, the code 2^20 and the frames 2^16 bytes apart.
 pub fn bases_fit()
-    ensures { (program : ProgramTree) (before : List ProcedureTree) (p : ProcedureTree) (image : Fields) (k : ℕ) → IsCompiled program before p image → nodes_of (extents_of before) p ≤ MOST_NODES → k < most_images
+    ensures { (program : ProgramTree) (before : List ProcedureTree) (p : ProcedureTree) (image : Fields) (k : ℕ) → IsCompiled program before p image → nodes_of (extents_of before) p ≤ most_nodes → k < most_images
         → AreBases image (code_base + code_distance * k) (frame_base + frame_distance * k) }
 {}
 
@@ -102,7 +102,7 @@ pub fn cut_off_runs_are_right()
 /// that the text means. So it never says that the text has no meaning, or that the budget is used up.
 pub fn accepted_texts_are_evaluated()
     ensures { (profile : Profile) (text : List ℕ) (program : ProgramTree) (before : List ProcedureTree) (export : ProcedureTree) (args : List Arg) (budget : ℕ)
-        → Judges profile text (accepts program before export) → AreWithin (map param_of export.parameters) args → MOST_WORK ≤ budget
+        → Judges profile text (accepts program before export) → AreWithin (map param_of export.parameters) args → most_work ≤ budget
         → (results : Results) × Means program args results × (answer program args budget ≡ Ok results) }
 {
     faultless_arguments();

@@ -4,7 +4,7 @@ ghost use Rattle.std.specs.Prelude.{◌≡◌, ◌≤◌, length, map, All, IfOk
 ghost use Rattle.arguments.specs.Within.{AreWithin, HasShape};
 ghost use Rattle.codegen.specs.Loaded.{params_of, with_argument, with_arguments, code_at, loaded_at};
 ghost use Rattle.image_fields.specs.Fields.{IsImage};
-ghost use Rattle.image_fields.specs.declared.limits.TheConstants.{MOST_PARAMETERS};
+ghost use Rattle.image_fields.specs.Limits.{most_parameters};
 ghost use Rattle.rv_machine.specs.Harts.{state_of};
 ghost use Rattle.rv_machine.specs.Bytes.{zeros};
 ghost use Rattle.rv_machine.specs.Paged.{paged_bytes};
@@ -30,7 +30,7 @@ pub const FRAME_BASE: u32 = 0x1000_0000;
 /// The parameters of an image, in their order.
 pub fn params(alloc: Global, image: &Image) -> Result<Vec<Param>, AllocError>
     ensures params { IfOk result (λ params. params.items ≡ params_of image.now) }
-    ensures few { IfOk result (λ params. length params.items ≤ MOST_PARAMETERS) }
+    ensures few { IfOk result (λ params. length params.items ≤ most_parameters) }
     ensures allowed { IsImage image.now }
 {
     image.slots().iter().map(|slot| slot.param).collect(alloc)

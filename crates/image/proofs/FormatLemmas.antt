@@ -18,7 +18,7 @@ use Rattle.image.specs.Limits.{magic_number, format_version}
 use Rattle.word.specs.declared.profile.Profile as observer
 use Rattle.image.specs.declared.fields.Fault.{Fault}
 use Rattle.image_fields.specs.Fields.{Fields, slot_end, slots_end, is_length}
-use Rattle.image_fields.specs.declared.limits.TheConstants.{MOST_PARAMETERS}
+use Rattle.image_fields.specs.Limits.{most_parameters}
 use Rattle.image.specs.Format.{Format, ends, field, read_by, fault_at}
 use Rattle.image.specs.Reading.{numbered_profile, is_profile, coded_kind, coded_label, coded_form, is_offset, is_frame_size, is_step_limit, is_word_count, layout_end, slot_format, slots_format, flagged_format, result_format, words_format, image_format, reading}
 use Rattle.image.specs.private.Parts.{◌>>=◌, byte_at, number_at, field_at, found_at, coded_at, kind_of, label_of, form_of, preamble_at, slot_at, slots_at, result_slot_at, returned_at, words_at, LayoutFields, layout_at, CodeFields, code_at, fields_of, fields_at, all_of}
@@ -216,12 +216,12 @@ module _ (total : ℕ) where
     at_result slots = result_format (slots_end 0 slots) (at_frame slots)
 
     abbrev layout_format : Format
-    layout_format = field FieldOutOfRange 2 (λ n. leb n MOST_PARAMETERS) (λ count. slots_format count 0 at_result)
+    layout_format = field FieldOutOfRange 2 (λ n. leb n most_parameters) (λ count. slots_format count 0 at_result)
 
     layout_joins : (left : List ℕ) → read_by total layout_format left ≡ onward (layout_at left) (λ x. read_by total (next x.0) x.1)
     unfolding layout_at
     layout_joins left =
-        field_joins FieldOutOfRange 2 (λ n. leb n MOST_PARAMETERS) (λ count. slots_format count 0 at_result) left
+        field_joins FieldOutOfRange 2 (λ n. leb n most_parameters) (λ count. slots_format count 0 at_result) left
         ∙ steps _ _ _ _ (λ (count : ℕ × List ℕ). slots_join count.0 0 at_result count.1
         ∙ steps _ _ _ _ (λ (slots : List Slot × List ℕ). result_joins (slots_end 0 slots.0) (at_frame slots.0) slots.1
         ∙ steps _ _ _ _ (λ (returned : Option ResultSlot × List ℕ). field_joins FieldOutOfRange 4 (is_frame_size (layout_end (slots_end 0 slots.0) returned.0)) (λ frame. next (layout_of slots.0 returned.0 frame)) returned.1

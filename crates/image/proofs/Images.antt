@@ -14,7 +14,7 @@ use Rattle.word.specs.declared.profile.Profile as observer
 use Rattle.word.specs.declared.profile.Profile.TheVariants.{P1, P2}
 use Rattle.image.specs.declared.fields.Fault.{Fault}
 use Rattle.image_fields.specs.Fields.{Fields, slot_end, slots_end, result_end, AreSlots, IsResultSlot, IsImage}
-use Rattle.image_fields.specs.declared.limits.TheConstants.{MOST_PARAMETERS, MOST_FRAME_BYTES, MOST_STEPS, MOST_WORDS}
+use Rattle.image_fields.specs.Limits.{most_parameters, most_frame_bytes, most_steps, most_words}
 use Rattle.image.specs.private.Spelling.{profile_number, preamble, spelled_slot, spelled_result, spelling}
 use Rattle.image.specs.Reading.{numbered_profile, is_profile, is_frame_size, is_step_limit, is_word_count, layout_end, reading, Spells, IsUnlessMemory}
 use Rattle.image.specs.private.Parts.{◌>>=◌, number_at, field_at, preamble_at, slots_at, returned_at, words_at, LayoutFields, layout_at, CodeFields, code_at, fields_of, fields_at, all_of}
@@ -99,17 +99,17 @@ words_again (word ∷ words) rest fits =
 
 record IsFrame (low n : ℕ) : Type 0 where
   aligned : n % 4 ≡ 0
-  size : n ≤ MOST_FRAME_BYTES
+  size : n ≤ most_frame_bytes
   above : low ≤ n
 
 frame_is : (low n : ℕ) → is_frame_size low n ≡ true → IsFrame low n
 frame_is low n e =
-    let p = and_parts (eqb (n % 4) 0) (leb n MOST_FRAME_BYTES && leb low n) e in
-    let q = and_parts (leb n MOST_FRAME_BYTES) (leb low n) p.1 in
-    record { aligned = eqb-true (n % 4) 0 p.0; size = leb-true n MOST_FRAME_BYTES q.0; above = leb-true low n q.1 }
+    let p = and_parts (eqb (n % 4) 0) (leb n most_frame_bytes && leb low n) e in
+    let q = and_parts (leb n most_frame_bytes) (leb low n) p.1 in
+    record { aligned = eqb-true (n % 4) 0 p.0; size = leb-true n most_frame_bytes q.0; above = leb-true low n q.1 }
 
-is_frame_at : (low n : ℕ) → n % 4 ≡ 0 → n ≤ MOST_FRAME_BYTES → low ≤ n → is_frame_size low n ≡ true
-is_frame_at low n aligned size above = and_from (eqb (n % 4) 0) (leb n MOST_FRAME_BYTES && leb low n) (eq-eqb (n % 4) 0 aligned) (and_from (leb n MOST_FRAME_BYTES) (leb low n) (le-leb n MOST_FRAME_BYTES size) (le-leb low n above))
+is_frame_at : (low n : ℕ) → n % 4 ≡ 0 → n ≤ most_frame_bytes → low ≤ n → is_frame_size low n ≡ true
+is_frame_at low n aligned size above = and_from (eqb (n % 4) 0) (leb n most_frame_bytes && leb low n) (eq-eqb (n % 4) 0 aligned) (and_from (leb n most_frame_bytes) (leb low n) (le-leb n most_frame_bytes size) (le-leb low n above))
 
 -- slots end in order
 slots_end_above : (low : ℕ) (slots : List Slot) → AreSlots low slots → low ≤ slots_end low slots
@@ -146,11 +146,11 @@ layout_inside low frame (Some slot) le h = h
 -- ---- the layout
 
 record IsLayout (layout : LayoutFields) : Type 0 where
-  count : length layout.slots ≤ MOST_PARAMETERS
+  count : length layout.slots ≤ most_parameters
   are : AreSlots 0 layout.slots
   result : IfSome layout.returned (λ slot. IsResultSlot (slots_end 0 layout.slots) slot)
   aligned : layout.frame_bytes % 4 ≡ 0
-  size : layout.frame_bytes ≤ MOST_FRAME_BYTES
+  size : layout.frame_bytes ≤ most_frame_bytes
   slots_inside : AllByRecursion (λ slot. slot_end slot ≤ layout.frame_bytes) layout.slots
   returned_inside : IfSome layout.returned (λ slot. result_end slot ≤ layout.frame_bytes)
 
@@ -160,12 +160,12 @@ spelled_parts layout = little_bytes 2 (length layout.slots) ++ (flat_map spelled
 layout_takes : (bytes : List ℕ) (x : LayoutFields × List ℕ) → IsBytes bytes → layout_at bytes ≡ Ok x → Takes bytes (spelled_parts x.0) x.1 × IsLayout x.0
 unfolding layout_at
 layout_takes bytes x fits e =
-    let a = bind_ok (field_at 2 (λ n. leb n MOST_PARAMETERS) FieldOutOfRange bytes) (λ count. slots_at count.0 0 count.1 >>= λ slots. returned_at (slots_end 0 slots.0) slots.1 >>= λ returned. field_at 4 (is_frame_size (layout_end (slots_end 0 slots.0) returned.0)) FieldOutOfRange returned.1 >>= λ frame. Ok (record { slots = slots.0; returned = returned.0; frame_bytes = frame.0 }, frame.1)) x e in
+    let a = bind_ok (field_at 2 (λ n. leb n most_parameters) FieldOutOfRange bytes) (λ count. slots_at count.0 0 count.1 >>= λ slots. returned_at (slots_end 0 slots.0) slots.1 >>= λ returned. field_at 4 (is_frame_size (layout_end (slots_end 0 slots.0) returned.0)) FieldOutOfRange returned.1 >>= λ frame. Ok (record { slots = slots.0; returned = returned.0; frame_bytes = frame.0 }, frame.1)) x e in
     let b = bind_ok (slots_at a.0.0 0 a.0.1) (λ slots. returned_at (slots_end 0 slots.0) slots.1 >>= λ returned. field_at 4 (is_frame_size (layout_end (slots_end 0 slots.0) returned.0)) FieldOutOfRange returned.1 >>= λ frame. Ok (record { slots = slots.0; returned = returned.0; frame_bytes = frame.0 }, frame.1)) x a.2 in
     let low = slots_end 0 b.0.0 in
     let c = bind_ok (returned_at low b.0.1) (λ returned. field_at 4 (is_frame_size (layout_end low returned.0)) FieldOutOfRange returned.1 >>= λ frame. Ok (record { slots = b.0.0; returned = returned.0; frame_bytes = frame.0 }, frame.1)) x b.2 in
     let d = bind_ok (field_at 4 (is_frame_size (layout_end low c.0.0)) FieldOutOfRange c.0.1) (λ frame. Ok (record { slots = b.0.0; returned = c.0.0; frame_bytes = frame.0 }, frame.1)) x c.2 in
-    let t0 = field_takes 2 wide2 (λ n. leb n MOST_PARAMETERS) FieldOutOfRange bytes a.0 fits a.1 in
+    let t0 = field_takes 2 wide2 (λ n. leb n most_parameters) FieldOutOfRange bytes a.0 fits a.1 in
     let t1 = slots_take a.0.0 0 a.0.1 b.0 t0.0.rest_fits b.1 in
     let t2 = returned_takes low b.0.1 c.0 t1.0.rest_fits c.1 in
     let t3 = field_takes 4 wide4 (is_frame_size (layout_end low c.0.0)) FieldOutOfRange c.0.1 d.0 t2.0.rest_fits d.1 in
@@ -174,7 +174,7 @@ layout_takes bytes x fits e =
     let e03 = Takes-then bytes (little_bytes 2 a.0.0) a.0.1 (flat_map spelled_slot b.0.0 ++ (spelled_result c.0.0 ++ little_bytes 4 d.0.0)) d.0.1 t0.0 e13 in
     let whole = subst (λ (n : ℕ). Takes bytes (little_bytes 2 n ++ (flat_map spelled_slot b.0.0 ++ (spelled_result c.0.0 ++ little_bytes 4 d.0.0))) d.0.1) (sym t1.1) e03 in
     let f = frame_is (layout_end low c.0.0) d.0.0 t3.2 in
-    let most : a.0.0 ≤ MOST_PARAMETERS = leb-true a.0.0 MOST_PARAMETERS t0.2 in
+    let most : a.0.0 ≤ most_parameters = leb-true a.0.0 most_parameters t0.2 in
     let above = layout_end_above low c.0.0 t2.1 in
     let inside : low ≤ d.0.0 = omega (arith, above, f.above) in
     let made : LayoutFields = record { slots = b.0.0; returned = c.0.0; frame_bytes = d.0.0 } in
@@ -195,15 +195,15 @@ layout_again layout rest h =
     let frames : layout.frame_bytes < 256 ^ 4 = omega (arith, h.size) in
     let inside : low ≤ layout.frame_bytes = last_inside 0 layout.frame_bytes layout.slots (omega arith) h.slots_inside in
     let all : layout_end low layout.returned ≤ layout.frame_bytes = layout_inside low layout.frame_bytes layout.returned inside h.returned_inside in
-    ap layout_at regrouped ∙ rw (field_again 2 (λ n. leb n MOST_PARAMETERS) FieldOutOfRange (length layout.slots) after_count counts (le-leb (length layout.slots) MOST_PARAMETERS h.count), slots_again 0 layout.slots after_slots h.are, returned_again low layout.returned after_result h.result, field_again 4 (is_frame_size (layout_end low layout.returned)) FieldOutOfRange layout.frame_bytes rest frames (is_frame_at (layout_end low layout.returned) layout.frame_bytes h.aligned h.size all)) refl
+    ap layout_at regrouped ∙ rw (field_again 2 (λ n. leb n most_parameters) FieldOutOfRange (length layout.slots) after_count counts (le-leb (length layout.slots) most_parameters h.count), slots_again 0 layout.slots after_slots h.are, returned_again low layout.returned after_result h.result, field_again 4 (is_frame_size (layout_end low layout.returned)) FieldOutOfRange layout.frame_bytes rest frames (is_frame_at (layout_end low layout.returned) layout.frame_bytes h.aligned h.size all)) refl
 
 -- ---- the code
 
 record IsCode (code : CodeFields) : Type 0 where
   some_step : 1 ≤ code.max_steps
-  steps : code.max_steps ≤ MOST_STEPS
+  steps : code.max_steps ≤ most_steps
   some_word : 1 ≤ length code.words
-  word_count : length code.words ≤ MOST_WORDS
+  word_count : length code.words ≤ most_words
   fit : AllByRecursion (λ word. word < 2 ^ 32) code.words
 
 abbrev spelled_run : CodeFields → List ℕ
@@ -221,12 +221,12 @@ code_takes bytes x fits e =
     let e12 = Takes-then a.0.1 (little_bytes 4 b.0.0) b.0.1 (flat_map (λ word. little_bytes 4 word) c.0.0) c.0.1 t1.0 t2.0 in
     let e02 = Takes-then bytes (little_bytes 8 a.0.0) a.0.1 (little_bytes 4 b.0.0 ++ flat_map (λ word. little_bytes 4 word) c.0.0) c.0.1 t0.0 e12 in
     let whole = subst (λ (n : ℕ). Takes bytes (little_bytes 8 a.0.0 ++ (little_bytes 4 n ++ flat_map (λ word. little_bytes 4 word) c.0.0)) c.0.1) (sym t2.1) e02 in
-    let p = and_parts (leb 1 a.0.0) (leb a.0.0 MOST_STEPS) t0.2 in
-    let q = and_parts (leb 1 b.0.0) (leb b.0.0 MOST_WORDS) t1.2 in
+    let p = and_parts (leb 1 a.0.0) (leb a.0.0 most_steps) t0.2 in
+    let q = and_parts (leb 1 b.0.0) (leb b.0.0 most_words) t1.2 in
     let low : 1 ≤ b.0.0 = leb-true 1 b.0.0 q.0 in
-    let high : b.0.0 ≤ MOST_WORDS = leb-true b.0.0 MOST_WORDS q.1 in
+    let high : b.0.0 ≤ most_words = leb-true b.0.0 most_words q.1 in
     let made : CodeFields = record { max_steps = a.0.0; words = c.0.0 } in
-    let fact : IsCode made = record { some_step = leb-true 1 a.0.0 p.0; steps = leb-true a.0.0 MOST_STEPS p.1; some_word = omega (arith, t2.1, low); word_count = omega (arith, t2.1, high); fit = t2.2 } in
+    let fact : IsCode made = record { some_step = leb-true 1 a.0.0 p.0; steps = leb-true a.0.0 most_steps p.1; some_word = omega (arith, t2.1, low); word_count = omega (arith, t2.1, high); fit = t2.2 } in
     subst (λ (y : CodeFields × List ℕ). Takes bytes (spelled_run y.0) y.1 × IsCode y.0) (ok_is (made, c.0.1) x c.2) (whole, fact)
 
 code_again : (code : CodeFields) (rest : List ℕ) → IsCode code → code_at (spelled_run code ++ rest) ≡ Ok (code, rest)
@@ -237,7 +237,7 @@ code_again code rest h =
     let regrouped : spelled_run code ++ rest ≡ little_bytes 8 code.max_steps ++ after_steps = refl in
     let steps : code.max_steps < 256 ^ 8 = omega (arith, h.steps) in
     let counts : length code.words < 256 ^ 4 = omega (arith, h.word_count) in
-    ap code_at regrouped ∙ rw (field_again 8 is_step_limit FieldOutOfRange code.max_steps after_steps steps (and_from (leb 1 code.max_steps) (leb code.max_steps MOST_STEPS) (le-leb 1 code.max_steps h.some_step) (le-leb code.max_steps MOST_STEPS h.steps)), field_again 4 is_word_count FieldOutOfRange (length code.words) after_count counts (and_from (leb 1 (length code.words)) (leb (length code.words) MOST_WORDS) (le-leb 1 (length code.words) h.some_word) (le-leb (length code.words) MOST_WORDS h.word_count)), words_again code.words rest h.fit) refl
+    ap code_at regrouped ∙ rw (field_again 8 is_step_limit FieldOutOfRange code.max_steps after_steps steps (and_from (leb 1 code.max_steps) (leb code.max_steps most_steps) (le-leb 1 code.max_steps h.some_step) (le-leb code.max_steps most_steps h.steps)), field_again 4 is_word_count FieldOutOfRange (length code.words) after_count counts (and_from (leb 1 (length code.words)) (leb (length code.words) most_words) (le-leb 1 (length code.words) h.some_word) (le-leb (length code.words) most_words h.word_count)), words_again code.words rest h.fit) refl
 
 -- ---- all fields
 

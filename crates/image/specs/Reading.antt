@@ -13,7 +13,7 @@ use Rattle.image.specs.declared.fault.ImageRule.TheVariants.{Magic, Version, Pro
 use Rattle.image.specs.declared.fault.ImageFault.{ImageFault}
 use Rattle.image.specs.declared.fault.ImageFault.TheVariants.{Field, Memory}
 use Rattle.image_fields.specs.Fields.{Fields, slot_end, slots_end, result_end, is_length}
-use Rattle.image_fields.specs.declared.limits.TheConstants.{MOST_PARAMETERS, MOST_FRAME_BYTES, MOST_STEPS, MOST_WORDS}
+use Rattle.image_fields.specs.Limits.{most_parameters, most_frame_bytes, most_steps, most_words}
 use Rattle.image.specs.Limits.{magic_number, format_version}
 use Rattle.word.specs.declared.profile.Profile as observer
 use Rattle.word.specs.declared.profile.Profile.TheVariants.{P1, P2}
@@ -49,13 +49,13 @@ abbrev pub is_offset : ℕ → ℕ → Bool
 is_offset low n = (n % 4 == 0) && nat_le low n
 
 abbrev pub is_frame_size : ℕ → ℕ → Bool
-is_frame_size low n = (n % 4 == 0) && (nat_le n MOST_FRAME_BYTES && nat_le low n)
+is_frame_size low n = (n % 4 == 0) && (nat_le n most_frame_bytes && nat_le low n)
 
 abbrev pub is_step_limit : ℕ → Bool
-is_step_limit n = nat_le 1 n && nat_le n MOST_STEPS
+is_step_limit n = nat_le 1 n && nat_le n most_steps
 
 abbrev pub is_word_count : ℕ → Bool
-is_word_count n = nat_le 1 n && nat_le n MOST_WORDS
+is_word_count n = nat_le 1 n && nat_le n most_words
 
 -- a parameter's slot, the one before it ending at `low`
 unfoldable pub slot_format : ℕ → (Slot → Format) → Format
@@ -100,7 +100,7 @@ image_format =
     field Magic 4 (λ n. n == magic_number) (λ magic.
     field Version 2 (λ n. n == format_version) (λ version.
     field Profile 2 is_profile (λ profile.
-    field FieldOutOfRange 2 (λ n. nat_le n MOST_PARAMETERS) (λ count.
+    field FieldOutOfRange 2 (λ n. nat_le n most_parameters) (λ count.
     slots_format count 0 (λ slots.
     result_format (slots_end 0 slots) (λ returned.
     field FieldOutOfRange 4 (is_frame_size (layout_end (slots_end 0 slots) returned)) (λ frame.

@@ -4,7 +4,7 @@ ghost use Rattle.std.specs.Prelude.{◌≡◌, ◌+◌, ◌%◌, ◌==◌, nat_l
 ghost use Rattle.image.specs.declared.fields.ReadError.TheVariants.{Memory};
 ghost use Rattle.image_fields.specs.Fields.{is_length};
 ghost use Rattle.image.specs.Limits.{magic_number, format_version};
-ghost use Rattle.image_fields.specs.declared.limits.TheConstants.{MOST_PARAMETERS};
+ghost use Rattle.image_fields.specs.Limits.{most_parameters};
 ghost use Rattle.image.specs.Reading.{numbered_profile, is_profile, is_offset, is_frame_size, is_step_limit, is_word_count};
 ghost use Rattle.image.specs.private.Parts.{Gives, Fails, byte_at, number_at, field_at, coded_at, kind_of, label_of, form_of, preamble_at, slot_at, result_slot_at, returned_at};
 
@@ -151,7 +151,7 @@ pub fn read_preamble(bytes: &[u8]) -> Result<(Profile, &[u8]), ReadError>
 
 #[tactic(auto, unfolding(crate::specs::private::Parts::field_at))]
 pub fn read_parameter_count(bytes: &[u8]) -> Result<(u16, &[u8]), ReadError>
-    ensures { Gives (λ x. (x.0, x.1.now)) result (field_at 2 (λ n. nat_le n MOST_PARAMETERS) ImageRule.FieldOutOfRange bytes.now) }
+    ensures { Gives (λ x. (x.0, x.1.now)) result (field_at 2 (λ n. nat_le n most_parameters) ImageRule.FieldOutOfRange bytes.now) }
 {
     let (count, rest) = read_u16(bytes)?;
     if count > MOST_PARAMETERS {

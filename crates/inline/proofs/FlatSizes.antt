@@ -8,7 +8,7 @@ use Rattle.inline.specs.Flat as tree
 use Rattle.inline.specs.FlatSize as flat
 use Rattle.inline.specs.FlatSize.{term_nodes, body_nodes, words_by, declared_words, IsSized}
 use Rattle.inline.specs.Numbering.{Numbers, Callables, callables, call_block, call_variables, call_result, call_value, right_block, right_variables, right_end, right, value_given, dropped_block, dropped_variables, declared_in, declared_in_all, numbers_taken, numbers_taken_all, naming, names_after, statement, block, single, number_of, size_of, param_of, parameter_names, return_names, flattened}
-use Rattle.language.specs.declared.limits.TheConstants.{MOST_NODES, MOST_BODIES, MOST_DECLARED_BYTES}
+use Rattle.language.specs.Limits.{most_nodes, most_bodies, most_declared_bytes}
 use Rattle.language.specs.declared.rule.Rule.{Rule}
 use Rattle.language.specs.declared.rule.Rule.TheVariants.{InlinedSize, DeclaredBytes}
 use Rattle.language.specs.declared.signature.Form.{Form}
@@ -45,17 +45,17 @@ first_not true b e = e
 within : (most n : ℕ) → nat_lt most n ≡ false → n ≤ most
 within most n h = grind (arith, nat_tests)
 
-limits : (before : List ProcedureTree) (p : ProcedureTree) → length (size_violations before p) ≡ 0 → (nodes_of (extents_of before) p ≤ 6000) × (declared_bytes (extents_of before) p ≤ 32768)
+limits : (before : List ProcedureTree) (p : ProcedureTree) → length (size_violations before p) ≡ 0 → (nodes_of (extents_of before) p ≤ most_nodes) × (declared_bytes (extents_of before) p ≤ most_declared_bytes)
 limits before p h =
-    let many = nat_lt MOST_NODES (nodes_of (extents_of before) p) in
-    let deep = nat_lt MOST_BODIES (bodies_of (extents_of before) p) in
+    let many = nat_lt most_nodes (nodes_of (extents_of before) p) in
+    let deep = nat_lt most_bodies (bodies_of (extents_of before) p) in
     let a = when (many || deep) InlinedSize in
-    let b = when (nat_lt MOST_DECLARED_BYTES (declared_bytes (extents_of before) p)) DeclaredBytes in
+    let b = when (nat_lt most_declared_bytes (declared_bytes (extents_of before) p)) DeclaredBytes in
     let m = length-map {B = Violation} (a ++ b) (λ rule. record { place = p.place; rule = rule }) in
     let n = length-append a b in
     let one : length a ≡ 0 = omega (arith, h, m, n) in
     let other : length b ≡ 0 = omega (arith, h, m, n) in
-    (within MOST_NODES (nodes_of (extents_of before) p) (first_not many deep (not_passed _ InlinedSize one)), within MOST_DECLARED_BYTES (declared_bytes (extents_of before) p) (not_passed _ DeclaredBytes other))
+    (within most_nodes (nodes_of (extents_of before) p) (first_not many deep (not_passed _ InlinedSize one)), within most_declared_bytes (declared_bytes (extents_of before) p) (not_passed _ DeclaredBytes other))
 
 -- Statements.
 

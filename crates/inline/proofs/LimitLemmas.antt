@@ -2,7 +2,7 @@
 use Rattle.std.proofs.Common.{◌≡◌, ℕ, ◌<◌, ◌≤◌, ◌||◌, inr, Bool, nat_lt, List, [], ◌++◌, length, Some, Result, Ok, Err, IfOk, IfErr, refl, sym, ap, ap₂, subst, ◌∙◌, arith}
 use Rattle.std.proofs.lemmas.Bool.Decides.{nat_tests}
 use Rattle.word.specs.declared.place.Place.{Place}
-use Rattle.language.specs.declared.limits.TheConstants.{MOST_NODES, MOST_DECLARED_BYTES, MOST_BODIES}
+use Rattle.language.specs.Limits.{most_nodes, most_declared_bytes, most_bodies}
 use Rattle.language.specs.declared.refusal.Refusal.{Refusal}
 use Rattle.language.specs.declared.rule.Rule.TheVariants.{InlinedSize, DeclaredBytes}
 use Rattle.language.specs.declared.typing.Violation.{Violation}
@@ -24,13 +24,13 @@ same_test limit a b small same = grind (arith, nat_tests)
 module _ (counts extents : Extents) (p : ProcedureTree) (same : AreCountsOf counts extents) where
   same_limits : passed_limits counts p ≡ passed_limits extents p
   same_limits =
-      let nodes = same_test MOST_NODES (nodes_of counts p) (nodes_of extents p) (omega arith) (nodes_same counts extents same p) in
-      let bodies = same_test MOST_BODIES (bodies_of counts p) (bodies_of extents p) (omega arith) (bodies_same counts extents same p) in
-      let bytes = same_test MOST_DECLARED_BYTES (declared_bytes counts p) (declared_bytes extents p) (omega arith) (omega (arith, block_words_same counts extents same p.body)) in
+      let nodes = same_test most_nodes (nodes_of counts p) (nodes_of extents p) (omega arith) (nodes_same counts extents same p) in
+      let bodies = same_test most_bodies (bodies_of counts p) (bodies_of extents p) (omega arith) (bodies_same counts extents same p) in
+      let bytes = same_test most_declared_bytes (declared_bytes counts p) (declared_bytes extents p) (omega arith) (omega (arith, block_words_same counts extents same p.body)) in
       ap₂ (by_tests p.place) (ap₂ ◌||◌ nodes bodies) bytes
 
   -- so what is said of the counts is said of the extents
-  pub nodes_told : (r : Result ℕ Refusal) → IfOk r (λ nodes. nodes ≡ nodes_of counts p) → IfOk r (λ nodes. nodes ≤ MOST_NODES) → IfOk r (λ nodes. nodes ≡ nodes_of extents p)
+  pub nodes_told : (r : Result ℕ Refusal) → IfOk r (λ nodes. nodes ≡ nodes_of counts p) → IfOk r (λ nodes. nodes ≤ most_nodes) → IfOk r (λ nodes. nodes ≡ nodes_of extents p)
   nodes_told (Ok n) is few = omega (arith, is, few, nodes_same counts extents same p)
   nodes_told (Err e) is few = tt
 

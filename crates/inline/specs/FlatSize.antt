@@ -3,8 +3,8 @@ use Rattle.std.specs.Prelude.{◌≡◌, ℕ, ◌+◌, ◌*◌, ◌≤◌, List,
 use Rattle.std.specs.List.{AllByRecursion}
 use Rattle.inline.specs.declared.flat.FlatVariable.{FlatVariable}
 use Rattle.inline.specs.Flat.{TermTree, number, truth, variable, prefix, binary, rotate, convert, select, element, FlatTree, declare, array, assign, put, hold, skip, branch, loop, FlatBlock, nothing, first, FlatProgram, declaration_of}
-pub use Rattle.inline.specs.declared.limits.TheConstants.{MOST_VARIABLE_BYTES}
-use Rattle.language.specs.declared.limits.TheConstants.{MOST_NODES, MOST_DECLARED_BYTES, MOST_ELEMENTS}
+pub use Rattle.inline.specs.Limits.{most_variable_bytes}
+use Rattle.language.specs.Limits.{most_nodes, most_declared_bytes, most_elements}
 use Rattle.language.specs.declared.signature.Form.{Form}
 use Rattle.language.specs.declared.signature.Form.TheVariants.{SingleWord, FixedArray, MutableArray}
 use Rattle.language.specs.declared.signature.Param.{Param}
@@ -65,16 +65,16 @@ declared_words (d ∷ ds) = words_of d + declared_words ds
 -- a parameter's length: 1 of a word, and an array has at least one element
 abbrev pub HasLength : Form → ℕ → Type 0
 HasLength SingleWord length = length ≡ 1
-HasLength FixedArray length = (1 ≤ length) × (length ≤ MOST_ELEMENTS)
-HasLength MutableArray length = (1 ≤ length) × (length ≤ MOST_ELEMENTS)
+HasLength FixedArray length = (1 ≤ length) × (length ≤ most_elements)
+HasLength MutableArray length = (1 ≤ length) × (length ≤ most_elements)
 
 -- a program within the limits on size
 pub record IsSized (p : FlatProgram) : Type 0 where
   pub lengths : AllByRecursion (λ (parameter : Param). HasLength parameter.form parameter.length) p.parameters
   -- the parameters are within what the source may declare
-  pub parameters : 4 * declared_words (map declaration_of p.parameters) ≤ MOST_DECLARED_BYTES
+  pub parameters : 4 * declared_words (map declaration_of p.parameters) ≤ most_declared_bytes
   -- what the source declares, and the words that are held besides: one for every three nodes at most
-  pub declared : 4 * declared_words p.declared ≤ MOST_VARIABLE_BYTES
+  pub declared : 4 * declared_words p.declared ≤ most_variable_bytes
   -- its nodes are those of the source
   pub counted : body_nodes p.body + value_nodes p.value ≡ p.nodes
-  pub nodes : p.nodes ≤ MOST_NODES
+  pub nodes : p.nodes ≤ most_nodes

@@ -1,3 +1,4 @@
+pub mod Limits
 pub mod Flat
 pub mod Codes
 pub mod Numbering

@@ -2,7 +2,7 @@
 use Rattle.std.specs.Prelude.{◌≡◌, ℕ, ◌||◌, ◌++◌, List, map, min, nat_lt}
 use Rattle.std.specs.Option.{option_map}
 use Rattle.inline.specs.declared.measured.Measured.{Measured}
-use Rattle.language.specs.declared.limits.TheConstants.{MOST_NODES, MOST_DECLARED_BYTES, MOST_BODIES}
+use Rattle.language.specs.Limits.{most_nodes, most_declared_bytes, most_bodies}
 use Rattle.language.specs.declared.rule.Rule.TheVariants.{InlinedSize, DeclaredBytes}
 use Rattle.language.specs.declared.typing.Violation.{Violation}
 use Rattle.language.specs.Size.{Extent, Extents, nodes_of, bodies_of, declared_bytes}
@@ -41,5 +41,5 @@ AreCountsOf counts extents = (text : List ℕ) → counts text ≡ option_map co
 -- the limits that a procedure passes by what is known of others
 abbrev pub passed_limits : Extents → ProcedureTree → List Violation
 passed_limits extents p =
-    at p.place (when (nat_lt MOST_NODES (nodes_of extents p) || nat_lt MOST_BODIES (bodies_of extents p)) InlinedSize
-    ++ when (nat_lt MOST_DECLARED_BYTES (declared_bytes extents p)) DeclaredBytes)
+    at p.place (when (nat_lt most_nodes (nodes_of extents p) || nat_lt most_bodies (bodies_of extents p)) InlinedSize
+    ++ when (nat_lt most_declared_bytes (declared_bytes extents p)) DeclaredBytes)

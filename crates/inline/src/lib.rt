@@ -21,5 +21,5 @@ pub use inlining::inline;
 pub use laws::{
     flat_is_sized, flat_is_typed, flat_keeps_meaning, flat_values_fit, typed_values_fit,
 };
-pub use limits::MOST_VARIABLE_BYTES;
+pub use limits::{MOST_VARIABLE_BYTES, limits_are_as_stated};
 pub use program::Flat;

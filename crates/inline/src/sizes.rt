@@ -1,9 +1,10 @@
 // The limits on a program's size. Each procedure is measured once, by what is known of the earlier ones.
 
-ghost use Rattle.std.specs.Prelude.{◌≡◌, ◌+◌, ◌≤◌, ◌↔◌, [], length, map, IsTrue, IfOk, IfErr, Some};
+ghost use Rattle.std.specs.Prelude.{◌≡◌, ◌+◌, ◌/◌, ◌≤◌, ◌↔◌, [], length, map, IsTrue, IfOk, IfErr, Some};
 ghost use Rattle.std.specs.Option.{SomeIff};
 ghost use Rattle.inline.specs.Measured.{AreCountsOf, counted, counted_extent, extent_of_measured, extents_in, passed_limits};
 ghost use Rattle.language.specs.FirstViolation.{IsFirst, IsRefusedFor};
+ghost use Rattle.language.specs.Limits.{most_nodes, most_declared_bytes};
 ghost use Rattle.language.specs.Size.{block_words, extent_of, extents_of, nodes_of, parameter_words, passed_words, size_violations};
 ghost use Rattle.language.specs.Tree.{block_tree, parameter_tree, procedure_tree};
 ghost use Rattle.language.specs.WantOfMemory.{IsWantOfMemory};
@@ -75,7 +76,7 @@ fn measured_all<'s, 'a>(
 
 /// Whether a procedure declares no more words than allowed.
 fn words_fit(earlier: &Names<'_, Measured<'_, '_>>, export: &Procedure<'_>) -> bool
-    ensures { IsTrue result ↔ (parameter_words (map parameter_tree export.now.parameters.items) + block_words (extents_in earlier.now) (block_tree export.now.body.items) ≤ MOST_WORDS) }
+    ensures { IsTrue result ↔ (parameter_words (map parameter_tree export.now.parameters.items) + block_words (extents_in earlier.now) (block_tree export.now.body.items) ≤ most_declared_bytes / 4) }
 {
     let Some(room) = words_after_parameters(&export.parameters, MOST_WORDS) else {
         return false;
@@ -85,7 +86,7 @@ fn words_fit(earlier: &Names<'_, Measured<'_, '_>>, export: &Procedure<'_>) -> b
 
 /// How many nodes a procedure has, where they are no more than allowed.
 fn nodes_within(earlier: &Names<'_, Measured<'_, '_>>, export: &Procedure<'_>) -> Option<u32>
-    ensures { SomeIff result (nodes_of (extents_in earlier.now) (procedure_tree export.now) ≤ MOST_NODES) (nodes_of (extents_in earlier.now) (procedure_tree export.now)) }
+    ensures { SomeIff result (nodes_of (extents_in earlier.now) (procedure_tree export.now) ≤ most_nodes) (nodes_of (extents_in earlier.now) (procedure_tree export.now)) }
 {
     Some(MOST_NODES - nodes_after_procedure(earlier, export, MOST_NODES)?)
 }
@@ -96,7 +97,7 @@ fn measure_behind(
     export: &Procedure<'_>,
 ) -> Result<u32, Refusal>
     ensures nodes { IfOk result (λ nodes. nodes ≡ nodes_of (extents_in earlier.now) (procedure_tree export.now)) }
-    ensures most_nodes { IfOk result (λ nodes. nodes ≤ MOST_NODES) }
+    ensures most_nodes { IfOk result (λ nodes. nodes ≤ most_nodes) }
     ensures within { IfOk result (λ _. passed_limits (extents_in earlier.now) (procedure_tree export.now) ≡ []) }
     ensures place { IfErr result (λ refusal. refusal.place ≡ Some export.now.place) }
     ensures first { IfErr result (λ refusal. IsFirst (passed_limits (extents_in earlier.now) (procedure_tree export.now)) (record { place = export.now.place; rule = refusal.rule })) }
@@ -121,7 +122,7 @@ pub fn measure(
     export: &Procedure<'_>,
 ) -> Result<u32, Refusal>
     ensures nodes { IfOk result (λ nodes. nodes ≡ nodes_of (extents_of (map procedure_tree earlier.now)) (procedure_tree export.now)) }
-    ensures most_nodes { IfOk result (λ nodes. nodes ≤ MOST_NODES) }
+    ensures most_nodes { IfOk result (λ nodes. nodes ≤ most_nodes) }
     ensures within { IfOk result (λ _. length (size_violations (map procedure_tree earlier.now) (procedure_tree export.now)) ≡ 0) }
     ensures refused { IfErr result (λ refusal. IsRefusedFor (size_violations (map procedure_tree earlier.now) (procedure_tree export.now)) refusal.rule refusal.place) }
     ensures memory { earlier.now ≡ [] → IfErr result (λ refusal. IsWantOfMemory refusal.rule refusal.place → ⊥) }

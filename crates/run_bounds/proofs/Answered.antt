@@ -7,12 +7,12 @@ use Rattle.inline.specs.FlatMeaning.{outcome_of}
 use Rattle.inline.specs.FlatTyping.{IsTypedProgram}
 use Rattle.inline.specs.Numbering.{flattened, param_of}
 use Rattle.inline.proofs.FlatMeanings.{flat_keeps_meaning}
-use Rattle.intervals.specs.declared.limits.TheConstants.{MOST_WORK}
+use Rattle.intervals.specs.Limits.{most_work}
 use Rattle.intervals.specs.Ranges.{range_violations, turns_of}
 use Rattle.intervals.specs.Work.{work_of}
 use Rattle.intervals.proofs.EvaluatedLemmas.{safe_runs_are_within_work}
 use Rattle.intervals.proofs.Safe.{accepted_is_safe, safe_runs_meet_no_fault}
-use Rattle.language.specs.declared.limits.TheConstants.{MOST_BODIES}
+use Rattle.language.specs.Limits.{most_bodies}
 use Rattle.language.specs.declared.values.Arg.{Arg}
 use Rattle.language.specs.Evaluation.{Run, program_run}
 use Rattle.language.specs.Grammatical.{IsGrammatical}
@@ -38,8 +38,8 @@ within_budget r budget outcome few shallow is =
 
 pub answered : (profile : Profile) (program : ProgramTree) (before : List ProcedureTree) (p : ProcedureTree) (args : List Arg) (budget : ℕ) → length (violations profile program) ≡ 0 → exported [] program.procedures ≡ Some (before, p)
     → AllByRecursion IsGrammatical before → IsGrammatical p → IsTypedProgram (flattened profile before p)
-    → bodies_of (extents_of before) p ≤ MOST_BODIES → length (range_violations (flattened profile before p)) ≡ 0 → work_of (flattened profile before p) ≤ MOST_WORK
-    → AreWithin (map param_of p.parameters) args → MOST_WORK ≤ budget
+    → bodies_of (extents_of before) p ≤ most_bodies → length (range_violations (flattened profile before p)) ≡ 0 → work_of (flattened profile before p) ≤ most_work
+    → AreWithin (map param_of p.parameters) args → most_work ≤ budget
     → run_answer (program_run program args) budget ≡ Ok (outcome_of (flattened profile before p) args)
 answered profile program before p args budget h is grammatical plain typed shallow in_range worked within enough =
     let flat = flattened profile before p in

@@ -6,11 +6,11 @@ ghost use Rattle.arguments.specs.Within.{AreWithin};
 ghost use Rattle.inline.specs.FlatMeaning.{outcome_of};
 ghost use Rattle.inline.specs.FlatTyping.{IsTypedProgram};
 ghost use Rattle.inline.specs.Numbering.{flattened};
-ghost use Rattle.intervals.specs.declared.limits.TheConstants.{MOST_WORK};
+ghost use Rattle.intervals.specs.Limits.{most_work};
 ghost use Rattle.intervals.specs.Evaluated.{evaluated_by};
 ghost use Rattle.intervals.specs.Ranges.{range_violations};
 ghost use Rattle.intervals.specs.Work.{work_of};
-ghost use Rattle.language.specs.declared.limits.TheConstants.{MOST_BODIES};
+ghost use Rattle.language.specs.Limits.{most_bodies};
 ghost use Rattle.language.specs.declared.values.Arg.{Arg};
 ghost use Rattle.language.specs.Evaluation.{program_run};
 ghost use Rattle.language.specs.Grammatical.{IsGrammatical};
@@ -34,7 +34,7 @@ pub fn runs_evaluate_what_is_counted()
 pub fn accepted_programs_are_answered()
     ensures { (profile : Profile) (program : ProgramTree) (before : List ProcedureTree) (p : ProcedureTree) (args : List Arg) (budget : ℕ) → length (violations profile program) ≡ 0
         → exported [] program.procedures ≡ Some (before, p) → AllByRecursion IsGrammatical before → IsGrammatical p → IsTypedProgram (flattened profile before p)
-        → bodies_of (extents_of before) p ≤ MOST_BODIES → length (range_violations (flattened profile before p)) ≡ 0 → work_of (flattened profile before p) ≤ MOST_WORK
-        → AreWithin (map param_of p.parameters) args → MOST_WORK ≤ budget
+        → bodies_of (extents_of before) p ≤ most_bodies → length (range_violations (flattened profile before p)) ≡ 0 → work_of (flattened profile before p) ≤ most_work
+        → AreWithin (map param_of p.parameters) args → most_work ≤ budget
         → run_answer (program_run program args) budget ≡ Ok (outcome_of (flattened profile before p) args) }
 {}

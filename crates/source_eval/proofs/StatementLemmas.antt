@@ -11,6 +11,7 @@ use Rattle.language.specs.declared.tree.Procedure.{Procedure}
 use Rattle.language.specs.declared.tree.Statement.{Statement, If, For}
 use Rattle.language.specs.declared.tree.Counter.{Counter}
 use Rattle.language.specs.Evaluation.{Run, Runnable, Runnables, runnable, given, inside, passed, value, body_run, branch_run, call_run, called_run, loop_run, export_run, results, turns, run, run_all}
+use Rattle.language.specs.Limits.{most_bodies}
 use Rattle.language.specs.Meaning.{named, Returned, word_arguments, begun, copied_out, counting, final_arrays, holding}
 use Rattle.language.specs.declared.values.Arg.{Arg}
 use Rattle.language.specs.Results.{Results}
@@ -176,17 +177,17 @@ module _ (before : List Procedure) (export : Procedure) (args : List Arg) (left 
   holds_so = begins ∙ ap (λ xs. holding (map parameter_tree xs) args) parameters
 
   pub export_stops : (fault : EvalFault) → Stopped (body_run (known_of before) (procedure_tree export) state) left 63 fault
-      → Stopped (export_run (map procedure_tree before) (procedure_tree export) args) left 64 fault
+      → Stopped (export_run (map procedure_tree before) (procedure_tree export) args) left most_bodies fault
   export_stops fault h =
       stops_then _ _ left 64 fault (inside_stops _ left 63 64 fault (omega arith) (subst (λ u. Stopped (body_run (known_of before) (procedure_tree export) u) left 63 fault) holds_so h))
 
   pub export_ends : (word : Option Word) (t : State) (after : ℕ) (qs : List Parameter) (outcome : Results) → Ended (body_run (known_of before) (procedure_tree export) state) left 63 (record { word = word; state = t }) after
       → qs ≡ export.parameters.items → outcome.returned ≡ option_map (λ (v : Word). v.value) word → outcome.arrays ≡ final_arrays t (map parameter_tree qs)
-      → Ended (export_run (map procedure_tree before) (procedure_tree export) args) left 64 outcome after
+      → Ended (export_run (map procedure_tree before) (procedure_tree export) args) left most_bodies outcome after
   export_ends word t after qs outcome h again one other =
       let r : Returned = record { word = word; state = t } in
       let out : Results = results (procedure_tree export) r in
       let arrays : outcome.arrays ≡ out.arrays = other ∙ ap (λ xs. final_arrays t (map parameter_tree xs)) again in
       let same : out ≡ outcome = ap₂ (λ a b. record { returned = a; arrays = b }) (sym one) (sym arrays) in
-      subst (λ x. Ended (export_run (map procedure_tree before) (procedure_tree export) args) left 64 x after) same
+      subst (λ x. Ended (export_run (map procedure_tree before) (procedure_tree export) args) left most_bodies x after) same
       (then_ends _ _ left after after 64 r out (inside_ends _ left 63 64 r after (omega arith) (subst (λ u. Ended (body_run (known_of before) (procedure_tree export) u) left 63 r after) holds_so h)) (given_ends out after 64))

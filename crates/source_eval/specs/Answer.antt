@@ -5,6 +5,7 @@ use Rattle.arguments.specs.declared.fault.ArgumentFault.{ArgumentFault}
 use Rattle.language.specs.declared.signature.Param.{Param}
 use Rattle.language.specs.declared.values.Arg.{Arg}
 use Rattle.language.specs.Evaluation.{Run, program_run}
+use Rattle.language.specs.Limits.{most_bodies}
 use Rattle.language.specs.Meaning.{Ending, gives, faults}
 use Rattle.language.specs.Results.{Results}
 use Rattle.language.specs.Signature.{exported, param_of}
@@ -25,9 +26,9 @@ abbrev pub ending_answer : Ending Results → Result Results EvalFault
 ending_answer (gives results) = Ok results
 ending_answer (faults place) = Err (NoMeaning place)
 
--- more than 64 bodies are never open
+-- more bodies than the language allows are never open
 abbrev pub run_answer : Run Results → ℕ → Result Results EvalFault
-run_answer run budget = if nat_lt budget run.nodes || nat_lt 64 run.bodies then Err Budget else ending_answer run.ends
+run_answer run budget = if nat_lt budget run.nodes || nat_lt most_bodies run.bodies then Err Budget else ending_answer run.ends
 
 -- the arguments are judged before all else
 abbrev pub judged_answer : Option ArgumentFault → Run Results → ℕ → Result Results EvalFault

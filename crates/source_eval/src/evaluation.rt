@@ -3,6 +3,7 @@
 ghost use Rattle.std.specs.Prelude.{◌≡◌, ◌≢◌, Err, Some, map, IfOk, IfErr};
 ghost use Rattle.std.specs.Option.{option_map};
 ghost use Rattle.language.specs.Evaluation.{export_run};
+ghost use Rattle.language.specs.Limits.{most_bodies};
 ghost use Rattle.language.specs.Meaning.{argument_value, final_arrays, holding};
 ghost use Rattle.language.specs.Tree.{parameter_tree, procedure_tree, program_tree};
 ghost use Rattle.arguments.specs.Faults.{fault_of};
@@ -16,7 +17,7 @@ use crate::statements::body;
 use crate::values::{Value, Word};
 use crate::variables::Variables;
 use arguments::{ArgumentFault, first_fault_of};
-use language::{Arg, Args, Form, Kind, Numbers, Outcome, Parameter, Procedure, Program};
+use language::{Arg, Args, Form, Kind, MOST_BODIES, Numbers, Outcome, Parameter, Procedure, Program};
 use std::alloc::Global;
 
 /// What a parameter of this kind holds.
@@ -81,9 +82,6 @@ fn number(word: Option<Word>) -> Option<u32>
     }
 }
 
-/// How many bodies may be open, the export's counted.
-const MOST_BODIES: u32 = 64;
-
 /// Runs an export after the earlier procedures.
 fn run_export<'a>(
     alloc: Global,
@@ -92,8 +90,8 @@ fn run_export<'a>(
     export: &Procedure<'a>,
     args: &[Arg],
 ) -> Result<Outcome, EvalFault>
-    ensures ok { IfOk result (λ outcome. Ended (export_run (map procedure_tree earlier.now) (procedure_tree export.now) args.now) left.old 64 outcome left.new) }
-    ensures err { IfErr result (λ fault. Stopped (export_run (map procedure_tree earlier.now) (procedure_tree export.now) args.now) left.old 64 fault) }
+    ensures ok { IfOk result (λ outcome. Ended (export_run (map procedure_tree earlier.now) (procedure_tree export.now) args.now) left.old most_bodies outcome left.new) }
+    ensures err { IfErr result (λ fault. Stopped (export_run (map procedure_tree earlier.now) (procedure_tree export.now) args.now) left.old most_bodies fault) }
 {
     let mut variables = holding(alloc, &export.parameters, args)?;
     let room = MOST_BODIES - 1;

@@ -5,7 +5,7 @@ use Rattle.hepurita.specs.Built.{Judges, IsRefusal}
 use Rattle.language.specs.declared.refusal.Refusal.{Refusal}
 use Rattle.language.specs.declared.rule.Rule.TheVariants.{TextTooLong}
 use Rattle.language.specs.WantOfMemory.{IsWantOfMemory}
-use Rattle.syntax.specs.declared.lexer.TheConstants.{TEXT_LIMIT}
+use Rattle.syntax.specs.Limits.{text_limit}
 use Rattle.word.specs.Places.{origin}
 use Rattle.word.specs.declared.profile.Profile.{Profile}
 use Rattle.stream_build.specs.declared.fault.BuildFault.{BuildFault}
@@ -13,16 +13,16 @@ use Rattle.stream_build.specs.declared.fault.BuildFault.TheVariants.{Read, NotUt
 
 -- the bytes are a text that is not too long
 abbrev pub IsText : List ℕ → Type 0
-IsText bytes = (length bytes ≤ TEXT_LIMIT) × IsUtf8 bytes
+IsText bytes = (length bytes ≤ text_limit) × IsUtf8 bytes
 
 -- the refusal of a text that is too long
 abbrev pub IsTooLong : List ℕ → Refusal → Type 0
-IsTooLong bytes refusal = (TEXT_LIMIT < length bytes) × (refusal.rule ≡ TextTooLong) × (refusal.place ≡ Some origin)
+IsTooLong bytes refusal = (text_limit < length bytes) × (refusal.rule ≡ TextTooLong) × (refusal.place ≡ Some origin)
 
 -- why a source's bytes are not had as a text; that a call of it failed, its count of failures says
 abbrev pub NoText : List ℕ → BuildFault Refusal → Type 0
 NoText bytes Read = ⊤
-NoText bytes NotUtf8 = (length bytes ≤ TEXT_LIMIT) × ¬ IsUtf8 bytes
+NoText bytes NotUtf8 = (length bytes ≤ text_limit) × ¬ IsUtf8 bytes
 NoText bytes (Refused refusal) = IsWantOfMemory refusal.rule refusal.place ⊎ IsTooLong bytes refusal
 NoText bytes Write = ⊥
 

@@ -2,7 +2,7 @@
 
 ghost use Rattle.std.specs.Prelude.{◌≡◌, ◌≢◌, ◌+◌, length, IsTrue, IfOk, IfErr, OnOk, IsErrOf};
 ghost use Rattle.streams.specs.Streams.{LosesPart, Writes, WritesPart};
-ghost use Rattle.syntax.specs.declared.lexer.TheConstants.{TEXT_LIMIT};
+ghost use Rattle.syntax.specs.Limits.{text_limit};
 ghost use Rattle.word.specs.Counts.{one_more};
 ghost use Rattle.hepurita.specs.Built.{IsBuilt};
 ghost use Rattle.stream_build.specs.Faults.{IsText, IsFaultOf};
@@ -26,7 +26,7 @@ pub fn build_source_as<R: Source>(
     ensures text { IsTrue R.TELLS → OnOk result (IsText (R.coming source.old)) }
     ensures fault { IsTrue R.TELLS → IfErr result (IsFaultOf profile (R.coming source.old)) }
     ensures unwritten { result ≢ Err BuildFault.Write }
-    ensures part { IsTrue R.TELLS → LosesPart (R.coming source.old) (R.coming source.new) (TEXT_LIMIT + 1) }
+    ensures part { IsTrue R.TELLS → LosesPart (R.coming source.old) (R.coming source.new) (text_limit + 1) }
     ensures calm { result ≢ Err BuildFault.Read → R.failures source.new ≡ R.failures source.old }
     ensures counts { IsErrOf result BuildFault.Read → R.failures source.new ≡ one_more (R.failures source.old) }
 {
@@ -43,7 +43,7 @@ pub fn build_source<R: Source>(
     ensures text { IsTrue R.TELLS → OnOk result (IsText (R.coming source.old)) }
     ensures fault { IsTrue R.TELLS → IfErr result (IsFaultOf Profile.P1 (R.coming source.old)) }
     ensures unwritten { result ≢ Err BuildFault.Write }
-    ensures part { IsTrue R.TELLS → LosesPart (R.coming source.old) (R.coming source.new) (TEXT_LIMIT + 1) }
+    ensures part { IsTrue R.TELLS → LosesPart (R.coming source.old) (R.coming source.new) (text_limit + 1) }
     ensures calm { result ≢ Err BuildFault.Read → R.failures source.new ≡ R.failures source.old }
     ensures counts { IsErrOf result BuildFault.Read → R.failures source.new ≡ one_more (R.failures source.old) }
 {
@@ -65,7 +65,7 @@ pub fn build_stream_as<R: Source, W: Sink>(
     ensures untouched { IfErr result (λ fault. fault ≢ BuildFault.Write → sink.new ≡ sink.old) }
     ensures text { IsTrue R.TELLS → OnOk result (IsText (R.coming source.old)) }
     ensures fault { IsTrue R.TELLS → IfErr result (IsFaultOf profile (R.coming source.old)) }
-    ensures part { IsTrue R.TELLS → LosesPart (R.coming source.old) (R.coming source.new) (TEXT_LIMIT + 1) }
+    ensures part { IsTrue R.TELLS → LosesPart (R.coming source.old) (R.coming source.new) (text_limit + 1) }
     ensures read_calm { result ≢ Err BuildFault.Read → R.failures source.new ≡ R.failures source.old }
     ensures read_counts { IsErrOf result BuildFault.Read → R.failures source.new ≡ one_more (R.failures source.old) }
     ensures write_calm { result ≢ Err BuildFault.Write → W.failures sink.new ≡ W.failures sink.old }
@@ -91,7 +91,7 @@ pub fn build_stream<R: Source, W: Sink>(
     ensures untouched { IfErr result (λ fault. fault ≢ BuildFault.Write → sink.new ≡ sink.old) }
     ensures text { IsTrue R.TELLS → OnOk result (IsText (R.coming source.old)) }
     ensures fault { IsTrue R.TELLS → IfErr result (IsFaultOf Profile.P1 (R.coming source.old)) }
-    ensures part { IsTrue R.TELLS → LosesPart (R.coming source.old) (R.coming source.new) (TEXT_LIMIT + 1) }
+    ensures part { IsTrue R.TELLS → LosesPart (R.coming source.old) (R.coming source.new) (text_limit + 1) }
     ensures read_calm { result ≢ Err BuildFault.Read → R.failures source.new ≡ R.failures source.old }
     ensures read_counts { IsErrOf result BuildFault.Read → R.failures source.new ≡ one_more (R.failures source.old) }
     ensures write_calm { result ≢ Err BuildFault.Write → W.failures sink.new ≡ W.failures sink.old }

@@ -3,7 +3,7 @@
 ghost use Rattle.std.specs.Prelude.{◌≡◌, ◌≢◌, ◌+◌, ◌≤◌, length, IsTrue, IfOk, IfErr, IsErrOf};
 ghost use Rattle.std.specs.String.{string_bytes};
 ghost use Rattle.streams.specs.Streams.{LosesPart};
-ghost use Rattle.syntax.specs.declared.lexer.TheConstants.{TEXT_LIMIT};
+ghost use Rattle.syntax.specs.Limits.{text_limit};
 ghost use Rattle.word.specs.Counts.{one_more};
 ghost use Rattle.stream_build.specs.Faults.{NoText};
 
@@ -17,10 +17,10 @@ use syntax::TEXT_LIMIT;
 /// not asked whether it is UTF-8. No failed call is tried again.
 pub fn read_text<R: Source>(alloc: Global, source: &mut R) -> Result<String, BuildFault<Refusal>>
     ensures whole { IsTrue R.TELLS → IfOk result (λ text. string_bytes text ≡ R.coming source.old) }
-    ensures within { IfOk result (λ text. length (string_bytes text) ≤ TEXT_LIMIT) }
+    ensures within { IfOk result (λ text. length (string_bytes text) ≤ text_limit) }
     ensures fault { IsTrue R.TELLS → IfErr result (NoText (R.coming source.old)) }
     ensures unwritten { result ≢ Err BuildFault.Write }
-    ensures part { IsTrue R.TELLS → LosesPart (R.coming source.old) (R.coming source.new) (TEXT_LIMIT + 1) }
+    ensures part { IsTrue R.TELLS → LosesPart (R.coming source.old) (R.coming source.new) (text_limit + 1) }
     ensures calm { result ≢ Err BuildFault.Read → R.failures source.new ≡ R.failures source.old }
     ensures counts { IsErrOf result BuildFault.Read → R.failures source.new ≡ one_more (R.failures source.old) }
 {

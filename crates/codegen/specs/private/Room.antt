@@ -8,20 +8,20 @@ use Rattle.codegen.specs.private.Emitted.{depth_in_all}
 use Rattle.codegen.specs.private.Generated.{program_code, program_height}
 use Rattle.expression_code.specs.Layout.{Frame}
 use Rattle.inline.specs.Flat.{declaration_of}
-use Rattle.inline.specs.declared.limits.TheConstants.{MOST_VARIABLE_BYTES}
+use Rattle.inline.specs.Limits.{most_variable_bytes}
 use Rattle.inline.specs.FlatSize.{HasLength, declared_words, value_nodes}
-use Rattle.intervals.specs.declared.limits.TheConstants.{MOST_WORK}
-use Rattle.language.specs.declared.limits.TheConstants.{MOST_NODES, MOST_DECLARED_BYTES}
+use Rattle.intervals.specs.Limits.{most_work}
+use Rattle.language.specs.Limits.{most_nodes, most_declared_bytes}
 use Rattle.language.specs.declared.signature.Param.{Param}
 
 pub record HasRoom (p : StraightProgram) : Type 0 where
   pub typed : IsTypedStraight p
   pub lengths : AllByRecursion (λ (parameter : Param). HasLength parameter.form parameter.length) p.parameters
   pub parameters : declared_words (map declaration_of p.parameters) ≤ declared_words p.declared
-  pub given : 4 * declared_words (map declaration_of p.parameters) ≤ MOST_DECLARED_BYTES
-  pub declared : 4 * declared_words p.declared ≤ MOST_VARIABLE_BYTES
-  pub nodes : p.nodes ≤ MOST_NODES
-  pub work : p.work ≤ MOST_WORK
+  pub given : 4 * declared_words (map declaration_of p.parameters) ≤ most_declared_bytes
+  pub declared : 4 * declared_words p.declared ≤ most_variable_bytes
+  pub nodes : p.nodes ≤ most_nodes
+  pub work : p.work ≤ most_work
   pub worked : block_work p.turns p.body + value_nodes p.value ≤ p.work
   pub counted : block_nodes p.body ≤ p.nodes
   -- the words that lie behind the variables and the result

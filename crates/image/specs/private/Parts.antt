@@ -18,7 +18,7 @@ use Rattle.image.specs.declared.fields.ReadError.TheVariants as errors
 use Rattle.image.specs.declared.reading.Layout.{Layout}
 use Rattle.image.specs.declared.reading.CodePart.{CodePart}
 use Rattle.image_fields.specs.Fields.{Fields, slot_end, slots_end, is_length}
-use Rattle.image_fields.specs.declared.limits.TheConstants.{MOST_PARAMETERS}
+use Rattle.image_fields.specs.Limits.{most_parameters}
 use Rattle.word.specs.declared.profile.Profile as observer
 use Rattle.image.specs.Reading.{numbered_profile, is_profile, is_offset, is_frame_size, is_step_limit, is_word_count, layout_end}
 
@@ -136,7 +136,7 @@ pub record LayoutFields : Type 0 where
 
 unfoldable pub layout_at : List ℕ → Result (LayoutFields × List ℕ) Fault
 layout_at bytes = do
-  count ← field_at 2 (λ n. nat_le n MOST_PARAMETERS) FieldOutOfRange bytes
+  count ← field_at 2 (λ n. nat_le n most_parameters) FieldOutOfRange bytes
   slots ← slots_at count.0 0 count.1
   returned ← returned_at (slots_end 0 slots.0) slots.1
   frame ← field_at 4 (is_frame_size (layout_end (slots_end 0 slots.0) returned.0)) FieldOutOfRange returned.1

@@ -1,7 +1,7 @@
 use Rattle.std.proofs.Common.{◌≡◌, ◌≤◌, ℕ, List, length, inr, arith, ap, sym, subst, ◌∙◌}
 use Rattle.std.proofs.lemmas.Bool.{false≢true}
 use Rattle.std.specs.Str.{IsUtf8}
-use Rattle.syntax.specs.declared.lexer.TheConstants.{TEXT_LIMIT}
+use Rattle.syntax.specs.Limits.{text_limit}
 use Rattle.stream_build.proofs.Readings.{all-of-fewer, no-fewer, lost}
 use Rattle.stream_build.proofs.reading.read_text.Goals as goal
 
@@ -9,7 +9,7 @@ pub returns-then-len-gt-TEXT_LIMIT-clause-fault : goal.returns-then-len-gt-TEXT_
 returns-then-len-gt-TEXT_LIMIT-clause-fault g c =
     λ tells.
     inr (
-      no-fewer c.in-Ok.bytes.items (g.R.Source.coming c.args.source.now) 262145 TEXT_LIMIT
+      no-fewer c.in-Ok.bytes.items (g.R.Source.coming c.args.source.now) 262145 text_limit
           (c.in-Ok.ensures.whole tells) (omega arith),
       c.at-too_long.ensures.rule,
       c.at-too_long.ensures.place,
@@ -34,7 +34,7 @@ returns-clause-fault g c =
     λ tells.
     let whole : c.in-Ok.bytes.items ≡ g.R.Source.coming c.args.source.now =
     all-of-fewer c.in-Ok.bytes.items (g.R.Source.coming c.args.source.now) 262145 (c.in-Ok.ensures.whole tells) (omega arith) in (
-      subst (λ (l : List ℕ). length l ≤ TEXT_LIMIT) whole (omega arith),
+      subst (λ (l : List ℕ). length l ≤ text_limit) whole (omega arith),
       λ utf8. false≢true (c.in-Err.ensures.succeeds (subst IsUtf8 (sym whole) utf8)),
     )
 
