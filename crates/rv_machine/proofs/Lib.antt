@@ -9,6 +9,7 @@ pub mod Locality
 pub mod Pages
 pub mod Pairs
 pub mod PlanLaws
+pub mod Progressing
 pub mod RunLaws
 pub mod Shown
 pub mod SizedNumbers

@@ -12,6 +12,7 @@ pub mod Machine
 pub mod Paged
 pub mod PairingText
 pub mod Plans
+pub mod Progress
 pub mod Recording
 pub mod Regions
 pub mod Registers

@@ -5,6 +5,7 @@ ghost use Rattle.rv_machine.specs.Entries.{entries_of, IsFirstDifference, Compar
 ghost use Rattle.rv_machine.specs.Harts.{state_of};
 ghost use Rattle.rv_machine.specs.Leakage.{IsShown, followed_by};
 ghost use Rattle.rv_machine.specs.PairingText.{pairing_text};
+ghost use Rattle.rv_machine.specs.Progress.{Makes, EndTogether, Part};
 ghost use Rattle.rv_machine.specs.Regions.{code_of};
 ghost use Rattle.rv_machine.specs.declared.observation.Observation.{Observation};
 
@@ -77,6 +78,12 @@ fn both_turns<M: Memory>(
     one: &mut Running<M>,
     other: &mut Running<M>,
 ) -> (Option<Observation>, Option<Observation>)
+    ensures made { Makes (code_of code.now)
+        one.old.turns_left (state_of one.old.hart (M.bytes one.old.memory)) result.0
+        one.new.turns_left (state_of one.new.hart (M.bytes one.new.memory)) }
+    ensures other_made { Makes (code_of code.now)
+        other.old.turns_left (state_of other.old.hart (M.bytes other.old.memory)) result.1
+        other.new.turns_left (state_of other.new.hart (M.bytes other.new.memory)) }
     ensures shown { (rest : List Observation)
         → IsShown (code_of code.now) one.new.turns_left (state_of one.new.hart (M.bytes one.new.memory)) rest
         → IsShown (code_of code.now) one.old.turns_left (state_of one.old.hart (M.bytes one.old.memory)) (followed_by result.0 rest) }
@@ -101,10 +108,20 @@ pub fn compare<M: Memory>(
     other: &mut Running<M>,
 ) -> Pairing
     requires { one.old.turns_left < 2 ^ 63 }
-    ensures { (seen seen' : List Observation)
+    ensures compared { (seen seen' : List Observation)
         × IsShown (code_of code.now) one.old.turns_left (state_of one.old.hart (M.bytes one.old.memory)) seen
         × IsShown (code_of code.now) other.old.turns_left (state_of other.old.hart (M.bytes other.old.memory)) seen'
         × Compares (entries_of seen) (entries_of seen') result }
+    ensures ended { result ≡ Pairing.Same → EndTogether (code_of code.now)
+        one.old.turns_left (state_of one.old.hart (M.bytes one.old.memory))
+        one.new.turns_left (state_of one.new.hart (M.bytes one.new.memory))
+        other.old.turns_left (state_of other.old.hart (M.bytes other.old.memory))
+        other.new.turns_left (state_of other.new.hart (M.bytes other.new.memory)) }
+    ensures parted { (place : ℕ) → result ≡ Pairing.Differ place → Part (code_of code.now)
+        one.old.turns_left (state_of one.old.hart (M.bytes one.old.memory))
+        one.new.turns_left (state_of one.new.hart (M.bytes one.new.memory))
+        other.old.turns_left (state_of other.old.hart (M.bytes other.old.memory))
+        other.new.turns_left (state_of other.new.hart (M.bytes other.new.memory)) place }
 {
     let mut place = 0;
     'turns: loop {

@@ -3,6 +3,7 @@
 ghost use Rattle.std.specs.Prelude.{◌≡◌, ◌<◌, List, None, IsSome};
 ghost use Rattle.rv_machine.specs.Harts.{state_of};
 ghost use Rattle.rv_machine.specs.Leakage.{IsShown, followed_by};
+ghost use Rattle.rv_machine.specs.Progress.{Makes};
 ghost use Rattle.rv_machine.specs.Regions.{code_of};
 ghost use Rattle.rv_machine.specs.declared.observation.Observation.{Observation};
 
@@ -28,6 +29,9 @@ impl<M: Memory> Running<M> {
     /// turn that shows nothing. It takes no memory.
     #[inline(always)]
     pub fn turn(&mut self, alloc: Global, code: &CodeRegion) -> Option<Observation>
+        ensures made { Makes (code_of code.now)
+            self.old.turns_left (state_of self.old.hart (M.bytes self.old.memory)) result
+            self.new.turns_left (state_of self.new.hart (M.bytes self.new.memory)) }
         ensures shown { (rest : List Observation)
             → IsShown (code_of code.now) self.new.turns_left (state_of self.new.hart (M.bytes self.new.memory)) rest
             → IsShown (code_of code.now) self.old.turns_left (state_of self.old.hart (M.bytes self.old.memory)) (followed_by result rest) }

@@ -6,6 +6,8 @@ use Rattle.rv_machine.specs.Harts.{state_of}
 use Rattle.rv_machine.specs.Leakage.{IsShown, followed_by}
 use Rattle.rv_machine.specs.Recording.{kept}
 use Rattle.rv_machine.specs.Regions.{code_of}
+use Rattle.rv_machine.specs.Progress.{Makes}
+use Rattle.rv_machine.proofs.Progressing.{turn_makes, no_turn_makes}
 use Rattle.rv_machine.proofs.Shown.{turn_shows}
 use Rattle.rv_machine.proofs.running.Running.turn.Goals.{then-is_some, else-is_some}
 use Rattle.rv_machine.proofs.running.Running.turn.Goals as goal
@@ -30,3 +32,29 @@ returns-clause-shown g c = λ rest shown.
     subst (λ n. IsShown code n s (followed_by c.first.result rest)) more
     (subst (λ o. IsShown code (suc left) s (followed_by o rest)) (sym first)
     (turn_shows code left c.if-is_some.self s t turn.0 c.step-stop.result seen turn.1 turn.2.1 (c.step-stop.ensures.ready 0 c.new-recorder.ensures.ready) is rest shown))
+
+pub returns-clause-made : goal.returns-clause-made
+returns-clause-made g c =
+    let code = code_of c.args.code.now in
+    let begun = c.args.self.now in
+    let s = state_of begun.hart (g.M.Memory.bytes begun.memory) in
+    let t = state_of c.step-stop.new.hart (g.M.Memory.bytes c.step-stop.new.memory) in
+    let left = begun.turns_left - 1 in
+    let more : suc left ≡ begun.turns_left = omega arith in
+    let turn = c.step-stop.ensures.turn in
+    let seen = turn.2.0 in
+    let list = turn.2.2 ∙ ap (λ (xs : List Observation). kept true xs seen) c.new-recorder.ensures.empty in
+    let first = c.first.ensures ∙ ap (λ (xs : List Observation). slice_get xs 0) list in
+    let left' = c.if-is_some.self in
+    let is : left' ≡ cond (is_some c.step-stop.result) 0 left =
+    elim c.if-is_some.branch [
+      | then-is_some w ↦ w.self-is ∙ sym (ap (λ b. cond b 0 left) (sym c.is_some.ensures ∙ w.if-is_some.true))
+      | else-is_some w ↦ w.self-is ∙ sym (ap (λ b. cond b 0 left) (sym c.is_some.ensures ∙ w.if-is_some.false))
+    ] in
+    subst (λ n. Makes code n s c.first.result left' t) more
+    (subst (λ o. Makes code (suc left) s o left' t) (sym first)
+    (turn_makes code left left' s t turn.0 c.step-stop.result seen turn.1 turn.2.1 (c.step-stop.ensures.ready 0 c.new-recorder.ensures.ready) is))
+
+pub returns-then-self-eq0-clause-made : goal.returns-then-self-eq0-clause-made
+returns-then-self-eq0-clause-made g c =
+    no_turn_makes (code_of c.args.code.now) c.args.self.now.turns_left (state_of c.args.self.now.hart (g.M.Memory.bytes c.args.self.now.memory)) (omega arith)
