@@ -32,6 +32,11 @@ impl<T: Drop> From<AllocFailed<T>> for PlanFault {
 
 /// `H1 at line 3: line form`, or `M1: memory`.
 impl fmt::Display for PlanFault {
+    ghost use Rattle.std.specs.Prelude.{Some};
+    ghost use Rattle.harts_file.specs.Text.{plan_fault_text};
+
+    ghost output = { λ fault. Some (plan_fault_text fault) };
+
     fn fmt<W: fmt::Write>(&self, f: &mut fmt::Formatter<W>) -> fmt::Result {
         match *self {
             PlanFault::Line { rule, line } => {
