@@ -1,5 +1,4 @@
 -- The listings of two runs that show the same and have stopped are one list of bytes.
-use Rattle.std.specs.Prelude.{◌⊎◌}
 use Rattle.std.proofs.Common.{◌≡◌, ℕ, ◌<◌, List, sym, ap, ◌∙◌, ⊎_elim, arith}
 use Rattle.codegen.specs.Loaded.{results_in}
 use Rattle.hepurita.specs.Bases.{frame_base}
