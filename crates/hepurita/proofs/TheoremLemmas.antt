@@ -31,6 +31,8 @@ use Rattle.syntax.specs.Reading.{Reads, accepted}
 use Rattle.language.specs.Tree.{ProcedureTree, ProgramTree}
 use Rattle.hepurita.specs.Built.{IsSmall, Judges, JudgesProgram, accepts, readable, fine}
 use Rattle.hepurita.proofs.Compiler.{compiled}
+use Rattle.source_work.proofs.Export.{work_is_that_of_the_body}
+use Rattle.source_work.specs.SourceWork.{source_work}
 use Rattle.hepurita.proofs.Exports.{of_export}
 use Rattle.hepurita.proofs.JudgementLemmas.{small_of, in_range_of}
 use Rattle.word.specs.declared.profile.Profile.{Profile}
@@ -46,6 +48,13 @@ flat_typed profile program before export plain small =
     let is = small.well_formed in
     let parts = plain before export is.is_export in
     flat_is_typed profile program before export is.typed is.is_export parts.0 parts.1
+
+-- its work, as a sum over the source, is that of the body
+pub source_work_same : (profile : Profile) (program : ProgramTree) (before : List ProcedureTree) (export : ProcedureTree) → HasGrammaticalExport program → IsSmall profile program before export → source_work before export ≡ work_of (flattened profile before export)
+source_work_same profile program before export plain small =
+    let is = small.well_formed in
+    let parts = plain before export is.is_export in
+    work_is_that_of_the_body profile program before export is.typed is.is_export parts.0 parts.1
 
 -- a body without too much work is within the limit
 pub within_work : (flat : FlatProgram) → length (work_violations flat) ≡ 0 → work_of flat ≤ MOST_WORK
@@ -69,7 +78,7 @@ safe_means profile program before export plain small safe args within =
 pub export_compiled : (profile : Profile) (program : ProgramTree) (before : List ProcedureTree) (export : ProcedureTree) (straight : StraightProgram) (image : Fields) → HasGrammaticalExport program → IsSmall profile program before export → length (range_violations (flattened profile before export)) ≡ 0 → IsRemoved (ranged (flattened profile before export)) straight → IsGenerated straight image → IsCompiled program before export image
 export_compiled profile program before export straight image plain small in_range removed generated =
     let safe = accepted_is_safe (flattened profile before export) (flat_typed profile program before export plain small) in_range in
-    compiled profile program before export straight image (safe_means profile program before export plain small safe) removed generated
+    compiled profile program before export straight image (safe_means profile program before export plain small safe) (source_work_same profile program before export plain small) removed generated
 
 -- the export of a program that a text is, is grammatical, and so are those before it
 pub grammatical_export : (text : List ℕ) (program : ProgramTree) → Reads text (accepted program) → HasGrammaticalExport program

@@ -4,7 +4,7 @@ use Rattle.std.specs.Option.{option_map}
 use Rattle.arguments.specs.PublicResults.{AgreeInPublic}
 use Rattle.arguments.specs.Within.{AreWithin}
 use Rattle.inline.specs.Numbering.{flattened, param_of}
-use Rattle.intervals.specs.Work.{work_of}
+use Rattle.source_work.specs.SourceWork.{source_work}
 use Rattle.image_fields.specs.Fields.{Fields}
 use Rattle.image_fields.specs.declared.limits.TheConstants.{MOST_FRAME_BYTES}
 use Rattle.rv_machine.specs.Leakage.{Halts}
@@ -40,7 +40,7 @@ pub record RunsTo (program : ProgramTree) (image : Fields) (code frame : ℕ) (a
 pub record IsCompiled (program : ProgramTree) (before : List ProcedureTree) (p : ProcedureTree) (image : Fields) : Type 0 where
   pub params : params_of image ≡ map param_of p.parameters
   pub result : option_map type_in image.returned ≡ p.result
-  pub max_steps : image.max_steps ≡ 32 * work_of (flattened image.profile before p) + 64
+  pub max_steps : image.max_steps ≡ 32 * source_work before p + 64
   pub frame_size : image.frame_bytes ≤ MOST_FRAME_BYTES
   pub word_count : length image.words ≤ 32 * nodes_of (extents_of before) p + 64
   -- results: on all arguments within the parameter types

@@ -1,3 +1,3 @@
 mod Walked
 mod Sums
-mod Export
+pub mod Export
