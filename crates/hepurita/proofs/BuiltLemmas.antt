@@ -6,12 +6,14 @@ use Rattle.intervals.specs.Work.{IsRefusedByRanges}
 use Rattle.language.specs.declared.refusal.Refusal.{Refusal}
 use Rattle.language.specs.declared.rule.Rule.{Rule}
 use Rattle.language.specs.Meaning.{exported}
-use Rattle.language.specs.FirstViolation.{IsRefusedFor}
+use Rattle.language.specs.FirstViolation.{IsFirst, IsRefusedFor}
 use Rattle.syntax.specs.Reading.{Reads, accepted, IsRefusedAs}
 use Rattle.language.specs.Size.{size_violations}
 use Rattle.language.specs.Tree.{ProcedureTree, ProgramTree}
 use Rattle.language.specs.Typing.{violations}
+use Rattle.language.specs.declared.typing.Violation.{Violation}
 use Rattle.hepurita.specs.Built.{IsWellFormed, IsSmall, JudgesProgram, Judges, refuses, ill_typed, too_large, out_of_range, too_much_work, unreadable, readable, IsRefusal}
+use Rattle.hepurita.proofs.GrammaticalExports.{HasGrammaticalExport, same_violations}
 use Rattle.word.specs.declared.profile.Profile.{Profile}
 
 module _ (profile : Profile) where
@@ -52,8 +54,8 @@ module _ (profile : Profile) where
       refusal_of_sizes program before export r (record { typed = typed; is_export = is }) refused
 
   -- a refusal by the ranges of indices and divisors, or by the limit on work
-  pub refusal_of_ranges : (program : ProgramTree) (before : List ProcedureTree) (export : ProcedureTree) (flat : FlatProgram) (r : Refusal) → IsSmall profile program before export → flat ≡ flattened profile before export → IsRefusedByRanges flat r.rule r.place → IsRefusal (JudgesProgram profile program) r
-  refusal_of_ranges program before export flat r small same refused = by (subst (λ (f : FlatProgram). IsRefusedByRanges f r.rule r.place) same refused)
+  pub refusal_of_ranges : (program : ProgramTree) (before : List ProcedureTree) (export : ProcedureTree) (flat : FlatProgram) (r : Refusal) → HasGrammaticalExport program → IsSmall profile program before export → flat ≡ flattened profile before export → IsRefusedByRanges flat r.rule r.place → IsRefusal (JudgesProgram profile program) r
+  refusal_of_ranges program before export flat r plain small same refused = by (subst (λ (f : FlatProgram). IsRefusedByRanges f r.rule r.place) same refused)
     where
       by : IsRefusedByRanges (flattened profile before export) r.rule r.place → IsRefusal (JudgesProgram profile program) r
       by (inl (inl memory)) = inl memory
@@ -61,7 +63,7 @@ module _ (profile : Profile) where
           inr (first.place, place, subst (λ (x : Rule). JudgesProgram profile program (refuses x first.place)) (sym rule) (out_of_range small earliest))
       by (inr (in_range, inl memory)) = inl memory
       by (inr (in_range, inr (first, earliest, rule, place))) =
-          inr (first.place, place, subst (λ (x : Rule). JudgesProgram profile program (refuses x first.place)) (sym rule) (too_much_work small in_range earliest))
+          inr (first.place, place, subst (λ (x : Rule). JudgesProgram profile program (refuses x first.place)) (sym rule) (too_much_work small in_range (subst (λ (vs : List Violation). IsFirst vs first) (sym (same_violations profile program before export plain small)) earliest)))
 
   -- a refusal of the text as such
   pub refusal_of_text : (text : List ℕ) (r : Refusal) → IsRefusedAs (Reads text) r → IsRefusal (Judges profile text) r

@@ -25,6 +25,7 @@ use Rattle.language.specs.declared.values.Arg.{Arg}
 use Rattle.language.specs.Results.{Results}
 use Rattle.language.specs.Tree.{ProcedureTree, ProgramTree}
 use Rattle.hepurita.specs.Compiled.{Means, RunsTo, IsCompiled}
+use Rattle.source_work.specs.SourceWork.{source_work}
 use Rattle.word.specs.declared.profile.Profile.{Profile}
 
 -- a procedure, the program's export, means what its body with numbered variables means
@@ -35,7 +36,7 @@ MeansFlat profile program before p = (args : List Arg) → AreWithin (map param_
 pub observed_as : (profile : Profile) (before : List ProcedureTree) (p : ProcedureTree) (straight : StraightProgram) (image : Fields) → IsRemoved (ranged (flattened profile before p)) straight → IsGenerated straight image → image.profile ≡ profile
 observed_as profile before p straight image removed generated = generated.profile ∙ removed.profile
 
-module _ (profile : Profile) (program : ProgramTree) (before : List ProcedureTree) (p : ProcedureTree) (straight : StraightProgram) (image : Fields) (means : MeansFlat profile program before p) (removed : IsRemoved (ranged (flattened profile before p)) straight) (generated : IsGenerated straight image) where
+module _ (profile : Profile) (program : ProgramTree) (before : List ProcedureTree) (p : ProcedureTree) (straight : StraightProgram) (image : Fields) (means : MeansFlat profile program before p) (same_source : source_work before p ≡ work_of (flattened profile before p)) (removed : IsRemoved (ranged (flattened profile before p)) straight) (generated : IsGenerated straight image) where
   same_params : params_of image ≡ map param_of p.parameters
   same_params = generated.parameters ∙ removed.parameters
 
@@ -95,11 +96,8 @@ module _ (profile : Profile) (program : ProgramTree) (before : List ProcedureTre
       (subst (λ (params : List Param). AgreeInPublic params p.result (outcome_of straight one) (outcome_of straight other)) (removed.parameters ∙ sym same_params)
       (subst (λ (returned : Option WordType). AgreeInPublic straight.parameters returned (outcome_of straight one) (outcome_of straight other)) removed.returned public)))
 
-  observed : image.profile ≡ profile
-  observed = observed_as profile before p straight image removed generated
-
-  same_work : straight.work ≡ work_of (flattened image.profile before p)
-  same_work = removed.work ∙ ap (λ (q : Profile). work_of (flattened q before p)) (sym observed)
+  same_work : straight.work ≡ source_work before p
+  same_work = removed.work ∙ sym same_source
 
   -- the image is the procedure, compiled
   pub compiled : IsCompiled program before p image

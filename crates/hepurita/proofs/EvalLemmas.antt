@@ -1,5 +1,5 @@
 -- What `eval` answers for an accepted text: its one outcome.
-use Rattle.std.proofs.Common.{◌≡◌, ◌++◌, ℕ, ◌≤◌, ◌||◌, Bool, true, false, nat_lt, List, length, map, Option, None, Ok, refl, ap, ◌∙◌, arith}
+use Rattle.std.proofs.Common.{◌≡◌, ◌++◌, ℕ, ◌≤◌, ◌||◌, Bool, true, false, nat_lt, List, length, map, Option, None, Ok, refl, sym, ap, ◌∙◌, arith}
 use Rattle.std.proofs.lemmas.Bool.Decides.{nat_tests}
 use Rattle.arguments.specs.Faults.{fault_of}
 use Rattle.arguments.specs.Within.{AreWithin}
@@ -23,7 +23,8 @@ use Rattle.word.specs.declared.place.Place.{Place}
 use Rattle.hepurita.specs.Built.{Judges, accepts, readable, fine}
 use Rattle.hepurita.specs.Compiled.{Means}
 use Rattle.hepurita.proofs.AnswerLemmas.{Faultless}
-use Rattle.hepurita.proofs.TheoremLemmas.{flat_typed, grammatical_export, safe_means, within_work}
+use Rattle.hepurita.proofs.TheoremLemmas.{flat_typed, safe_means, within_work}
+use Rattle.hepurita.proofs.GrammaticalExports.{grammatical_export, same_violations}
 use Rattle.word.specs.declared.profile.Profile.{Profile}
 
 -- an export that passes no limit on size opens no more bodies than allowed
@@ -51,7 +52,7 @@ evaluated faultless profile text program before export args budget (readable rea
     let flat = flattened profile before export in
     let typed = flat_typed profile program before export plain small in
     let safe = accepted_is_safe flat typed in_range in
-    let work = within_work flat in_time in
+    let work = within_work flat (ap (λ vs. length vs) (sym (same_violations profile program before export plain small)) ∙ in_time) in
     let params = map param_of export.parameters in
     let run = answered profile program before export args budget is.typed is.is_export parts.0 parts.1 typed (bodies_fit before export small.sized) in_range work within enough in
     (outcome_of flat args, safe_means profile program before export plain small safe args within, judged program args budget params (ap found_params is.is_export) ((faultless params args).1 within) ∙ run)

@@ -3,7 +3,7 @@ use Rattle.std.proofs.Common.{◌≡◌, ℕ, List, [], length, None, Some, ⊎_
 use Rattle.grammar_laws.proofs.Existence.{answer_to}
 use Rattle.inline.specs.Numbering.{flattened}
 use Rattle.intervals.specs.Ranges.{range_violations}
-use Rattle.intervals.specs.Work.{work_violations}
+use Rattle.source_work.specs.SourceWork.{work_violations}
 use Rattle.labels.proofs.ExportLemmas.{Export, has_export}
 use Rattle.labels.proofs.SoonerLemmas.{first_of}
 use Rattle.language.specs.Meaning.{exported}
@@ -23,7 +23,7 @@ module _ (profile : Profile) (program : ProgramTree) where
       ⊎_elim
       (λ in_time. (accepts program before export, fine small in_range in_time))
       (λ first. (refuses first.0.rule first.0.place, too_much_work small in_range first.1))
-      (first_of (work_violations (flattened profile before export)))
+      (first_of (work_violations before export))
 
   by_range : (before : List ProcedureTree) (export : ProcedureTree) → IsSmall profile program before export → Judged
   by_range before export small =

@@ -8,7 +8,7 @@ use Rattle.language.specs.declared.rule.Rule.TheVariants.{InlinedSize, DeclaredB
 use Rattle.language.specs.declared.typing.Violation.{Violation}
 use Rattle.inline.specs.Numbering.{flattened}
 use Rattle.intervals.specs.Ranges.{range_violations}
-use Rattle.intervals.specs.Work.{work_violations}
+use Rattle.source_work.specs.SourceWork.{work_violations}
 use Rattle.language.specs.Meaning.{exported}
 use Rattle.syntax.specs.Reading.{accepted, refused, OneAnswer}
 use Rattle.language.specs.Limits.{most_bodies, most_nodes, most_declared_bytes}
@@ -54,7 +54,7 @@ module _ (profile : Profile) where
   IsInRange before p = length (range_violations (flattened profile before p)) ≡ 0
 
   abbrev pub IsInTime : List ProcedureTree → ProcedureTree → Type 0
-  IsInTime before p = length (work_violations (flattened profile before p)) ≡ 0
+  IsInTime before p = length (work_violations before p) ≡ 0
 
   -- a program is not both
   pub apart : (program of : ProgramTree) (before : List ProcedureTree) (export : ProcedureTree) (rule : Rule) (place : Place) → JudgesProgram profile program (accepts of before export) → JudgesProgram profile program (refuses rule place) → ⊥

@@ -7,6 +7,7 @@ pub mod BuiltLemmas
 pub mod FaultLemmas
 pub mod PairedLemmas
 pub mod Exports
+pub mod GrammaticalExports
 pub mod JudgementLemmas
 pub mod PlaceLemmas
 pub mod RefusalLemmas

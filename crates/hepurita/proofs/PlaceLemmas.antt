@@ -50,7 +50,7 @@ module _ (w : Place → ℕ) where
       let both = parts_light profile program before export small.well_formed h in
       light_of (ranges_light w profile before export both.earlier both.export) earliest.there
   refused_light profile program rule place h at_origin (too_much_work {before} {export} small in_range earliest) =
-      light_of (work_light w profile before export (parts_light profile program before export small.well_formed h).export) earliest.there
+      light_of (work_light w before export (parts_light profile program before export small.well_formed h).export) earliest.there
 
 pub refused_in_place : (profile : Profile) (text : List ℕ) (program : ProgramTree) (rule : Rule) (place : Place) → Reads text (accepted program) → JudgesProgram profile program (refuses rule place) → astray text place ≡ 0
 refused_in_place profile text program rule place reads judges = refused_light (astray text) profile program rule place (heads_in_place text program reads) refl judges

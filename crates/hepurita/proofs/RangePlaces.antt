@@ -11,7 +11,7 @@ use Rattle.intervals.specs.declared.interval.Interval.{Interval}
 use Rattle.intervals.specs.Intervals.{Bounds, interval}
 use Rattle.intervals.specs.Narrowing.{where_true, where_false}
 use Rattle.intervals.specs.Ranges.{index_violations, term_violations, terms_violations, violations, violations_all, result_violations, range_violations, bounds_after, in_loop}
-use Rattle.intervals.specs.Work.{work_of, work_violations}
+use Rattle.source_work.specs.SourceWork.{source_work, work_violations}
 use Rattle.intervals.specs.Limits.{most_work}
 use Rattle.language.specs.Operators.{divides}
 use Rattle.language.specs.Tree.{ProcedureTree}
@@ -79,5 +79,5 @@ module _ (w : Place → ℕ) where
       (block flat.declared _ flat.body (block_light w (callables before) light (parameter_names p) (length p.parameters) p.body (omega (arith, h))))
       (returned flat.declared _ flat.value (returned_light w (callables before) light (return_names (callables before) p) p h))
 
-  pub work_light : (profile : Profile) (before : List ProcedureTree) (p : ProcedureTree) → in_procedure w p ≡ 0 → AreAtLight w (work_violations (flattened profile before p))
-  work_light profile before p h = at_place p.place (omega (arith, h)) (when (nat_lt most_work (work_of (flattened profile before p))) TooMuchWork)
+  pub work_light : (before : List ProcedureTree) (p : ProcedureTree) → in_procedure w p ≡ 0 → AreAtLight w (work_violations before p)
+  work_light before p h = at_place p.place (omega (arith, h)) (when (nat_lt most_work (source_work before p)) TooMuchWork)

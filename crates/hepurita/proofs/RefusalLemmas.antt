@@ -8,7 +8,7 @@ use Rattle.language.specs.declared.typing.Violation.{Violation}
 use Rattle.language.specs.FirstViolation.{IsFirst, IsNoLaterThan}
 use Rattle.inline.specs.Numbering.{flattened}
 use Rattle.intervals.specs.Ranges.{range_violations}
-use Rattle.intervals.specs.Work.{work_violations}
+use Rattle.source_work.specs.SourceWork.{work_violations}
 use Rattle.language.specs.Rules.{rank_of}
 use Rattle.language.specs.Size.{size_violations}
 use Rattle.language.specs.Tree.{ProcedureTree, ProgramTree}
@@ -112,7 +112,7 @@ module _ (profile : Profile) where
   of_program program rule rule' place place' (too_much_work {before = before} {export = export} {first = v} small in_range first) (out_of_range {before = front} {export = other} {first = v'} small' first') =
       absurd (none _ _ (of_same profile (IsInRange profile) program before front export other small.well_formed small'.well_formed in_range) first'.there)
   of_program program rule rule' place place' (too_much_work {before = before} {export = export} {first = v} small in_range first) (too_much_work {before = front} {export = other} {first = v'} small' in_range' first') =
-      one_first _ v v' first (of_same profile (λ (b : List ProcedureTree) (e : ProcedureTree). IsFirst (work_violations (flattened profile b e)) v') program front before other export small'.well_formed small.well_formed first')
+      one_first _ v v' first (of_same profile (λ (b : List ProcedureTree) (e : ProcedureTree). IsFirst (work_violations b e) v') program front before other export small'.well_formed small.well_formed first')
 
   -- the offset decides the place
   at_one_place : (text : List ℕ) (program : ProgramTree) (rule rule' : Rule) (place place' : Place) → Reads text (accepted program) → JudgesProgram profile program (refuses rule place) → JudgesProgram profile program (refuses rule' place') → AreOne rule place rule' place'

@@ -1,7 +1,6 @@
 -- An accepted text's image is the export, compiled; and what the passes ask of its export.
 use Rattle.std.proofs.Common.{◌≡◌, ℕ, ◌≤◌, Bool, true, false, nat_lt, List, [], length, Some, map, refl, sym, subst, ◌∙◌, arith}
 use Rattle.std.proofs.lemmas.Bool.Decides.{nat_tests}
-use Rattle.std.specs.List.{AllByRecursion}
 use Rattle.arguments.specs.Within.{AreWithin}
 use Rattle.branch_removal.specs.Removed.{IsRemoved}
 use Rattle.branch_removal.specs.Straight.{StraightProgram}
@@ -21,25 +20,19 @@ use Rattle.inline.specs.Flat.{FlatProgram}
 use Rattle.language.specs.Types.{at, when}
 use Rattle.language.specs.declared.rule.Rule.TheVariants.{TooMuchWork}
 use Rattle.hepurita.specs.Compiled.{Means, IsCompiled}
-use Rattle.language.specs.Grammatical.{IsGrammatical}
-use Rattle.language.specs.Meaning.{Ending, Gives, gives, exported}
+use Rattle.language.specs.Meaning.{Ending, Gives, gives}
 use Rattle.language.specs.Results.{Results}
 use Rattle.language.specs.declared.values.Arg.{Arg}
 use Rattle.source_eval.proofs.WorkedOut.{worked-out}
-use Rattle.syntax.proofs.GrammarLemmas.{read_text}
 use Rattle.syntax.specs.Reading.{Reads, accepted}
 use Rattle.language.specs.Tree.{ProcedureTree, ProgramTree}
 use Rattle.hepurita.specs.Built.{IsSmall, Judges, JudgesProgram, accepts, readable, fine}
 use Rattle.hepurita.proofs.Compiler.{compiled}
-use Rattle.hepurita.proofs.Exports.{of_export}
+use Rattle.hepurita.proofs.GrammaticalExports.{HasGrammaticalExport, grammatical_export, same_work}
 use Rattle.hepurita.proofs.JudgementLemmas.{small_of, in_range_of}
 use Rattle.word.specs.declared.profile.Profile.{Profile}
 
 -- ---- an accepted program's export
-
--- what the grammar gives of it, and of those before it
-abbrev pub HasGrammaticalExport : ProgramTree → Type 0
-HasGrammaticalExport program = (before : List ProcedureTree) (p : ProcedureTree) → exported [] program.procedures ≡ Some (before, p) → AllByRecursion IsGrammatical before × IsGrammatical p
 
 pub flat_typed : (profile : Profile) (program : ProgramTree) (before : List ProcedureTree) (export : ProcedureTree) → HasGrammaticalExport program → IsSmall profile program before export → IsTypedProgram (flattened profile before export)
 flat_typed profile program before export plain small =
@@ -69,12 +62,7 @@ safe_means profile program before export plain small safe args within =
 pub export_compiled : (profile : Profile) (program : ProgramTree) (before : List ProcedureTree) (export : ProcedureTree) (straight : StraightProgram) (image : Fields) → HasGrammaticalExport program → IsSmall profile program before export → length (range_violations (flattened profile before export)) ≡ 0 → IsRemoved (ranged (flattened profile before export)) straight → IsGenerated straight image → IsCompiled program before export image
 export_compiled profile program before export straight image plain small in_range removed generated =
     let safe = accepted_is_safe (flattened profile before export) (flat_typed profile program before export plain small) in_range in
-    compiled profile program before export straight image (safe_means profile program before export plain small safe) removed generated
-
--- the export of a program that a text is, is grammatical, and so are those before it
-pub grammatical_export : (text : List ℕ) (program : ProgramTree) → Reads text (accepted program) → HasGrammaticalExport program
-grammatical_export text program reads before p is =
-    of_export IsGrammatical program.procedures before p is (read_text text program reads)
+    compiled profile program before export straight image (safe_means profile program before export plain small safe) (same_work profile program before export plain small) removed generated
 
 pub texts_compiled : (profile : Profile) (text : List ℕ) (program : ProgramTree) (before : List ProcedureTree) (export : ProcedureTree) (straight : StraightProgram) (image : Fields) → Reads text (accepted program) → JudgesProgram profile program (accepts program before export) → IsRemoved (ranged (flattened profile before export)) straight → IsGenerated straight image → IsCompiled program before export image
 texts_compiled profile text program before export straight image reads judged removed generated =

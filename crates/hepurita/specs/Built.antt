@@ -8,7 +8,7 @@ use Rattle.hepurita.specs.Compiled.{IsCompiled}
 use Rattle.hepurita.specs.Exact.{image_for}
 use Rattle.inline.specs.Numbering.{flattened}
 use Rattle.intervals.specs.Ranges.{range_violations}
-use Rattle.intervals.specs.Work.{work_violations}
+use Rattle.source_work.specs.SourceWork.{work_violations}
 use Rattle.word.specs.declared.place.Place.{Place}
 use Rattle.word.specs.declared.profile.Profile.{Profile}
 use Rattle.language.specs.declared.refusal.Refusal.{Refusal}
@@ -46,9 +46,9 @@ pub data JudgesProgram (profile : Profile) (program : ProgramTree) : Judgement �
   -- an index in it may be out of range, or a divisor 0
   out_of_range : {before : List ProcedureTree} {export : ProcedureTree} {first : Violation} → IsSmall profile program before export → IsFirst (range_violations (flattened profile before export)) first → JudgesProgram profile program (refuses first.rule first.place)
   -- it is too much work
-  too_much_work : {before : List ProcedureTree} {export : ProcedureTree} {first : Violation} → IsSmall profile program before export → length (range_violations (flattened profile before export)) ≡ 0 → IsFirst (work_violations (flattened profile before export)) first → JudgesProgram profile program (refuses first.rule first.place)
+  too_much_work : {before : List ProcedureTree} {export : ProcedureTree} {first : Violation} → IsSmall profile program before export → length (range_violations (flattened profile before export)) ≡ 0 → IsFirst (work_violations before export) first → JudgesProgram profile program (refuses first.rule first.place)
   -- nothing is violated
-  fine : {before : List ProcedureTree} {export : ProcedureTree} → IsSmall profile program before export → length (range_violations (flattened profile before export)) ≡ 0 → length (work_violations (flattened profile before export)) ≡ 0 → JudgesProgram profile program (accepts program before export)
+  fine : {before : List ProcedureTree} {export : ProcedureTree} → IsSmall profile program before export → length (range_violations (flattened profile before export)) ≡ 0 → length (work_violations before export) ≡ 0 → JudgesProgram profile program (accepts program before export)
 
 -- the judgement on a text, for an observer
 pub data Judges (profile : Profile) (text : List ℕ) : Judgement → Type 0 where

@@ -3,8 +3,8 @@ use Rattle.std.specs.Prelude.{◌≡◌, ℕ, ◌+◌, ◌*◌, ◌≤◌, List,
 use Rattle.std.specs.Option.{option_map}
 use Rattle.arguments.specs.PublicResults.{AgreeInPublic}
 use Rattle.arguments.specs.Within.{AreWithin}
-use Rattle.inline.specs.Numbering.{flattened, param_of}
-use Rattle.intervals.specs.Work.{work_of}
+use Rattle.inline.specs.Numbering.{param_of}
+use Rattle.source_work.specs.SourceWork.{source_work}
 use Rattle.image_fields.specs.Fields.{Fields}
 use Rattle.image_fields.specs.Limits.{most_frame_bytes}
 use Rattle.rv_machine.specs.Leakage.{Halts}
@@ -40,7 +40,7 @@ pub record RunsTo (program : ProgramTree) (image : Fields) (code frame : ℕ) (a
 pub record IsCompiled (program : ProgramTree) (before : List ProcedureTree) (p : ProcedureTree) (image : Fields) : Type 0 where
   pub params : params_of image ≡ map param_of p.parameters
   pub result : option_map type_in image.returned ≡ p.result
-  pub max_steps : image.max_steps ≡ 32 * work_of (flattened image.profile before p) + 64
+  pub max_steps : image.max_steps ≡ 32 * source_work before p + 64
   pub frame_size : image.frame_bytes ≤ most_frame_bytes
   pub word_count : length image.words ≤ 32 * nodes_of (extents_of before) p + 64
   -- results: on all arguments within the parameter types

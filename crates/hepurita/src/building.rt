@@ -10,6 +10,7 @@ ghost use Rattle.intervals.specs.Work.{ranged};
 ghost use Rattle.language.specs.Tree.{ProcedureTree, ProgramTree, program_tree};
 ghost use Rattle.word.specs.declared.place.Place.{Place};
 ghost use Rattle.language.specs.declared.rule.Rule.{Rule};
+ghost use Rattle.syntax.specs.Reading.{Reads, accepted};
 ghost use Rattle.hepurita.specs.Exact.{image_for};
 ghost use Rattle.hepurita.specs.Built.{Judgement, Judges, JudgesProgram, IsRefusal, IsBuilt, accepts, refuses};
 
@@ -22,8 +23,9 @@ use language::{Profile, Program, Refusal};
 use std::alloc::Global;
 use syntax::{one_answer_for_a_text, parse};
 
-/// The code of a program that violates no rule, or the first refusal.
+/// The code of a program that is some text and violates no rule, or the first refusal.
 fn compile(alloc: Global, program: &Program<'_>, profile: Profile) -> Result<Code, Refusal>
+    requires read { (text : List ℕ) × Reads text (accepted (program_tree program.now)) }
     ensures accepted { IfOk result (λ image. (before : List ProcedureTree) × (export : ProcedureTree) × JudgesProgram profile (program_tree program.now) (accepts (program_tree program.now) before export) × ((straight : StraightProgram) × IsRemoved (ranged (flattened profile before export)) straight × IsGenerated straight image) × (image ≡ image_for profile before export)) }
     ensures allowed { IfOk result IsImage }
     ensures refused { IfErr result (IsRefusal (JudgesProgram profile (program_tree program.now))) }

@@ -6,7 +6,7 @@ use Rattle.std.specs.Option.{option_map}
 use Rattle.inline.specs.declared.flat.FlatVariable.{FlatVariable}
 use Rattle.inline.specs.Flat.{word_as, counter_type, declaration_of}
 use Rattle.inline.specs.Numbering.{Numbers, Callable, Callables, callable, callables, call_names, call_start, declared_in_all, label_in, names_after, naming, numbers_taken, numbers_taken_all, param_of, parameter_names, passed, statement, term}
-use Rattle.intervals.specs.declared.limits.TheConstants.{MOST_WORK}
+use Rattle.intervals.specs.Limits.{most_work}
 use Rattle.intervals.specs.Intervals.{Bounds, interval, with_bound}
 use Rattle.intervals.specs.Narrowing.{where_false, where_true}
 use Rattle.intervals.specs.Ranges.{bound_of, bounds_after_all, in_loop, most_turns}
@@ -134,4 +134,4 @@ source_work before p = work_in (export_variables before p) (works_of (export_var
 
 -- the limit on work, at the name of the export
 abbrev pub work_violations : List ProcedureTree → ProcedureTree → List Violation
-work_violations before p = at p.place (when (nat_lt MOST_WORK (source_work before p)) TooMuchWork)
+work_violations before p = at p.place (when (nat_lt most_work (source_work before p)) TooMuchWork)

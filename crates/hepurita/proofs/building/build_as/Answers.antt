@@ -13,6 +13,9 @@ returns-in_err-program-clause-refused c =
     let p = err_from_is_err_and c.from_residual.result c.from_residual.ensures.1 in
     rw (p.1, p.2) (refusal_of_text c.args.profile c.args.text.now c.in_err-program.field-0.0 c.in_err-program.ensures.refused)
 
+pub compile-requires : goal.compile-requires
+compile-requires c = (c.args.text.now, c.in_ok-program.ensures.accepted)
+
 pub returns-in_err-code-clause-refused : goal.returns-in_err-code-clause-refused
 returns-in_err-code-clause-refused c =
     let p = err_from_is_err_and c.from_residual-in_err-code.result c.from_residual-in_err-code.ensures.1 in
