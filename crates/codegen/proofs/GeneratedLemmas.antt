@@ -3,12 +3,13 @@ use Rattle.std.proofs.Common.{◌≡◌, ℕ, ◌+◌, ◌*◌, List, [], ◌∷
 use Rattle.std.proofs.lemmas.List.{length-map}
 use Rattle.std.specs.Option.{option_map}
 use Rattle.branch_removal.specs.Straight.{StraightProgram}
-use Rattle.codegen.specs.Followed.{IsGenerated, type_in}
+use Rattle.codegen.specs.Followed.{IsGenerated}
 use Rattle.codegen.specs.private.Generated.{program_code, result_slot, image_of}
 use Rattle.codegen.specs.private.Room.{HasRoom}
 use Rattle.expression_code.specs.Layout.{slots_from}
 use Rattle.codegen.proofs.ImageLemmas.{room_frame}
 use Rattle.codegen.proofs.WholeRuns.{followed}
+use Rattle.image_fields.specs.Fields.{type_in}
 use Rattle.image_fields.specs.declared.slot.Slot.{Slot}
 use Rattle.inline.specs.declared.flat.FlatVariable.{FlatVariable}
 use Rattle.inline.specs.Flat.{declaration_of}

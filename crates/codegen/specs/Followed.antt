@@ -7,15 +7,13 @@ use Rattle.branch_removal.specs.Straight.{StraightProgram}
 use Rattle.branch_removal.specs.StraightMeaning.{outcome_of, path_of}
 use Rattle.codegen.specs.Bases.{AreBases, IsInside}
 use Rattle.codegen.specs.Loaded.{params_of, code_at, loaded_at, results_in}
-use Rattle.image_fields.specs.Fields.{Fields}
+use Rattle.image_fields.specs.Fields.{Fields, type_in}
 use Rattle.image_fields.specs.Limits.{most_frame_bytes}
 use Rattle.inline.specs.Path.{Path, AreFine, seen}
-use Rattle.image_fields.specs.declared.slot.ResultSlot.{ResultSlot}
 use Rattle.rv_machine.specs.Leakage.{Halts}
 use Rattle.rv_machine.specs.Machine.{State}
 use Rattle.rv_machine.specs.declared.observation.Observation.{Observation}
 use Rattle.rv_machine.specs.declared.stops.Stop.TheVariants.{Ecall}
-use Rattle.language.specs.declared.typing.WordType.{WordType}
 use Rattle.language.specs.declared.values.Arg.{Arg}
 
 -- a run on some arguments, which shows this list
@@ -31,10 +29,6 @@ pub record RunsAs (p : StraightProgram) (image : Fields) (code frame : ℕ) (arg
 pub record IsFollowed (p : StraightProgram) (image : Fields) (code frame : ℕ) : Type 0 where
   pub shown : Path → List Observation
   pub runs : (args : List Arg) → AreWithin p.parameters args → AreFine p.turns (path_of p args) → RunsAs p image code frame args (shown (seen p.profile (path_of p args)))
-
--- the type of what a slot holds
-abbrev pub type_in : ResultSlot → WordType
-type_in slot = record { kind = slot.kind; label = slot.label }
 
 -- the image is the code's
 pub record IsGenerated (p : StraightProgram) (image : Fields) : Type 0 where

@@ -5,7 +5,7 @@ use Rattle.arguments.specs.PublicResults.{AgreeInPublic}
 use Rattle.arguments.specs.Within.{AreWithin}
 use Rattle.inline.specs.Numbering.{param_of}
 use Rattle.source_work.specs.SourceWork.{source_work}
-use Rattle.image_fields.specs.Fields.{Fields}
+use Rattle.image_fields.specs.Fields.{Fields, type_in}
 use Rattle.image_fields.specs.Limits.{most_frame_bytes}
 use Rattle.rv_machine.specs.Leakage.{Halts}
 use Rattle.rv_machine.specs.Machine.{State}
@@ -18,7 +18,6 @@ use Rattle.language.specs.Size.{extents_of, nodes_of}
 use Rattle.language.specs.Tree.{ProcedureTree, ProgramTree}
 use Rattle.arguments.specs.Agreement.{Agree}
 use Rattle.codegen.specs.Bases.{AreBases, IsInside}
-use Rattle.codegen.specs.Followed.{type_in}
 use Rattle.codegen.specs.Loaded.{params_of, code_at, loaded_at, results_in}
 
 -- on these arguments the program gives these results, and nothing else: it meets no fault

@@ -5,6 +5,7 @@ use Rattle.word.specs.declared.profile.Profile.{Profile}
 use Rattle.language.specs.declared.signature.Kind.{Kind}
 use Rattle.language.specs.declared.signature.Form.{Form}
 use Rattle.language.specs.declared.signature.Form.TheVariants.{SingleWord, FixedArray, MutableArray}
+use Rattle.language.specs.declared.typing.WordType.{WordType}
 use Rattle.language.specs.Limits.{most_elements}
 use Rattle.language.specs.Size.{held_words}
 use Rattle.image_fields.specs.Limits.{most_parameters, most_frame_bytes, most_steps, most_words}
@@ -27,6 +28,10 @@ slot_bytes form kind count = 4 * held_words form kind count
 -- where a slot ends: the offset of the first byte after it
 abbrev pub slot_end : Slot → ℕ
 slot_end slot = slot.offset + slot_bytes slot.param.form slot.param.kind slot.param.length
+
+-- the type of what a result's slot holds
+abbrev pub type_in : ResultSlot → WordType
+type_in slot = record { kind = slot.kind; label = slot.label }
 
 -- a result is a word
 abbrev pub result_end : ResultSlot → ℕ
