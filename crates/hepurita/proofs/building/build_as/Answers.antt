@@ -14,7 +14,7 @@ returns-in_err-program-clause-refused c =
     rw (p.1, p.2) (refusal_of_text c.args.profile c.args.text.now c.in_err-program.field-0.0 c.in_err-program.ensures.refused)
 
 pub compile-requires : goal.compile-requires
-compile-requires c = (c.args.text.now, c.in_ok-program.ensures.accepted)
+compile-requires c = record { read = (c.args.text.now, c.in_ok-program.ensures.accepted) }
 
 pub returns-in_err-code-clause-refused : goal.returns-in_err-code-clause-refused
 returns-in_err-code-clause-refused c =
