@@ -17,7 +17,9 @@ use crate::statements::body;
 use crate::values::{Value, Word};
 use crate::variables::Variables;
 use arguments::{ArgumentFault, first_fault_of};
-use language::{Arg, Args, Form, Kind, MOST_BODIES, Numbers, Outcome, Parameter, Procedure, Program};
+use language::{
+    Arg, Args, Form, Kind, MOST_BODIES, Numbers, Outcome, Parameter, Procedure, Program,
+};
 use std::alloc::Global;
 
 /// What a parameter of this kind holds.
