@@ -119,7 +119,7 @@ fn sign_extended(immediate: Immediate12) -> u32
 
 /// The address of a load or a store.
 #[inline(always)]
-fn address(hart: &Hart, rs1: Reg, offset: Immediate12) -> u32
+pub fn address(hart: &Hart, rs1: Reg, offset: Immediate12) -> u32
     ensures { result ≡ address_of (regs_of hart.now) rs1 offset }
 {
     word::add(Width::W32, hart.reg(rs1), sign_extended(offset))

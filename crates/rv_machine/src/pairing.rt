@@ -46,8 +46,8 @@ fn is_same_event(one: Option<Event>, other: Option<Event>) -> bool
     one == other
 }
 
-// How many entries an observation has.
-fn entry_count(seen: &Observation) -> u64
+/// How many entries an observation has.
+pub fn entry_count(seen: &Observation) -> u64
     ensures { result ≡ length (entries_of (seen.now ∷ [])) }
 {
     if seen.event.is_some() { 2 } else { 1 }

@@ -118,7 +118,7 @@ pub(crate) fn holds(test: BranchTest, a: u32, b: u32) -> bool
 
 /// How many bytes a load takes.
 #[inline(always)]
-pub(crate) fn load_size(operation: LoadOperation) -> Size
+pub fn load_size(operation: LoadOperation) -> Size
     ensures { result ≡ load_size operation }
 {
     match operation {
@@ -142,7 +142,7 @@ pub(crate) fn loaded_value(operation: LoadOperation, value: u32) -> u32
 
 /// How many bytes a store takes.
 #[inline(always)]
-pub(crate) fn store_size(operation: StoreOperation) -> Size
+pub fn store_size(operation: StoreOperation) -> Size
     ensures { result ≡ store_size operation }
 {
     match operation {
