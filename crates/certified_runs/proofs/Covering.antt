@@ -43,7 +43,7 @@ number_extent old new same zero a = ap is_some (number_at-zero new a ∙ sym (nu
 number_extent old new same (suc n) a =
     ap is_some (number_at-suc new n a) ∙ joined_extent (old a) (new a) (number_at old n (a + 1)) (number_at new n (a + 1)) (same a) (number_extent old new same n (a + 1)) ∙ sym (ap is_some (number_at-suc old n a))
 
-knows_bytes-suc : (known : ℕ → Bool) (n a : ℕ) → knows_bytes known (suc n) a ≡ (known a && knows_bytes known n (a + 1))
+pub knows_bytes-suc : (known : ℕ → Bool) (n a : ℕ) → knows_bytes known (suc n) a ≡ (known a && knows_bytes known n (a + 1))
 unfolding knows_bytes
 knows_bytes-suc known n a = refl
 

@@ -1,2 +1,8 @@
 pub mod Covering
+pub mod Ends
+pub mod FirstEntry
+pub mod KnownTurns
+pub mod Marks
+pub mod OneEnd
 pub mod Runs
+pub mod Unknown

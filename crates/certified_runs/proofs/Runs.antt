@@ -20,7 +20,7 @@ itself k = record { pc = refl; registers = λ r h. refl; extent = λ a. refl; by
 
 module _ (code : Code) (k : Known) (s : State) (covers : Covers k s) where
   -- the turn of an instruction at the program counter
-  turn_at : (i : Instr) → IsAt code k.state.pc i → Turn code s (ending_of code.profile (effect_of i s.pc s.regs) s)
+  pub turn_at : (i : Instr) → IsAt code k.state.pc i → Turn code s (ending_of code.profile (effect_of i s.pc s.regs) s)
   turn_at i at =
       let there : IsAt code s.pc i = subst (λ pc. IsAt code pc i) (sym covers.pc) at in
       executes i there.aligned there.word there.in_range refl

@@ -1,2 +1,5 @@
 pub mod Certified
+pub mod End
 pub mod Known
+pub mod Parts
+pub mod private

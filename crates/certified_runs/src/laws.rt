@@ -3,6 +3,7 @@
 ghost use Rattle.std.specs.Prelude.{◌≡◌, ◌≢◌, ℕ, ◌<◌, ◌∷◌, ◌++◌, List};
 ghost use Rattle.rv_machine.specs.declared.observation.Observation.{Observation};
 ghost use Rattle.rv_machine.specs.declared.stops.Stop.{Stop};
+ghost use Rattle.rv_machine.specs.Entries.{Entry, entries_of};
 ghost use Rattle.rv_machine.specs.Leakage.{Leads, Runs};
 ghost use Rattle.rv_machine.specs.Machine.{State, Code, Ending, Turn};
 ghost use Rattle.certified_runs.specs.Certified.{KnownEnding, KnownTurn, RunEnding, CertifiedRun};
@@ -37,10 +38,35 @@ pub fn certified_runs_cover()
         → (shown ≡ seen) × (other ≡ stop) }
 {}
 
+/// A certified run has an end, and only one.
+pub fn certified_runs_have_one_end()
+    ensures some { (code : Code) (budget : ℕ) (k : Known)
+        → (seen : List Observation) × (ending : RunEnding) × CertifiedRun code budget k seen ending }
+    ensures one { (code : Code) (budget : ℕ) (k : Known) (seen shown : List Observation) (ending other : RunEnding)
+        → CertifiedRun code budget k seen ending → CertifiedRun code budget k shown other
+        → (seen ≡ shown) × (ending ≡ other) }
+{}
+
+/// How a certified run ends depends on what is known alone: what the state holds elsewhere makes no difference.
+pub fn certified_runs_depend_on_what_is_known()
+    ensures { (code : Code) (budget : ℕ) (k other : Known) (seen : List Observation) (ending : RunEnding)
+        → Covers k other.state → other.registers ≡ k.registers → other.bytes ≡ k.bytes
+        → CertifiedRun code budget k seen ending → CertifiedRun code budget other seen ending }
+{}
+
 /// Where a certified run may differ, each covered state makes turns that show its list, fewer than the budget, up to the
 /// program counter of the turn that may differ.
 pub fn certified_runs_cut_short_agree()
     ensures { (code : Code) (budget : ℕ) (k : Known) (s : State) (seen : List Observation) (pc : ℕ)
         → CertifiedRun code budget k seen (RunEnding.may_differ pc) → Covers k s
         → (n : ℕ) × (t : State) × (n < budget) × Leads code n s seen t × (t.pc ≡ pc) }
+{}
+
+/// And every run from a covered state with its budget, cut short by no recorder, shows first the entries of its list and
+/// then that program counter, so that all these entries are common.
+pub fn runs_that_may_differ_begin_alike()
+    ensures { (code : Code) (budget : ℕ) (k : Known) (s t : State) (seen shown : List Observation) (stop : Stop) (pc : ℕ)
+        → CertifiedRun code budget k seen (RunEnding.may_differ pc) → Covers k s
+        → Runs code budget s shown stop t → stop ≢ Stop.RecorderRefused
+        → (rest : List Entry) × (entries_of shown ≡ entries_of seen ++ Entry.program_counter pc ∷ rest) }
 {}

@@ -1,13 +1,24 @@
 // Certified runs: one run of any code in which some registers and bytes are unknown, so that what it shows holds of all
 // their values at once.
 //
-// Its laws say that a turn of what is known keeps covering each state that it covered, and shows what that state's turn
-// shows, or says that this may depend on what is unknown; and so do runs (`specs/Known.antt`, `specs/Certified.antt`). What
-// instructions compute is the table of `rv_machine`, on which this stands.
+// `certify` makes such a run and answers how it ends: alike whatever the unknown parts hold, or at a turn that may go by them.
+// It asks of each instruction whether what decides it is known (`changes`), and has the machine make the turn (`turns`), so
+// what instructions compute is the table of `rv_machine` alone, on which this stands.
+//
+// The laws say that a turn of what is known keeps covering each state that it covered, and shows what that state's turn
+// shows, or says that this may depend on what is unknown; and so do runs (`specs/Known.antt`, `specs/Certified.antt`).
 #![tactic(auto)]
 
+mod certifying;
+mod changes;
+mod known_parts;
 mod laws;
+mod turns;
 
+pub use certifying::{CertifiedEnd, certify};
+pub use known_parts::KnownParts;
 pub use laws::{
-    certified_runs_cover, certified_runs_cut_short_agree, turns_keep_covering, what_is_known_covers,
+    certified_runs_cover, certified_runs_cut_short_agree, certified_runs_depend_on_what_is_known,
+    certified_runs_have_one_end, runs_that_may_differ_begin_alike, turns_keep_covering,
+    what_is_known_covers,
 };

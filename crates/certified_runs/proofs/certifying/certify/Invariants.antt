@@ -1,0 +1,23 @@
+-- The turns so far lead to what is known now, and have shown so many entries.
+use Rattle.std.proofs.Common.{◌+◌, ◌*◌, ◌≤◌}
+use Rattle.rv_machine.specs.Harts.{state_of}
+use Rattle.rv_machine.specs.Regions.{code_of}
+use Rattle.certified_runs.specs.Parts.{known_of}
+use Rattle.certified_runs.specs.private.Turned.{HaveOneExtent}
+use Rattle.certified_runs.proofs.Ends.{HasLed}
+use Rattle.certified_runs.proofs.certifying.certify.Given as goal
+
+abbrev pub invariant-loop-run : goal.invariant-loop-run
+invariant-loop-run g l =
+    let bytes = g.M.Memory.bytes in
+    record {
+      led : HasLed (code_of l.code)
+          l.fn.run.turns_left (known_of (state_of l.fn.run.hart (bytes l.fn.run.memory)) l.fn.known.registers (bytes l.fn.known.marks))
+          l.run.turns_left (known_of (state_of l.run.hart (bytes l.run.memory)) l.known.registers (bytes l.known.marks))
+          l.entries;
+      extent : HaveOneExtent (bytes l.known.marks) (bytes l.run.memory);
+      few : l.entries + 2 * l.run.turns_left ≤ 2 * l.fn.run.turns_left;
+    }
+
+abbrev pub decreases-loop-run : goal.decreases-loop-run
+decreases-loop-run g l = l.run.turns_left

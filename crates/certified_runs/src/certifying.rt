@@ -1,0 +1,65 @@
+// Certified runs: turns of what is known until one stops, or may depend on what is unknown.
+
+ghost use Rattle.std.specs.Prelude.{◌≡◌, ℕ, ◌<◌, ◌^◌, List, is_some};
+ghost use Rattle.rv_machine.specs.Harts.{state_of};
+ghost use Rattle.rv_machine.specs.Regions.{code_of};
+ghost use Rattle.rv_machine.specs.declared.observation.Observation.{Observation};
+ghost use Rattle.certified_runs.specs.Certified.{RunEnding, CertifiedRun};
+ghost use Rattle.certified_runs.specs.End.{end_of};
+ghost use Rattle.certified_runs.specs.Parts.{known_of};
+
+use crate::known_parts::KnownParts;
+use crate::turns::{TurnEnd, turn};
+use rv_machine::{CodeRegion, Memory, Running, Stop};
+use std::alloc::Global;
+
+/// How a certified run ends. Entries are what an observer sees, one by one: each program counter, and
+/// after it what that turn loads, stores, divides or multiplies.
+#[derive(Clone, Copy, Debug, PartialEq, Eq)]
+pub enum CertifiedEnd {
+    /// All that is unknown makes no difference: so many entries are shown, and then the run stops so.
+    Same { stop: Stop, entries: u64 },
+    /// This entry, counted from 0, is the first that may differ. It is the one after the entry for
+    /// this program counter, whose instruction goes by something that is unknown.
+    MayDiffer { entry: u64, pc: u32 },
+}
+
+/// Makes turns of a run of which these parts are known, until one stops, or until what it shows may
+/// depend on what is unknown. It makes no more turns than the run may still make, and takes no memory.
+pub fn certify<M: Memory>(
+    alloc: Global,
+    code: &CodeRegion,
+    run: &mut Running<M>,
+    known: &mut KnownParts<M>,
+) -> CertifiedEnd
+    requires few { run.old.turns_left < 2 ^ 63 }
+    requires extent { (a : ℕ) → is_some (M.bytes known.old.marks a) ≡ is_some (M.bytes run.old.memory a) }
+    ensures { (seen : List Observation) × (ending : RunEnding)
+        × CertifiedRun (code_of code.now) run.old.turns_left
+        (known_of (state_of run.old.hart (M.bytes run.old.memory)) known.old.registers (M.bytes known.old.marks)) seen ending
+        × (result ≡ end_of seen ending) }
+{
+    let mut entries = 0;
+    while run.turns_left > 0 {
+        match turn(alloc, code, &mut run.hart, &mut run.memory, known) {
+            TurnEnd::LeadsOn(more) => entries += more,
+            TurnEnd::Ends(more, stop) => {
+                return CertifiedEnd::Same {
+                    stop,
+                    entries: entries + more,
+                };
+            }
+            TurnEnd::Depends => {
+                return CertifiedEnd::MayDiffer {
+                    entry: entries + 1,
+                    pc: run.hart.pc(),
+                };
+            }
+        }
+        run.turns_left -= 1;
+    }
+    CertifiedEnd::Same {
+        stop: Stop::Budget,
+        entries,
+    }
+}

@@ -1,0 +1,103 @@
+// One turn of what is known: it is asked what decides it, and then made by the machine.
+
+ghost use Rattle.std.specs.Prelude.{◌≡◌, ◌≤◌, None, IfSome, length};
+ghost use Rattle.rv_machine.specs.Bytes.{ByteMap};
+ghost use Rattle.rv_machine.specs.Entries.{entries_of};
+ghost use Rattle.rv_machine.specs.Harts.{state_of};
+ghost use Rattle.rv_machine.specs.ListRecording.{recorded};
+ghost use Rattle.rv_machine.specs.Regions.{code_of};
+ghost use Rattle.certified_runs.specs.Certified.{KnownTurn, KnownEnding};
+ghost use Rattle.certified_runs.specs.Parts.{known_registers, known_bytes, known_of};
+ghost use Rattle.certified_runs.specs.private.Changes.{registers_with, bytes_with, IsPossible};
+ghost use Rattle.certified_runs.specs.private.Turned.{HaveOneExtent, IsDecided, HasTurned};
+
+use crate::changes::{Change, change_of, decides};
+use crate::known_parts::KnownParts;
+use rv_machine::{CodeRegion, Hart, Memory, Stop, TurnRecorder, entry_count, step};
+use std::alloc::Global;
+
+/// How a turn of what is known ends.
+#[derive(Clone, Copy, Debug, PartialEq, Eq)]
+pub(crate) enum TurnEnd {
+    /// It shows so many entries and goes on.
+    LeadsOn(u64),
+    /// It shows so many entries and stops.
+    Ends(u64, Stop),
+    /// What it shows may depend on what is unknown. It was not made.
+    Depends,
+}
+
+// What the turn of the instruction at the program counter, if there is one, changes in what is
+// known. `None` where the turn may depend on what is unknown.
+#[inline(always)]
+fn outlook<M: Memory>(code: &CodeRegion, hart: &Hart, known: &KnownParts<M>) -> Option<Change>
+    ensures decided { IfSome result (λ change. (bytes : ByteMap)
+        → IsDecided (code_of code.now) (known_of (state_of hart.now bytes) known.now.registers (M.bytes known.now.marks)) change) }
+    ensures depends { result ≡ None → (bytes : ByteMap)
+        → KnownTurn (code_of code.now) (known_of (state_of hart.now bytes) known.now.registers (M.bytes known.now.marks)) KnownEnding.depends }
+{
+    match code.instruction_at(hart.pc()) {
+        Some(instr) if decides(code.profile(), instr, known) => {
+            Some(change_of(instr, hart, known))
+        }
+        Some(_) => None,
+        None => Some(Change::Nothing),
+    }
+}
+
+// Makes a change in what is known.
+#[inline(always)]
+fn make<M: Memory>(known: &mut KnownParts<M>, change: Change)
+    requires { IsPossible (M.bytes known.old.marks) change }
+    ensures registers { known_registers known.new.registers ≡ registers_with change (known_registers known.old.registers) }
+    ensures bytes { known_bytes (M.bytes known.new.marks) ≡ bytes_with change (known_bytes (M.bytes known.old.marks)) }
+    ensures extent { HaveOneExtent (M.bytes known.new.marks) (M.bytes known.old.marks) }
+{
+    match change {
+        Change::Register(rd, is_known) => known.set_register(rd, is_known),
+        Change::Bytes(a, n, are_known) => {
+            known.set_bytes(a, n, are_known);
+        }
+        Change::Nothing => {}
+    }
+}
+
+// How many entries the recorder of one turn holds.
+#[inline(always)]
+fn entries_in(recorder: &TurnRecorder) -> u64
+    requires { length (recorded recorder.now) ≤ 1 }
+    ensures { result ≡ length (entries_of (recorded recorder.now)) }
+{
+    match recorder.first() {
+        Some(observation) => entry_count(&observation),
+        None => 0,
+    }
+}
+
+/// Makes the next turn of what is known, unless what it shows may depend on what is unknown.
+#[inline(always)]
+pub(crate) fn turn<M: Memory>(
+    alloc: Global,
+    code: &CodeRegion,
+    hart: &mut Hart,
+    memory: &mut M,
+    known: &mut KnownParts<M>,
+) -> TurnEnd
+    requires { HaveOneExtent (M.bytes known.old.marks) (M.bytes memory.old) }
+    ensures turned { HasTurned (code_of code.now)
+        (known_of (state_of hart.old (M.bytes memory.old)) known.old.registers (M.bytes known.old.marks)) result
+        (known_of (state_of hart.new (M.bytes memory.new)) known.new.registers (M.bytes known.new.marks)) }
+    ensures extent { HaveOneExtent (M.bytes known.new.marks) (M.bytes memory.new) }
+{
+    let Some(change) = outlook(code, hart, known) else {
+        return TurnEnd::Depends;
+    };
+    let mut recorder = TurnRecorder::new(alloc);
+    let stop = step(hart, code, memory, &mut recorder);
+    let entries = entries_in(&recorder);
+    if let Some(stop) = stop {
+        return TurnEnd::Ends(entries, stop);
+    }
+    make(known, change);
+    TurnEnd::LeadsOn(entries)
+}
