@@ -4,6 +4,8 @@
 #![tactic(auto)]
 
 #[cfg(test)]
+mod certified;
+#[cfg(test)]
 mod fields;
 #[cfg(test)]
 mod instructions;

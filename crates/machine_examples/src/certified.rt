@@ -1,0 +1,180 @@
+// Certified runs of a few words, of which the first loads a word that is unknown. Their entries are counted by hand.
+
+ghost use Rattle.std.specs.Prelude.{◌≡◌, ◌≤◌, length};
+
+use certified_runs::{CertifiedEnd, KnownParts, certify};
+use rv_machine::hart::Hart;
+use rv_machine::{CodeRegion, FlatMemory, Running, Size, Stop};
+use std::alloc::{AllocError, Global};
+use std::test::Fail;
+use word::Profile;
+
+const CODE: u32 = 0x0001_0000;
+
+const DATA: u32 = 0x1000_0000;
+
+// lw x5, 0(x2)
+const LOAD: u32 = 0x0001_2283;
+
+const ECALL: u32 = 0x0000_0073;
+
+// How the certified run of these words ends that begins with the data's address in x2 and all known but the one
+// word of data.
+fn end_of(
+    alloc: Global,
+    words: &[u32],
+    profile: Profile,
+    budget: u64,
+) -> Result<CertifiedEnd, AllocError>
+    requires few_words { length words.now ≤ 100 }
+    requires few_turns { budget ≤ 100 }
+{
+    let code = CodeRegion::new_as(alloc, CODE, words, profile)?;
+    let mut run = Running {
+        hart: Hart::new(CODE, DATA),
+        memory: FlatMemory::new(alloc, DATA, 4)?,
+        turns_left: budget,
+    };
+    let mut known = KnownParts::new(FlatMemory::new(alloc, DATA, 4)?);
+    known.set_bytes(DATA, Size::Word, false);
+    Ok(certify(alloc, &code, &mut run, &mut known))
+}
+
+const SAME: CertifiedEnd = CertifiedEnd::Same {
+    stop: Stop::Ecall,
+    entries: 4,
+};
+
+const MAY_DIFFER: CertifiedEnd = CertifiedEnd::MayDiffer {
+    entry: 3,
+    pc: 0x1_0004,
+};
+
+// Instructions that read the unknown x5, and how a run ends that comes to them, in each profile.
+const READERS: [(u32, CertifiedEnd, CertifiedEnd); 12] = [
+    // beq x5, x0, 8
+    (0x0002_8463, MAY_DIFFER, MAY_DIFFER),
+    // beq x0, x5, 8
+    (0x0050_0463, MAY_DIFFER, MAY_DIFFER),
+    // lw x6, 0(x5)
+    (0x0002_a303, MAY_DIFFER, MAY_DIFFER),
+    // sw x0, 0(x5)
+    (0x0002_a023, MAY_DIFFER, MAY_DIFFER),
+    // jalr x0, 0(x5)
+    (0x0002_8067, MAY_DIFFER, MAY_DIFFER),
+    // divu x5, x6, x5
+    (0x0253_52b3, MAY_DIFFER, MAY_DIFFER),
+    // divu x5, x5, x6
+    (0x0262_d2b3, MAY_DIFFER, MAY_DIFFER),
+    // mul x5, x0, x5
+    (0x0250_02b3, SAME, MAY_DIFFER),
+    // add x5, x5, x5
+    (0x0052_82b3, SAME, SAME),
+    // addi x5, x5, 1
+    (0x0012_8293, SAME, SAME),
+    // slli x5, x5, 1
+    (0x0012_9293, SAME, SAME),
+    // fence
+    (0x0ff0_000f, SAME, SAME),
+];
+
+#[test]
+fn goes_by_what_is_known(rt: HostRuntime) -> Result<(), Fail> {
+    for (word, one, two) in READERS {
+        let words = [LOAD, word, ECALL];
+        let first = end_of(rt.alloc(), &words, Profile::P1, 10)?;
+        assert_eq!(rt; first, one, "{word:08x}");
+        let second = end_of(rt.alloc(), &words, Profile::P2, 10)?;
+        assert_eq!(rt; second, two, "{word:08x}");
+    }
+    Ok(())
+}
+
+// sw x0, 0(x2)
+const CLEAR: u32 = 0x0001_2023;
+
+// sb x0, 3(x2)
+const CLEAR_BYTE: u32 = 0x0001_01a3;
+
+// sw x5, 0(x2)
+const STORE: u32 = 0x0051_2023;
+
+// bne x5, x0, 8
+const BRANCH: u32 = 0x0002_9463;
+
+#[test]
+fn knows_what_was_stored(rt: HostRuntime) -> Result<(), Fail> {
+    let known = end_of(rt.alloc(), &[CLEAR, LOAD, BRANCH, ECALL], Profile::P1, 10)?;
+    assert_eq!(rt;
+        known,
+        CertifiedEnd::Same {
+            stop: Stop::Ecall,
+            entries: 6
+        }
+    );
+    let partly = end_of(
+        rt.alloc(),
+        &[CLEAR_BYTE, LOAD, BRANCH, ECALL],
+        Profile::P1,
+        10,
+    )?;
+    assert_eq!(rt;
+        partly,
+        CertifiedEnd::MayDiffer {
+            entry: 5,
+            pc: 0x1_0008
+        }
+    );
+    let again = end_of(
+        rt.alloc(),
+        &[LOAD, CLEAR, STORE, LOAD, BRANCH, ECALL],
+        Profile::P1,
+        10,
+    )?;
+    assert_eq!(rt;
+        again,
+        CertifiedEnd::MayDiffer {
+            entry: 9,
+            pc: 0x1_0010
+        }
+    );
+    Ok(())
+}
+
+#[test]
+fn stops_as_the_machine_does(rt: HostRuntime) -> Result<(), Fail> {
+    let spent = end_of(rt.alloc(), &[LOAD, BRANCH], Profile::P1, 1)?;
+    assert_eq!(rt;
+        spent,
+        CertifiedEnd::Same {
+            stop: Stop::Budget,
+            entries: 2
+        }
+    );
+    let none = end_of(rt.alloc(), &[LOAD], Profile::P1, 0)?;
+    assert_eq!(rt;
+        none,
+        CertifiedEnd::Same {
+            stop: Stop::Budget,
+            entries: 0
+        }
+    );
+    // the code has ended, and the turn there shows nothing
+    let past = end_of(rt.alloc(), &[LOAD], Profile::P1, 10)?;
+    assert_eq!(rt;
+        past,
+        CertifiedEnd::Same {
+            stop: Stop::AccessFault,
+            entries: 2
+        }
+    );
+    let illegal = end_of(rt.alloc(), &[LOAD, 0], Profile::P1, 10)?;
+    assert_eq!(rt;
+        illegal,
+        CertifiedEnd::Same {
+            stop: Stop::Illegal,
+            entries: 3
+        }
+    );
+    Ok(())
+}
