@@ -16,7 +16,7 @@ use Rattle.image.specs.declared.fault.ImageFault.{ImageFault}
 use Rattle.image.specs.declared.fault.ImageFault.TheVariants.{Field}
 use Rattle.image.specs.Limits.{magic_number, format_version}
 use Rattle.word.specs.declared.profile.Profile as observer
-use Rattle.image.specs.declared.fields.Fault.{Fault}
+use Rattle.image.specs.declared.fields.FieldFault.{FieldFault}
 use Rattle.image_fields.specs.Fields.{Fields, slot_end, slots_end, is_length}
 use Rattle.image_fields.specs.Limits.{most_parameters}
 use Rattle.image.specs.Format.{Format, ends, field, read_by, fault_at}
@@ -27,17 +27,17 @@ abbrev Answer : Type 0
 Answer = Result Fields ImageFault
 
 -- each fault by the offset of its field
-abbrev pub placed : ℕ → Result Fields Fault → Answer
+abbrev pub placed : ℕ → Result Fields FieldFault → Answer
 placed total (Ok fields) = Ok fields
 placed total (Err fault) = Err (Field fault.rule (total - fault.left))
 
 module _ (total : ℕ) where
   -- what a part gives, handed on
-  abbrev onward : {A : Type 0} → Result A Fault → (A → Answer) → Answer
+  abbrev onward : {A : Type 0} → Result A FieldFault → (A → Answer) → Answer
   onward (Ok x) next = next x
   onward (Err fault) next = Err (Field fault.rule (total - fault.left))
 
-  steps : {A B : Type 0} (r : Result A Fault) (f : A → Result B Fault) (one : A → Answer) (other : B → Answer) → ((x : A) → one x ≡ onward (f x) other) → onward r one ≡ onward (r >>= f) other
+  steps : {A B : Type 0} (r : Result A FieldFault) (f : A → Result B FieldFault) (one : A → Answer) (other : B → Answer) → ((x : A) → one x ≡ onward (f x) other) → onward r one ≡ onward (r >>= f) other
   steps (Ok x) f one other h = h x
   steps (Err fault) f one other h = refl
 
@@ -264,7 +264,7 @@ module _ (total : ℕ) where
   unfolding all_of
   all_join left = fields_join left ∙ steps (fields_at left) (λ (x : Fields × List ℕ). cond (eqb (length x.1) 0) (Ok x.0) (Err (record { rule = TrailingBytes; left = length x.1 }))) _ (λ (f : Fields). Ok f) (λ (x : Fields × List ℕ). ends_join x.0 x.1)
 
-  onward_placed : (r : Result Fields Fault) → onward r (λ f. Ok f) ≡ placed total r
+  onward_placed : (r : Result Fields FieldFault) → onward r (λ f. Ok f) ≡ placed total r
   onward_placed (Ok f) = refl
   onward_placed (Err fault) = refl
 
@@ -275,5 +275,5 @@ reading_placed bytes = all_join (length bytes) bytes ∙ onward_placed (length b
 pub reading_found : (bytes : List ℕ) (fields : Fields) → all_of bytes ≡ Ok fields → reading bytes ≡ Ok fields
 reading_found bytes fields is = reading_placed bytes ∙ ap (placed (length bytes)) is
 
-pub reading_fails : (bytes : List ℕ) (fault : Fault) → all_of bytes ≡ Err fault → reading bytes ≡ Err (Field fault.rule (length bytes - fault.left))
+pub reading_fails : (bytes : List ℕ) (fault : FieldFault) → all_of bytes ≡ Err fault → reading bytes ≡ Err (Field fault.rule (length bytes - fault.left))
 reading_fails bytes fault is = reading_placed bytes ∙ ap (placed (length bytes)) is

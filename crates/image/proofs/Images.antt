@@ -12,7 +12,7 @@ use Rattle.image.specs.declared.fault.ImageFault.{ImageFault}
 use Rattle.image.specs.Limits.{magic_number, format_version}
 use Rattle.word.specs.declared.profile.Profile as observer
 use Rattle.word.specs.declared.profile.Profile.TheVariants.{P1, P2}
-use Rattle.image.specs.declared.fields.Fault.{Fault}
+use Rattle.image.specs.declared.fields.FieldFault.{FieldFault}
 use Rattle.image_fields.specs.Fields.{Fields, slot_end, slots_end, result_end, AreSlots, IsResultSlot, IsImage}
 use Rattle.image_fields.specs.Limits.{most_parameters, most_frame_bytes, most_steps, most_words}
 use Rattle.image.specs.private.Spelling.{profile_number, preamble, spelled_slot, spelled_result, spelling}
@@ -291,7 +291,7 @@ all_again f h =
 pub reading_again : (f : Fields) → IsImage f → reading (spelling f) ≡ Ok f
 reading_again f h = reading_found (spelling f) f (all_again f h)
 
-placed_ok : (total : ℕ) (r : Result Fields Fault) (f : Fields) → placed total r ≡ Ok f → r ≡ Ok f
+placed_ok : (total : ℕ) (r : Result Fields FieldFault) (f : Fields) → placed total r ≡ Ok f → r ≡ Ok f
 placed_ok total (Ok g) f e = let h : g ≡ f = cc in ap (λ (x : Fields). Ok x) h
 placed_ok total (Err fault) f e = absurd cc
 
@@ -304,7 +304,7 @@ is_allowed bytes (Ok f) fits given = (is_spelled bytes f fits given).0
 is_allowed bytes (Err e) fits given = tt
 
 -- fields and what stands after them, once more
-same_fields : (f g : Fields) (x y : List ℕ) (r : Result (Fields × List ℕ) Fault) → r ≡ Ok (f, x) → r ≡ Ok (g, y) → (f ≡ g) × (x ≡ y)
+same_fields : (f g : Fields) (x y : List ℕ) (r : Result (Fields × List ℕ) FieldFault) → r ≡ Ok (f, x) → r ≡ Ok (g, y) → (f ≡ g) × (x ≡ y)
 same_fields f g x y r p q =
     let both : (f, x) ≡ (g, y) = ok_is (f, x) (g, y) (sym p ∙ q) in
     (ap (λ (z : Fields × List ℕ). z.0) both, ap (λ (z : Fields × List ℕ). z.1) both)

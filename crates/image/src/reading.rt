@@ -1,17 +1,49 @@
 ghost use Rattle.std.specs.Prelude.{◌≡◌, length, IfOk};
 ghost use Rattle.image_fields.specs.Fields.{IsImage, slots_end};
 ghost use Rattle.image.specs.Reading.{IsUnlessMemory, reading};
+ghost use Rattle.image.specs.declared.reading.ReadError.TheVariants.{Memory, Fault};
 ghost use Rattle.image.specs.private.Parts.{Gives, slots_at, words_at, layout_at, code_at, layout_fields, code_fields, fields_of, all_of};
 
 use crate::fields::{
-    ReadError, fault_of, read_frame_bytes, read_max_steps, read_parameter_count, read_preamble,
+    FieldFault, fault_of, read_frame_bytes, read_max_steps, read_parameter_count, read_preamble,
     read_returned, read_slot, read_u32, read_word_count,
 };
 use crate::limits::{PARAMETER_BYTES, WORD_BYTES};
 use crate::{Image, ImageFault, ImageRule};
 use image_fields::{ImageFields, ResultSlot, Slot};
 use language::Profile;
-use std::alloc::Global;
+use std::alloc::{AllocError, AllocFailed, Global};
+
+/// Why parts that take memory were not read.
+#[derive(Debug, Drop)]
+enum ReadError {
+    Memory,
+    Fault(FieldFault),
+}
+
+impl From<FieldFault> for ReadError {
+    ghost from_gives = { λ fault e. e ≡ Fault fault };
+
+    fn from(fault: FieldFault) -> Self {
+        ReadError::Fault(fault)
+    }
+}
+
+impl From<AllocError> for ReadError {
+    ghost from_gives = { λ _ e. e ≡ Memory };
+
+    fn from(_: AllocError) -> Self {
+        ReadError::Memory
+    }
+}
+
+impl<T: Drop> From<AllocFailed<T>> for ReadError {
+    ghost from_gives = { λ _ e. e ≡ Memory };
+
+    fn from(_: AllocFailed<T>) -> Self {
+        ReadError::Memory
+    }
+}
 
 /// So many slots.
 fn read_slots(alloc: Global, count: u16, bytes: &[u8]) -> Result<(Vec<Slot>, &[u8]), ReadError>
@@ -109,7 +141,7 @@ fn read_all(alloc: Global, bytes: &[u8]) -> Result<(Profile, Layout, CodePart), 
     let (layout, rest) = read_layout(alloc, rest)?;
     let (code, rest) = read_code(alloc, rest)?;
     if !rest.is_empty() {
-        return Err(fault_of(ImageRule::TrailingBytes, rest));
+        return Err(ReadError::Fault(fault_of(ImageRule::TrailingBytes, rest)));
     }
     Ok((profile, layout, code))
 }
