@@ -26,6 +26,7 @@ pub enum CertifiedEnd {
 
 /// Makes turns of a run of which these parts are known, until one stops, or until what it shows may
 /// depend on what is unknown. It makes no more turns than the run may still make, and takes no memory.
+/// It uses up the run and what is known of it: nothing is said of them afterwards.
 pub fn certify<M: Memory>(
     alloc: Global,
     code: &CodeRegion,

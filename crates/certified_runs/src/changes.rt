@@ -60,9 +60,11 @@ fn decides_product(profile: Profile, known: bool) -> bool
 /// What an instruction changes in what is known, where its turn goes on.
 #[inline(always)]
 pub(crate) fn change_of<M: Memory>(instr: &Instr, hart: &Hart, known: &KnownParts<M>) -> Change
-    ensures registers { (bytes : ByteMap) → let k = known_of (state_of hart.now bytes) known.now.registers (M.bytes known.now.marks) in
+    ensures registers { (bytes : ByteMap)
+        → let k = known_of (state_of hart.now bytes) known.now.registers (M.bytes known.now.marks) in
         registers_with result k.registers ≡ registers_after instr.now k }
-    ensures bytes { (bytes : ByteMap) → let k = known_of (state_of hart.now bytes) known.now.registers (M.bytes known.now.marks) in
+    ensures bytes { (bytes : ByteMap)
+        → let k = known_of (state_of hart.now bytes) known.now.registers (M.bytes known.now.marks) in
         bytes_with result k.bytes ≡ bytes_after instr.now k }
     ensures possible { (profile : Profile) (bytes : ByteMap) (o : Observation) (t : State) → let s = state_of hart.now bytes in
         ending_of profile (effect_of instr.now s.pc s.regs) s ≡ Ending.goes_on o t → IsPossible bytes result }

@@ -59,7 +59,8 @@ impl<M: Memory> KnownParts<M> {
     // Makes a register known or unknown.
     #[inline(always)]
     pub(crate) fn set_register(&mut self, rd: Reg, known: bool)
-        ensures registers { known_registers self.new.registers ≡ with_register_known (known_registers self.old.registers) rd known }
+        ensures registers { known_registers self.new.registers
+            ≡ with_register_known (known_registers self.old.registers) rd known }
         ensures marks { self.new.marks ≡ self.old.marks }
     {
         self.registers[rd.number() as usize] = known;
@@ -70,7 +71,8 @@ impl<M: Memory> KnownParts<M> {
     #[inline(always)]
     pub fn set_bytes(&mut self, a: u32, n: Size, known: bool) -> bool
         ensures answer { result ≡ is_some (number_at (M.bytes self.old.marks) (byte_count n) a) }
-        ensures set { IsTrue result → known_bytes (M.bytes self.new.marks) ≡ with_bytes_known (known_bytes (M.bytes self.old.marks)) (byte_count n) a known }
+        ensures set { IsTrue result → known_bytes (M.bytes self.new.marks)
+            ≡ with_bytes_known (known_bytes (M.bytes self.old.marks)) (byte_count n) a known }
         ensures unchanged { result ≡ false → M.bytes self.new.marks ≡ M.bytes self.old.marks }
         ensures extent { (x : ℕ) → is_some (M.bytes self.new.marks x) ≡ is_some (M.bytes self.old.marks x) }
         ensures registers { self.new.registers ≡ self.old.registers }

@@ -32,9 +32,11 @@ pub(crate) enum TurnEnd {
 #[inline(always)]
 fn outlook<M: Memory>(code: &CodeRegion, hart: &Hart, known: &KnownParts<M>) -> Option<Change>
     ensures decided { IfSome result (λ change. (bytes : ByteMap)
-        → IsDecided (code_of code.now) (known_of (state_of hart.now bytes) known.now.registers (M.bytes known.now.marks)) change) }
+        → IsDecided (code_of code.now)
+        (known_of (state_of hart.now bytes) known.now.registers (M.bytes known.now.marks)) change) }
     ensures depends { result ≡ None → (bytes : ByteMap)
-        → KnownTurn (code_of code.now) (known_of (state_of hart.now bytes) known.now.registers (M.bytes known.now.marks)) KnownEnding.depends }
+        → KnownTurn (code_of code.now)
+        (known_of (state_of hart.now bytes) known.now.registers (M.bytes known.now.marks)) KnownEnding.depends }
 {
     match code.instruction_at(hart.pc()) {
         Some(instr) if decides(code.profile(), instr, known) => {
