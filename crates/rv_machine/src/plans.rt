@@ -53,9 +53,26 @@ fn unseen(change: Change) -> Plan
     }
 }
 
-/// The plan of a load.
+/// The plan of a load. For each operation there is code of its own, of the size that it takes.
 #[inline(always)]
 fn load_plan<M: Memory>(memory: &M, operation: LoadOperation, rd: Reg, a: u32) -> Plan
+    ensures ends { (profile : Profile) (pc : ℕ) (regs : ℕ → ℕ) → let s : State = record { pc = pc; regs = regs; bytes = M.bytes memory.now } in
+        ends_as result.event result.change s ≡ ending_of profile (Effect.Loads operation rd a) s }
+    ensures possible { IsPossible (M.bytes memory.now) result.change }
+    ensures calm { stop_of result.change ≢ Some Stop.RecorderRefused }
+{
+    match operation {
+        LoadOperation::Lb => load_plan_of(memory, LoadOperation::Lb, rd, a),
+        LoadOperation::Lh => load_plan_of(memory, LoadOperation::Lh, rd, a),
+        LoadOperation::Lw => load_plan_of(memory, LoadOperation::Lw, rd, a),
+        LoadOperation::Lbu => load_plan_of(memory, LoadOperation::Lbu, rd, a),
+        LoadOperation::Lhu => load_plan_of(memory, LoadOperation::Lhu, rd, a),
+    }
+}
+
+/// The plan of a load by an operation that the caller knows.
+#[inline(always)]
+fn load_plan_of<M: Memory>(memory: &M, operation: LoadOperation, rd: Reg, a: u32) -> Plan
     ensures ends { (profile : Profile) (pc : ℕ) (regs : ℕ → ℕ) → let s : State = record { pc = pc; regs = regs; bytes = M.bytes memory.now } in
         ends_as result.event result.change s ≡ ending_of profile (Effect.Loads operation rd a) s }
     ensures possible { IsPossible (M.bytes memory.now) result.change }
@@ -74,9 +91,24 @@ fn load_plan<M: Memory>(memory: &M, operation: LoadOperation, rd: Reg, a: u32) -
     }
 }
 
-/// The plan of a store.
+/// The plan of a store. For each operation there is code of its own, of the size that it takes.
 #[inline(always)]
 fn store_plan<M: Memory>(memory: &M, operation: StoreOperation, a: u32, value: u32) -> Plan
+    ensures ends { (profile : Profile) (pc : ℕ) (regs : ℕ → ℕ) → let s : State = record { pc = pc; regs = regs; bytes = M.bytes memory.now } in
+        ends_as result.event result.change s ≡ ending_of profile (Effect.Stores operation a value) s }
+    ensures possible { IsPossible (M.bytes memory.now) result.change }
+    ensures calm { stop_of result.change ≢ Some Stop.RecorderRefused }
+{
+    match operation {
+        StoreOperation::Sb => store_plan_of(memory, StoreOperation::Sb, a, value),
+        StoreOperation::Sh => store_plan_of(memory, StoreOperation::Sh, a, value),
+        StoreOperation::Sw => store_plan_of(memory, StoreOperation::Sw, a, value),
+    }
+}
+
+/// The plan of a store by an operation that the caller knows.
+#[inline(always)]
+fn store_plan_of<M: Memory>(memory: &M, operation: StoreOperation, a: u32, value: u32) -> Plan
     ensures ends { (profile : Profile) (pc : ℕ) (regs : ℕ → ℕ) → let s : State = record { pc = pc; regs = regs; bytes = M.bytes memory.now } in
         ends_as result.event result.change s ≡ ending_of profile (Effect.Stores operation a value) s }
     ensures possible { IsPossible (M.bytes memory.now) result.change }

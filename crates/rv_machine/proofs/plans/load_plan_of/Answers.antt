@@ -6,7 +6,7 @@ use Rattle.rv_machine.specs.Sizes.{byte_count}
 use Rattle.rv_machine.specs.declared.plans.Plan.{Plan}
 use Rattle.rv_machine.specs.Plans.{ends_as}
 use Rattle.rv_machine.proofs.EndingLaws.{load_misaligned, load_outside, load_done}
-use Rattle.rv_machine.proofs.plans.load_plan.Goals as goal
+use Rattle.rv_machine.proofs.plans.load_plan_of.Goals as goal
 
 pub returns-then-a-bytes-ne0-clause-ends : goal.returns-then-a-bytes-ne0-clause-ends
 returns-then-a-bytes-ne0-clause-ends g c = λ profile pc regs.

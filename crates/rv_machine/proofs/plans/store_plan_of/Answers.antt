@@ -5,7 +5,7 @@ use Rattle.rv_machine.specs.Sizes.{byte_count}
 use Rattle.rv_machine.specs.declared.plans.Plan.{Plan}
 use Rattle.rv_machine.specs.Plans.{ends_as}
 use Rattle.rv_machine.proofs.EndingLaws.{store_misaligned, store_outside, store_done}
-use Rattle.rv_machine.proofs.plans.store_plan.Goals as goal
+use Rattle.rv_machine.proofs.plans.store_plan_of.Goals as goal
 
 pub returns-then-a-bytes-ne0-clause-ends : goal.returns-then-a-bytes-ne0-clause-ends
 returns-then-a-bytes-ne0-clause-ends g c = λ profile pc regs.
