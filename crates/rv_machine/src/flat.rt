@@ -17,7 +17,7 @@ pub struct FlatMemory {
 
 impl FlatMemory {
     ghost use Rattle.rv_machine.specs.Flat.{flat_bytes};
-    ghost use Rattle.rv_machine.specs.Bytes.{number_at, zeros};
+    ghost use Rattle.rv_machine.specs.Bytes.{number_at, with_number, zeros};
 
     /// So many zero bytes from the base on.
     pub fn new(alloc: Global, base: u32, bytes: u32) -> Result<FlatMemory, AllocError>
@@ -61,11 +61,49 @@ impl FlatMemory {
     {
         u32::from(self.bytes[at])
     }
+
+    // The number of the bytes from this place on.
+    #[inline]
+    fn number(&self, start: usize, n: Size) -> u32
+        requires { start + byte_count n ≤ vec_len self.now.bytes }
+        ensures number { number_at (flat_bytes self.now) (byte_count n) (self.now.base + start) ≡ Some result }
+        ensures fits { result < 256 ^ byte_count n }
+    {
+        match n {
+            Size::Byte => self.byte(start),
+            Size::Half => self.byte(start) + 256 * self.byte(start + 1),
+            Size::Word => {
+                let high = self.byte(start + 2) + 256 * self.byte(start + 3);
+                self.byte(start) + 256 * (self.byte(start + 1) + 256 * high)
+            }
+        }
+    }
+
+    // Makes the bytes from this place on the low ones of `v`.
+    #[inline]
+    fn put(&mut self, start: usize, n: Size, v: u32)
+        requires { start + byte_count n ≤ vec_len self.old.bytes }
+        ensures { flat_bytes self.new ≡ with_number (flat_bytes self.old) (byte_count n) (self.old.base + start) v }
+    {
+        let bytes = self.bytes.as_mut_slice();
+        match n {
+            Size::Byte => put_byte(bytes, start, v),
+            Size::Half => {
+                put_byte(bytes, start + 1, v / 256);
+                put_byte(bytes, start, v);
+            }
+            Size::Word => {
+                put_byte(bytes, start + 3, v / 256 / 256 / 256);
+                put_byte(bytes, start + 2, v / 256 / 256);
+                put_byte(bytes, start + 1, v / 256);
+                put_byte(bytes, start, v);
+            }
+        }
+    }
 }
 
 // Sets the byte at this place to the low one of `v`.
-#[inline(always)]
-fn put(bytes: &mut [u8], at: usize, v: u32)
+fn put_byte(bytes: &mut [u8], at: usize, v: u32)
     requires { at < length bytes.old }
     ensures len { length bytes.new ≡ length bytes.old }
     ensures bytes { (base : ℕ) → bytes_from base bytes.new ≡ with_byte (bytes_from base bytes.old) (base + at) (v % 256) }
@@ -81,14 +119,7 @@ impl Memory for FlatMemory {
     #[inline(always)]
     fn load(&self, a: u32, n: Size) -> Option<u32> {
         let start = self.place(a, n)?;
-        Some(match n {
-            Size::Byte => self.byte(start),
-            Size::Half => self.byte(start) + 256 * self.byte(start + 1),
-            Size::Word => {
-                let high = self.byte(start + 2) + 256 * self.byte(start + 3);
-                self.byte(start) + 256 * (self.byte(start + 1) + 256 * high)
-            }
-        })
+        Some(self.number(start, n))
     }
 
     #[inline(always)]
@@ -96,20 +127,7 @@ impl Memory for FlatMemory {
         let Some(start) = self.place(a, n) else {
             return false;
         };
-        let bytes = self.bytes.as_mut_slice();
-        match n {
-            Size::Byte => put(bytes, start, v),
-            Size::Half => {
-                put(bytes, start + 1, v / 256);
-                put(bytes, start, v);
-            }
-            Size::Word => {
-                put(bytes, start + 3, v / 256 / 256 / 256);
-                put(bytes, start + 2, v / 256 / 256);
-                put(bytes, start + 1, v / 256);
-                put(bytes, start, v);
-            }
-        }
+        self.put(start, n, v);
         true
     }
 }
