@@ -9,7 +9,8 @@ ADD_ONE = 0x00100093  # addi x1, x0, 1
 FOREVER = 0x0000006F  # jal x0, 0
 ECALL = 0x00000073
 
-# Loops without end. One works on registers alone, the other keeps its counter in the frame.
+# Loops without end. One works on registers alone, one keeps its counter in the frame, and one loads and stores
+# in half of its turns, words, halves and bytes.
 COUNT_IN_REGISTERS = [
     0x00128293,  # addi x5, x5, 1
     0x0055C5B3,  # xor x11, x11, x5
@@ -20,6 +21,16 @@ COUNT_IN_FRAME = [
     0x00128293,  # addi x5, x5, 1
     0x00512023,  # sw x5, 0(x2)
     0xFF5FF06F,  # jal x0, -12
+]
+MOVE_IN_FRAME = [
+    0x00012283,  # lw x5, 0(x2)
+    0x00128293,  # addi x5, x5, 1
+    0x00512023,  # sw x5, 0(x2)
+    0x0055C5B3,  # xor x11, x11, x5
+    0x00014303,  # lbu x6, 0(x2)
+    0x006585B3,  # add x11, x11, x6
+    0x00B11123,  # sh x11, 2(x2)
+    0xFE5FF06F,  # jal x0, -28
 ]
 
 

@@ -1,10 +1,10 @@
 -- Bytes of pages, and of ranges.
 use Rattle.std.specs.Prelude.{is_some, slice_get}
-use Rattle.std.proofs.Common.{◌≡◌, ◌≢◌, ℕ, zero, suc, ◌+◌, ◌*◌, ◌/◌, ◌%◌, ◌^◌, ◌<◌, ◌≤◌, true, List, [], ◌∷◌, ◌++◌, take, get_or, Option, Some, None, refl, sym, ap, ◌∙◌, ⊎_elim, arith}
+use Rattle.std.proofs.Common.{◌≡◌, ◌≢◌, ℕ, zero, suc, ◌+◌, ◌*◌, ◌/◌, ◌%◌, ◌^◌, ◌<◌, ◌≤◌, true, List, [], ◌∷◌, ◌++◌, take, get_or, length, Option, Some, None, refl, sym, ap, ◌∙◌, ⊎_elim, arith}
 use Rattle.std.proofs.Math.ListN.{set}
 use Rattle.std.proofs.Math.Path.{fun_ext}
 use Rattle.std.proofs.lemmas.Bool.{cases_eq, cases_lt, le-leb, lt-leb, lt-ltb, le-ltb, false≢true}
-use Rattle.std.proofs.lemmas.Option.{get_or_from_slice_get}
+use Rattle.std.proofs.lemmas.Option.{get_or_from_slice_get, slice_get_read}
 use Rattle.std.proofs.lemmas.List.{take-set}
 use Rattle.rv_machine.specs.Bytes.{ByteMap, joined, number_at, with_number, zeros}
 use Rattle.rv_machine.specs.Flat.{flat_bytes}
@@ -100,6 +100,10 @@ with_number_within old other (suc n) a v x low high =
     let two = ap (λ (m : ByteMap). m x) (with_number-suc other n a v) in
     ⊎_elim (λ (e : x ≡ a). one ∙ with_byte_same (with_number old n (a + 1) (v / 256)) a (v % 256) x e ∙ sym (two ∙ with_byte_same (with_number other n (a + 1) (v / 256)) a (v % 256) x e)) (λ (e : x ≢ a). one ∙ with_byte_other (with_number old n (a + 1) (v / 256)) a (v % 256) x e ∙ with_number_within old other n (a + 1) (v / 256) x (omega arith) (omega arith) ∙ sym (two ∙ with_byte_other (with_number other n (a + 1) (v / 256)) a (v % 256) x e)) (cases_eq x a)
 
+-- the first page
+pub first_at : (pages : List FlatMemory) (page : FlatMemory) → 0 < length pages → page ≡ get_or pages 0 page → slice_get pages 0 ≡ Some page
+first_at pages page some read = slice_get_read pages _ _ page refl some read
+
 -- the page that has all bytes of a number, where none before it has one of them
 module _ (pages : List FlatMemory) (i : ℕ) (page : FlatMemory) (n a : ℕ) (at : slice_get pages i ≡ Some page) (first : (x : ℕ) → a ≤ x → x < a + n → bytes_in (take i pages) x ≡ None) (whole : is_some (number_at (flat_bytes page) n a) ≡ true) where
   -- gives the number
@@ -126,6 +130,10 @@ set-apart (p ∷ pages) zero page new x at same =
     let is : p ≡ page = cc in
     ap (λ o. first_of o (bytes_in pages x)) (same ∙ ap (λ q. flat_bytes q x) (sym is))
 set-apart (p ∷ pages) (suc i) page new x at same = ap (first_of (flat_bytes p x)) (set-apart pages i page new x at same)
+
+-- a page with the same bytes in its place changes nothing
+pub set-same : (pages : List FlatMemory) (i : ℕ) (page new : FlatMemory) → slice_get pages i ≡ Some page → flat_bytes new ≡ flat_bytes page → bytes_in (set pages i new) ≡ bytes_in pages
+set-same pages i page new at same = fun_ext (λ x. set-apart pages i page new x at (ap (λ (m : ByteMap). m x) same))
 
 module _ (pages : List FlatMemory) (i : ℕ) (page new : FlatMemory) (n a v : ℕ) (at : slice_get pages i ≡ Some page) (first : (x : ℕ) → a ≤ x → x < a + n → bytes_in (take i pages) x ≡ None) (whole : is_some (number_at (flat_bytes page) n a) ≡ true) (stored : flat_bytes new ≡ with_number (flat_bytes page) n a v) where
   byte_at : (x : ℕ) → flat_bytes new x ≡ with_number (flat_bytes page) n a v x
@@ -161,3 +169,7 @@ between low high = record { begin = low; end = high } ∷ []
 pub zeros_in-grown : (low from n a : ℕ) → low ≤ from → first_of (zeros_in (between low from) a) (zeros from n a) ≡ zeros_in (between low (from + n)) a
 zeros_in-grown low from n a le =
     ⊎_elim (λ (h : a < low). rw (lt-leb low a h, lt-leb from a (omega arith)) refl) (λ (l : low ≤ a). ⊎_elim (λ (h : a < from). rw (le-leb low a l, lt-ltb a from h, lt-ltb a (from + n) (omega arith)) refl) (λ (m : from ≤ a). ⊎_elim (λ (h : a < from + n). rw (le-leb low a l, le-ltb a from m, le-leb from a m, lt-ltb a (from + n) h) refl) (λ (h : from + n ≤ a). rw (le-leb low a l, le-ltb a from m, le-leb from a m, le-ltb a (from + n) h) refl) (cases_lt a (from + n))) (cases_lt a from)) (cases_lt a low)
+
+-- a page without a byte
+pub nothing_more : (bytes : ByteMap) (a : ℕ) → first_of (bytes a) (zeros 0 0 a) ≡ bytes a
+nothing_more bytes a = rw (le-ltb a 0 (omega arith), le-leb 0 a (omega arith)) (first_of-none (bytes a))

@@ -1,6 +1,7 @@
 // A memory whose data is one stretch of bytes.
 
-ghost use Rattle.std.specs.Prelude.{◌≡◌, true, false, None, ℕ, ◌+◌, ◌-◌, ◌*◌, ◌/◌, ◌%◌, ◌^◌, ◌≤◌, ◌<◌, Some, is_some, IfOk, IfSome, vec_len};
+ghost use Rattle.std.specs.Prelude.{◌≡◌, true, false, None, ℕ, ◌+◌, ◌-◌, ◌*◌, ◌/◌, ◌%◌, ◌^◌, ◌≤◌, ◌<◌, Some, is_some, length, IfOk, IfSome, vec_len};
+ghost use Rattle.rv_machine.specs.Bytes.{bytes_from, with_byte};
 ghost use Rattle.rv_machine.specs.Sizes.{byte_count};
 
 use crate::memory::{Memory, Size};
@@ -16,7 +17,7 @@ pub struct FlatMemory {
 
 impl FlatMemory {
     ghost use Rattle.rv_machine.specs.Flat.{flat_bytes};
-    ghost use Rattle.rv_machine.specs.Bytes.{number_at, with_byte, zeros};
+    ghost use Rattle.rv_machine.specs.Bytes.{number_at, with_number, zeros};
 
     /// So many zero bytes from the base on.
     pub fn new(alloc: Global, base: u32, bytes: u32) -> Result<FlatMemory, AllocError>
@@ -37,12 +38,14 @@ impl FlatMemory {
         a < base + self.bytes.len() as u64 && base < a + u64::from(n.bytes())
     }
 
-    // Where these bytes stand, if each of them is data.
+    // Where these bytes stand, if each of them is data. An address below the base is so far from it,
+    // modulo 2^32, that it lies past the last byte.
+    #[inline(always)]
     fn place(&self, a: u32, n: Size) -> Option<usize>
         ensures found { is_some result ≡ is_some (number_at (flat_bytes self.now) (byte_count n) a) }
         ensures within { IfSome result (λ at. (self.now.base + at ≡ a) × (at + byte_count n ≤ vec_len self.now.bytes)) }
     {
-        let start = a.checked_sub(self.base)? as usize;
+        let start = a.wrapping_sub(self.base) as usize;
         if start + n.bytes() as usize <= self.bytes.len() {
             Some(start)
         } else {
@@ -59,15 +62,53 @@ impl FlatMemory {
         u32::from(self.bytes[at])
     }
 
-    // Sets one byte to the low one of `v`.
-    fn put(&mut self, at: usize, v: u32)
-        requires { at < vec_len self.old.bytes }
-        ensures base { self.new.base ≡ self.old.base }
-        ensures len { vec_len self.new.bytes ≡ vec_len self.old.bytes }
-        ensures bytes { flat_bytes self.new ≡ with_byte (flat_bytes self.old) (self.old.base + at) (v % 256) }
+    // The number of the bytes from this place on.
+    #[inline]
+    fn number(&self, start: usize, n: Size) -> u32
+        requires { start + byte_count n ≤ vec_len self.now.bytes }
+        ensures number { number_at (flat_bytes self.now) (byte_count n) (self.now.base + start) ≡ Some result }
+        ensures fits { result < 256 ^ byte_count n }
     {
-        self.bytes[at] = (v % 256) as u8;
+        match n {
+            Size::Byte => self.byte(start),
+            Size::Half => self.byte(start) + 256 * self.byte(start + 1),
+            Size::Word => {
+                let high = self.byte(start + 2) + 256 * self.byte(start + 3);
+                self.byte(start) + 256 * (self.byte(start + 1) + 256 * high)
+            }
+        }
     }
+
+    // Makes the bytes from this place on the low ones of `v`.
+    #[inline]
+    fn put(&mut self, start: usize, n: Size, v: u32)
+        requires { start + byte_count n ≤ vec_len self.old.bytes }
+        ensures { flat_bytes self.new ≡ with_number (flat_bytes self.old) (byte_count n) (self.old.base + start) v }
+    {
+        let bytes = self.bytes.as_mut_slice();
+        match n {
+            Size::Byte => put_byte(bytes, start, v),
+            Size::Half => {
+                put_byte(bytes, start + 1, v / 256);
+                put_byte(bytes, start, v);
+            }
+            Size::Word => {
+                put_byte(bytes, start + 3, v / 256 / 256 / 256);
+                put_byte(bytes, start + 2, v / 256 / 256);
+                put_byte(bytes, start + 1, v / 256);
+                put_byte(bytes, start, v);
+            }
+        }
+    }
+}
+
+// Sets the byte at this place to the low one of `v`.
+fn put_byte(bytes: &mut [u8], at: usize, v: u32)
+    requires { at < length bytes.old }
+    ensures len { length bytes.new ≡ length bytes.old }
+    ensures bytes { (base : ℕ) → bytes_from base bytes.new ≡ with_byte (bytes_from base bytes.old) (base + at) (v % 256) }
+{
+    bytes[at] = (v % 256) as u8;
 }
 
 impl Memory for FlatMemory {
@@ -75,35 +116,18 @@ impl Memory for FlatMemory {
 
     ghost bytes = { flat_bytes };
 
+    #[inline(always)]
     fn load(&self, a: u32, n: Size) -> Option<u32> {
         let start = self.place(a, n)?;
-        Some(match n {
-            Size::Byte => self.byte(start),
-            Size::Half => self.byte(start) + 256 * self.byte(start + 1),
-            Size::Word => {
-                let high = self.byte(start + 2) + 256 * self.byte(start + 3);
-                self.byte(start) + 256 * (self.byte(start + 1) + 256 * high)
-            }
-        })
+        Some(self.number(start, n))
     }
 
+    #[inline(always)]
     fn store(&mut self, a: u32, n: Size, v: u32) -> bool {
         let Some(start) = self.place(a, n) else {
             return false;
         };
-        match n {
-            Size::Byte => self.put(start, v),
-            Size::Half => {
-                self.put(start + 1, v / 256);
-                self.put(start, v);
-            }
-            Size::Word => {
-                self.put(start + 3, v / 256 / 256 / 256);
-                self.put(start + 2, v / 256 / 256);
-                self.put(start + 1, v / 256);
-                self.put(start, v);
-            }
-        }
+        self.put(start, n, v);
         true
     }
 }

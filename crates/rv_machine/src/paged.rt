@@ -1,19 +1,18 @@
 // A memory whose data are ranges of addresses, in pages.
 
-ghost use Rattle.std.specs.Prelude.{◌≡◌, ℕ, ◌+◌, ◌^◌, ◌≤◌, ◌<◌, true, false, [], ◌∷◌, Some, None, is_some, slice_get, take, IfOk, OnOk, IfSome, IsSome, IsTrue};
+ghost use Rattle.std.specs.Prelude.{◌≡◌, ℕ, ◌+◌, ◌^◌, ◌≤◌, ◌<◌, true, false, vec_len, [], ◌∷◌, Some, None, is_some, slice_get, take, IfOk, OnOk, IfSome, IsSome, IsTrue};
 ghost use Rattle.std.specs.List.{All};
 ghost use Rattle.rv_machine.specs.declared.flat.FlatMemory.{FlatMemory};
 ghost use Rattle.rv_machine.specs.Bytes.{number_at, with_number};
 ghost use Rattle.rv_machine.specs.Flat.{flat_bytes};
-ghost use Rattle.rv_machine.specs.Paged.{zeros_in, first_of, bytes_in, paged_bytes};
 ghost use Rattle.rv_machine.specs.Sizes.{byte_count};
 
 use crate::flat::FlatMemory;
 use crate::memory::{Memory, Size};
 use std::alloc::{AllocError, Global};
 
-/// The bytes of a page; the last one of a range ends with the range.
-const PAGE_BYTES: u64 = 4096;
+/// The bytes of a page, which hold the largest frame; the last page of a range ends with the range.
+const PAGE_BYTES: u64 = 65_536;
 
 /// Addresses from the beginning on, up to the end, which is the first one after them.
 #[derive(Clone, Copy, Debug, PartialEq, Eq)]
@@ -23,32 +22,35 @@ pub struct AddressRange {
 }
 
 /// A memory whose data are ranges of addresses. Its pages are made with it, so that loads and
-/// stores take no memory.
+/// stores take no memory. There is a first page always, where each load and store looks first.
 #[derive(Drop)]
 pub struct PagedMemory {
     pages: Vec<FlatMemory>,
-}
-
-// Puts the pages of a range behind the others.
-fn add_pages(
-    alloc: Global,
-    pages: &mut Vec<FlatMemory>,
-    range: AddressRange,
-) -> Result<(), AllocError>
-    requires { range.end ≤ 2 ^ 32 }
-    ensures { OnOk result ((a : ℕ)
-        → bytes_in pages.new.items a ≡ first_of (bytes_in pages.old.items a) (zeros_in (range ∷ []) a)) }
-{
-    let mut begin = range.begin;
-    'pages: while begin < range.end {
-        let bytes = PAGE_BYTES.min(range.end - begin);
-        pages.push(FlatMemory::new(alloc, begin as u32, bytes as u32)?)?;
-        begin += bytes;
-    }
-    Ok(())
+    ghost first: { 1 ≤ vec_len pages },
 }
 
 impl PagedMemory {
+    ghost use Rattle.rv_machine.specs.Paged.{zeros_in, first_of, bytes_in, paged_bytes};
+
+    // Puts the pages of a range behind the others.
+    fn add_pages(
+        alloc: Global,
+        pages: &mut Vec<FlatMemory>,
+        range: AddressRange,
+    ) -> Result<(), AllocError>
+        requires { range.end ≤ 2 ^ 32 }
+        ensures { OnOk result ((a : ℕ)
+            → bytes_in pages.new.items a ≡ first_of (bytes_in pages.old.items a) (zeros_in (range ∷ []) a)) }
+    {
+        let mut begin = range.begin;
+        'pages: while begin < range.end {
+            let bytes = PAGE_BYTES.min(range.end - begin);
+            pages.push(FlatMemory::new(alloc, begin as u32, bytes as u32)?)?;
+            begin += bytes;
+        }
+        Ok(())
+    }
+
     /// Zero bytes at the addresses of these ranges.
     pub fn new(alloc: Global, ranges: &[AddressRange]) -> Result<PagedMemory, AllocError>
         requires { All (λ range. range.end ≤ 2 ^ 32) ranges.now }
@@ -56,7 +58,10 @@ impl PagedMemory {
     {
         let mut pages = Vec::new(alloc);
         for &range in ranges {
-            add_pages(alloc, &mut pages, range)?;
+            PagedMemory::add_pages(alloc, &mut pages, range)?;
+        }
+        if pages.is_empty() {
+            pages.push(FlatMemory::new(alloc, 0, 0)?)?;
         }
         Ok(PagedMemory { pages })
     }
@@ -83,6 +88,8 @@ impl PagedMemory {
 }
 
 impl PagedMemory {
+    ghost use Rattle.rv_machine.specs.Paged.{paged_bytes};
+
     // The byte at this address, if it is data.
     fn byte(&self, a: u32) -> Option<u32>
         ensures number { result ≡ number_at (paged_bytes self.now) 1 a }
@@ -141,14 +148,14 @@ impl PagedMemory {
         page.store(a, n, v);
         true
     }
-}
 
-impl Memory for PagedMemory {
-    ghost use Rattle.rv_machine.specs.Paged.{paged_bytes};
-
-    ghost bytes = { paged_bytes };
-
-    fn load(&self, a: u32, n: Size) -> Option<u32> {
+    // The number of these bytes, if they are data, in whichever pages.
+    #[cold]
+    fn load_anywhere(&self, a: u32, n: Size) -> Option<u32>
+        ensures number { result ≡ number_at (paged_bytes self.now) (byte_count n) a }
+        ensures fits { IfSome result (λ v. v < 256 ^ byte_count n) }
+        ensures within { IsSome result → a + byte_count n ≤ 2 ^ 32 }
+    {
         match n {
             Size::Byte => self.byte(a),
             Size::Half => self.half(a),
@@ -156,7 +163,13 @@ impl Memory for PagedMemory {
         }
     }
 
-    fn store(&mut self, a: u32, n: Size, v: u32) -> bool {
+    // Puts these bytes, if they are data, into whichever pages.
+    #[cold]
+    fn store_anywhere(&mut self, a: u32, n: Size, v: u32) -> bool
+        ensures answer { result ≡ is_some (number_at (paged_bytes self.old) (byte_count n) a) }
+        ensures stored { IsTrue result → paged_bytes self.new ≡ with_number (paged_bytes self.old) (byte_count n) a v }
+        ensures unchanged { result ≡ false → paged_bytes self.new ≡ paged_bytes self.old }
+    {
         if self.put(a, n, v) {
             return true;
         }
@@ -177,5 +190,30 @@ impl Memory for PagedMemory {
             }
         }
         true
+    }
+}
+
+impl Memory for PagedMemory {
+    ghost use Rattle.rv_machine.specs.Paged.{paged_bytes};
+
+    ghost bytes = { paged_bytes };
+
+    #[inline(always)]
+    fn load(&self, a: u32, n: Size) -> Option<u32> {
+        let page = &self.pages[0];
+        let number = page.load(a, n);
+        if number.is_some() {
+            return number;
+        }
+        self.load_anywhere(a, n)
+    }
+
+    #[inline(always)]
+    fn store(&mut self, a: u32, n: Size, v: u32) -> bool {
+        let page = &mut self.pages[0];
+        if page.store(a, n, v) {
+            return true;
+        }
+        self.store_anywhere(a, n, v)
     }
 }

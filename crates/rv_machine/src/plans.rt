@@ -3,6 +3,7 @@
 ghost use Rattle.std.specs.Prelude.{◌≡◌, ◌≢◌, ℕ, ◌%◌, Some, None};
 ghost use Rattle.rv_machine.specs.Bytes.{ByteMap};
 ghost use Rattle.rv_machine.specs.Decoded.{spelled, IsDecoded};
+ghost use Rattle.rv_machine.specs.Effects.{load_size, store_size};
 ghost use Rattle.rv_machine.specs.Harts.{state_of};
 ghost use Rattle.rv_machine.specs.Machine.{State, Turn, word_at, product_shown, ending_of};
 ghost use Rattle.rv_machine.specs.Plans.{ends_as, stop_of, IsPossible};
@@ -53,7 +54,7 @@ fn unseen(change: Change) -> Plan
     }
 }
 
-/// The plan of a load.
+/// The plan of a load. For each size there is code of its own.
 #[inline(always)]
 fn load_plan<M: Memory>(memory: &M, operation: LoadOperation, rd: Reg, a: u32) -> Plan
     ensures ends { (profile : Profile) (pc : ℕ) (regs : ℕ → ℕ) → let s : State = record { pc = pc; regs = regs; bytes = M.bytes memory.now } in
@@ -61,7 +62,28 @@ fn load_plan<M: Memory>(memory: &M, operation: LoadOperation, rd: Reg, a: u32) -
     ensures possible { IsPossible (M.bytes memory.now) result.change }
     ensures calm { stop_of result.change ≢ Some Stop.RecorderRefused }
 {
-    let size = load_size(operation);
+    match load_size(operation) {
+        Size::Byte => sized_load_plan(memory, Size::Byte, operation, rd, a),
+        Size::Half => sized_load_plan(memory, Size::Half, operation, rd, a),
+        Size::Word => sized_load_plan(memory, Size::Word, operation, rd, a),
+    }
+}
+
+/// The plan of a load of this size.
+#[inline(always)]
+fn sized_load_plan<M: Memory>(
+    memory: &M,
+    size: Size,
+    operation: LoadOperation,
+    rd: Reg,
+    a: u32,
+) -> Plan
+    requires { size ≡ load_size operation }
+    ensures ends { (profile : Profile) (pc : ℕ) (regs : ℕ → ℕ) → let s : State = record { pc = pc; regs = regs; bytes = M.bytes memory.now } in
+        ends_as result.event result.change s ≡ ending_of profile (Effect.Loads operation rd a) s }
+    ensures possible { IsPossible (M.bytes memory.now) result.change }
+    ensures calm { stop_of result.change ≢ Some Stop.RecorderRefused }
+{
     if a % size.bytes() != 0 {
         return unseen(Change::Stops(Stop::Misaligned));
     }
@@ -74,7 +96,7 @@ fn load_plan<M: Memory>(memory: &M, operation: LoadOperation, rd: Reg, a: u32) -
     }
 }
 
-/// The plan of a store.
+/// The plan of a store. For each size there is code of its own.
 #[inline(always)]
 fn store_plan<M: Memory>(memory: &M, operation: StoreOperation, a: u32, value: u32) -> Plan
     ensures ends { (profile : Profile) (pc : ℕ) (regs : ℕ → ℕ) → let s : State = record { pc = pc; regs = regs; bytes = M.bytes memory.now } in
@@ -82,7 +104,28 @@ fn store_plan<M: Memory>(memory: &M, operation: StoreOperation, a: u32, value: u
     ensures possible { IsPossible (M.bytes memory.now) result.change }
     ensures calm { stop_of result.change ≢ Some Stop.RecorderRefused }
 {
-    let size = store_size(operation);
+    match store_size(operation) {
+        Size::Byte => sized_store_plan(memory, Size::Byte, operation, a, value),
+        Size::Half => sized_store_plan(memory, Size::Half, operation, a, value),
+        Size::Word => sized_store_plan(memory, Size::Word, operation, a, value),
+    }
+}
+
+/// The plan of a store of this size.
+#[inline(always)]
+fn sized_store_plan<M: Memory>(
+    memory: &M,
+    size: Size,
+    operation: StoreOperation,
+    a: u32,
+    value: u32,
+) -> Plan
+    requires { size ≡ store_size operation }
+    ensures ends { (profile : Profile) (pc : ℕ) (regs : ℕ → ℕ) → let s : State = record { pc = pc; regs = regs; bytes = M.bytes memory.now } in
+        ends_as result.event result.change s ≡ ending_of profile (Effect.Stores operation a value) s }
+    ensures possible { IsPossible (M.bytes memory.now) result.change }
+    ensures calm { stop_of result.change ≢ Some Stop.RecorderRefused }
+{
     if a % size.bytes() != 0 {
         return unseen(Change::Stops(Stop::Misaligned));
     }

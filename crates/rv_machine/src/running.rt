@@ -9,10 +9,9 @@ ghost use Rattle.rv_machine.specs.declared.observation.Observation.{Observation}
 
 use crate::code::CodeRegion;
 use crate::hart::Hart;
-use crate::machine::step;
+use crate::machine::{apply, planned};
 use crate::memory::Memory;
 use crate::observation::Observation;
-use crate::turn_recorder::TurnRecorder;
 use std::alloc::Global;
 
 /// A run in progress: where the machine stands, and how many turns it may still make. A run that has
@@ -28,7 +27,7 @@ impl<M: Memory> Running<M> {
     /// Makes the next turn, and answers what it shows. `None` where the run has ended, or ends by a
     /// turn that shows nothing. It takes no memory.
     #[inline(always)]
-    pub fn turn(&mut self, alloc: Global, code: &CodeRegion) -> Option<Observation>
+    pub fn turn(&mut self, _alloc: Global, code: &CodeRegion) -> Option<Observation>
         ensures made { Makes (code_of code.now)
             self.old.turns_left (state_of self.old.hart (M.bytes self.old.memory)) result
             self.new.turns_left (state_of self.new.hart (M.bytes self.new.memory)) }
@@ -41,13 +40,20 @@ impl<M: Memory> Running<M> {
         if self.turns_left == 0 {
             return None;
         }
-        let mut recorder = TurnRecorder::new(alloc);
-        let stop = step(&mut self.hart, code, &mut self.memory, &mut recorder);
+        let Ok(plan) = planned(&self.hart, code, &self.memory) else {
+            self.turns_left = 0;
+            return None;
+        };
+        let seen = Observation {
+            pc: self.hart.pc(),
+            event: plan.event,
+        };
+        let stop = apply(&mut self.hart, &mut self.memory, plan.change);
         self.turns_left = if stop.is_some() {
             0
         } else {
             self.turns_left - 1
         };
-        recorder.first()
+        Some(seen)
     }
 }

@@ -1,22 +1,31 @@
 -- Bytes are data exactly where all of them lie in the stretch.
-use Rattle.std.proofs.Common.{arith, sym, ap, ◌∙◌, is_some}
+use Rattle.std.proofs.Common.{◌≤◌, ◌<◌, arith, sym, ap, is_some, ⊎_elim}
+use Rattle.std.proofs.lemmas.Bool.{cases_lt}
 use Rattle.rv_machine.specs.Sizes.{byte_count}
 use Rattle.rv_machine.proofs.Stretch.{some_bytes, number_outside, number_within}
 use Rattle.rv_machine.proofs.flat.FlatMemory.place.Goals as goal
 
-pub returns-in_err-start-clause-found : goal.returns-in_err-start-clause-found
-returns-in_err-start-clause-found c =
+-- an address below the base is too far from it
+from_base : (c : goal.Then-start-bytes) → c.args.self.now.base ≤ c.args.a
+from_base c =
     let m = c.args.self.now in
-    ap is_some (c.from_residual.ensures ∙ sym (number_outside m.base m.bytes.items (byte_count c.args.n) c.args.a (some_bytes c.args.n) (λ within. c.in_err-start.ensures within.0)))
+    let some = some_bytes c.args.n in
+    let ends = m.ends in
+    ⊎_elim (λ (low : c.args.a < m.base). absurd (omega (arith, low, some, ends, c.if-start-bytes.true, c.bytes.ensures, c.len.ensures))) (λ (le : m.base ≤ c.args.a). le) (cases_lt c.args.a m.base)
 
 pub returns-then-start-bytes-clause-found : goal.returns-then-start-bytes-clause-found
 returns-then-start-bytes-clause-found c =
     let m = c.args.self.now in
-    let inside = c.in_ok-start.ensures in
-    sym (number_within m.base m.bytes.items (byte_count c.args.n) c.args.a (omega arith) (omega (arith, m.bytes.ok.0)))
+    let from = from_base c in
+    sym (number_within m.base m.bytes.items (byte_count c.args.n) c.args.a from (omega (arith, m.ends, m.bytes.ok.0, from, c.if-start-bytes.true, c.bytes.ensures, c.len.ensures)))
+
+pub returns-then-start-bytes-clause-within : goal.returns-then-start-bytes-clause-within
+returns-then-start-bytes-clause-within c =
+    let m = c.args.self.now in
+    let from = from_base c in
+    (omega (arith, m.ends, from), omega (arith, c.if-start-bytes.true, c.bytes.ensures, c.len.ensures))
 
 pub returns-else-start-bytes-clause-found : goal.returns-else-start-bytes-clause-found
 returns-else-start-bytes-clause-found c =
     let m = c.args.self.now in
-    let inside = c.in_ok-start.ensures in
-    sym (ap is_some (number_outside m.base m.bytes.items (byte_count c.args.n) c.args.a (some_bytes c.args.n) (λ within. omega (arith, m.bytes.ok.0, within.0, within.1))))
+    sym (ap is_some (number_outside m.base m.bytes.items (byte_count c.args.n) c.args.a (some_bytes c.args.n) (λ within. omega (arith, m.ends, m.bytes.ok.0, within.0, within.1, c.if-start-bytes.false, c.bytes.ensures, c.len.ensures))))

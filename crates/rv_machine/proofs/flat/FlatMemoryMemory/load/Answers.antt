@@ -1,29 +1,10 @@
--- The bytes that were read are the number.
-use Rattle.std.proofs.Common.{◌≡◌, ◌+◌, sym, ap, ◌∙◌, arith}
+-- The number that stands where its place is.
+use Rattle.std.proofs.Common.{sym, ap, ◌∙◌}
 use Rattle.rv_machine.specs.Bytes.{number_at}
 use Rattle.rv_machine.specs.Flat.{flat_bytes}
 use Rattle.rv_machine.specs.Sizes.{byte_count}
-use Rattle.rv_machine.proofs.SizedNumbers.{one_byte, one_more_byte}
 use Rattle.rv_machine.proofs.flat.FlatMemoryMemory.load.Goals as goal
 
-pub returns-in-Byte-clause-number : goal.returns-in-Byte-clause-number
-returns-in-Byte-clause-number c =
-    let m = flat_bytes c.args.self.now in
-    let at : c.args.self.now.base + c.in_ok-start.start ≡ c.args.a = c.in_ok-start.ensures.within.0 in
-    sym (ap (λ n. number_at m (byte_count n) c.args.a) c.in-Byte.is ∙ one_byte m c.args.a _ _ at c.byte.ensures.byte)
-
-pub returns-in-Half-clause-number : goal.returns-in-Half-clause-number
-returns-in-Half-clause-number c =
-    let m = flat_bytes c.args.self.now in
-    let at : c.args.self.now.base + c.in_ok-start.start ≡ c.args.a = c.in_ok-start.ensures.within.0 in
-    let high = one_byte m (c.args.a + 1) _ _ (omega arith) c.byte-in-Half-2.ensures.byte in
-    sym (ap (λ n. number_at m (byte_count n) c.args.a) c.in-Half.is ∙ one_more_byte m 1 c.args.a _ _ _ at c.byte-in-Half.ensures.byte high)
-
-pub returns-in-Word-clause-number : goal.returns-in-Word-clause-number
-returns-in-Word-clause-number c =
-    let m = flat_bytes c.args.self.now in
-    let at : c.args.self.now.base + c.in_ok-start.start ≡ c.args.a = c.in_ok-start.ensures.within.0 in
-    let fourth = one_byte m (c.args.a + 1 + 1 + 1) _ _ (omega arith) c.byte-in-Word-2.ensures.byte in
-    let third = one_more_byte m 1 (c.args.a + 1 + 1) _ _ _ (omega arith) c.byte-in-Word.ensures.byte fourth in
-    let second = one_more_byte m 2 (c.args.a + 1) _ _ _ (omega arith) c.byte-in-Word-4.ensures.byte third in
-    sym (ap (λ n. number_at m (byte_count n) c.args.a) c.in-Word.is ∙ one_more_byte m 3 c.args.a _ _ _ at c.byte-in-Word-3.ensures.byte second)
+pub returns-clause-number : goal.returns-clause-number
+returns-clause-number c =
+    sym (ap (number_at (flat_bytes c.args.self.now) (byte_count c.args.n)) (sym c.in_ok-start.ensures.within.0) ∙ c.number.ensures.number)

@@ -5,18 +5,18 @@ use Rattle.std.specs.Vec.{with_item}
 use Rattle.std.proofs.lemmas.Option.{get_or_from_slice_get}
 use Rattle.rv_machine.specs.Bytes.{ByteMap, number_at, with_number}
 use Rattle.rv_machine.specs.Flat.{flat_bytes}
-use Rattle.rv_machine.specs.Paged.{paged_bytes}
+use Rattle.rv_machine.specs.Paged.{bytes_in, paged_bytes}
 use Rattle.rv_machine.specs.Sizes.{byte_count}
 use Rattle.rv_machine.proofs.ByteLaws.{is_some-with_number}
 use Rattle.rv_machine.proofs.Pages.{number_at-one, number_at-page, with_number-page}
 use Rattle.rv_machine.proofs.paged.PagedMemory.put.Goals as goal
 
-there_now : (c : goal.After-self-1) → is_some (number_at (paged_bytes c.args.self.now) (byte_count c.args.n) c.args.a) ≡ true
+there_now : (c : goal.After-self-2-1) → is_some (number_at (paged_bytes c.args.self.now) (byte_count c.args.n) c.args.a) ≡ true
 there_now c =
     let page = c.in-Some.ensures.page in
     ap is_some (number_at-page c.args.self.now.pages.items c.in-Some.index page.0 (byte_count c.args.n) c.args.a page.1 c.in-Some.ensures.first page.2) ∙ page.2
 
-stored : (c : goal.After-self-1) → paged_bytes (record { pages = with_item c.args.self.now.pages c.in-Some.index c.store.new.self }) ≡ with_number (paged_bytes c.args.self.now) (byte_count c.args.n) c.args.a c.args.v
+stored : (c : goal.After-self-2-1) → bytes_in (with_item c.args.self.now.pages c.in-Some.index c.store.new.self).items ≡ with_number (paged_bytes c.args.self.now) (byte_count c.args.n) c.args.a c.args.v
 stored c =
     let items = c.args.self.now.pages.items in
     let page = c.in-Some.ensures.page in

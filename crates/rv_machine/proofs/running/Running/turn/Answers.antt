@@ -1,59 +1,72 @@
 -- What is shown after a turn follows what the turn shows.
-use Rattle.std.proofs.Common.{◌≡◌, ◌-◌, suc, true, is_some, cond, List, sym, ap, subst, ◌∙◌, arith}
-use Rattle.std.specs.Prelude.{slice_get}
-use Rattle.rv_machine.specs.declared.observation.Observation.{Observation}
+use Rattle.std.proofs.Common.{◌≡◌, ◌-◌, suc, [], ◌∷◌, Option, Some, None, is_some, cond, refl, sym, ap, subst, ◌∙◌, arith}
+use Rattle.rv_machine.specs.declared.stops.Stop.TheVariants.{RecorderRefused}
 use Rattle.rv_machine.specs.Harts.{state_of}
-use Rattle.rv_machine.specs.Leakage.{IsShown, followed_by}
-use Rattle.rv_machine.specs.Recording.{kept}
+use Rattle.rv_machine.specs.Leakage.{IsShown, stopped}
+use Rattle.rv_machine.specs.Machine.{observed}
 use Rattle.rv_machine.specs.Regions.{code_of}
-use Rattle.rv_machine.specs.Progress.{Makes}
+use Rattle.rv_machine.specs.Progress.{Makes, finishes}
 use Rattle.rv_machine.proofs.Progressing.{turn_makes, no_turn_makes}
 use Rattle.rv_machine.proofs.Shown.{turn_shows}
 use Rattle.rv_machine.proofs.running.Running.turn.Goals.{then-is_some, else-is_some}
 use Rattle.rv_machine.proofs.running.Running.turn.Goals as goal
+
+pub returns-in_default-clause-shown : goal.returns-in_default-clause-shown
+returns-in_default-clause-shown g c = λ rest shown.
+    let code = code_of c.args.code.now in
+    let begun = c.args.self.now in
+    let s = state_of begun.hart (g.M.Memory.bytes begun.memory) in
+    let left = begun.turns_left - 1 in
+    let more : suc left ≡ begun.turns_left = omega arith in
+    let stop = c.in_default.field-0 in
+    let calm = λ (e : ◌≡◌ {A = Option _} (Some stop) (Some RecorderRefused)). c.in_default.ensures.nowhere_calm cc in
+    subst (λ n. IsShown code n s rest) more (turn_shows code left 0 s s _ (Some stop) [] c.in_default.ensures.nowhere stopped calm refl rest shown)
+
+pub returns-in_default-clause-made : goal.returns-in_default-clause-made
+returns-in_default-clause-made g c =
+    let begun = c.args.self.now in
+    let s = state_of begun.hart (g.M.Memory.bytes begun.memory) in
+    let more : suc (begun.turns_left - 1) ≡ begun.turns_left = omega arith in
+    subst (λ n. Makes (code_of c.args.code.now) n s None 0 s) more (finishes c.in_default.ensures.nowhere)
 
 pub returns-clause-shown : goal.returns-clause-shown
 returns-clause-shown g c = λ rest shown.
     let code = code_of c.args.code.now in
     let begun = c.args.self.now in
     let s = state_of begun.hart (g.M.Memory.bytes begun.memory) in
-    let t = state_of c.step-stop.new.hart (g.M.Memory.bytes c.step-stop.new.memory) in
+    let t = state_of c.apply-stop.new.hart (g.M.Memory.bytes c.apply-stop.new.memory) in
     let left = begun.turns_left - 1 in
     let more : suc left ≡ begun.turns_left = omega arith in
-    let turn = c.step-stop.ensures.turn in
-    let seen = turn.2.0 in
-    let list = turn.2.2 ∙ ap (λ (xs : List Observation). kept true xs seen) c.new-recorder.ensures.empty in
-    let first = c.first.ensures ∙ ap (λ (xs : List Observation). slice_get xs 0) list in
-    let is : c.if-is_some.self ≡ cond (is_some c.step-stop.result) 0 left =
+    let event = c.in-Ok.plan.event in
+    let calm = λ (e : c.apply-stop.result ≡ Some RecorderRefused). c.in-Ok.ensures.calm (sym c.apply-stop.ensures.answer ∙ e) in
+    let is : c.if-is_some.self ≡ cond (is_some c.apply-stop.result) 0 left =
     elim c.if-is_some.branch [
       | then-is_some w ↦ w.self-is ∙ sym (ap (λ b. cond b 0 left) (sym c.is_some.ensures ∙ w.if-is_some.true))
       | else-is_some w ↦ w.self-is ∙ sym (ap (λ b. cond b 0 left) (sym c.is_some.ensures ∙ w.if-is_some.false))
     ] in
-    subst (λ n. IsShown code n s (followed_by c.first.result rest)) more
-    (subst (λ o. IsShown code (suc left) s (followed_by o rest)) (sym first)
-    (turn_shows code left c.if-is_some.self s t turn.0 c.step-stop.result seen turn.1 turn.2.1 (c.step-stop.ensures.ready 0 c.new-recorder.ensures.ready) is rest shown))
+    subst (λ n. IsShown code n s (record { pc = c.pc.result; event = event } ∷ rest)) more
+    (subst (λ p. IsShown code (suc left) s (record { pc = p; event = event } ∷ rest)) (sym c.pc.ensures)
+    (turn_shows code left c.if-is_some.self s t _ c.apply-stop.result (observed s event ∷ []) c.in-Ok.ensures.turn (c.apply-stop.ensures.done event) calm is rest shown))
 
 pub returns-clause-made : goal.returns-clause-made
 returns-clause-made g c =
     let code = code_of c.args.code.now in
     let begun = c.args.self.now in
     let s = state_of begun.hart (g.M.Memory.bytes begun.memory) in
-    let t = state_of c.step-stop.new.hart (g.M.Memory.bytes c.step-stop.new.memory) in
+    let t = state_of c.apply-stop.new.hart (g.M.Memory.bytes c.apply-stop.new.memory) in
     let left = begun.turns_left - 1 in
     let more : suc left ≡ begun.turns_left = omega arith in
-    let turn = c.step-stop.ensures.turn in
-    let seen = turn.2.0 in
-    let list = turn.2.2 ∙ ap (λ (xs : List Observation). kept true xs seen) c.new-recorder.ensures.empty in
-    let first = c.first.ensures ∙ ap (λ (xs : List Observation). slice_get xs 0) list in
+    let event = c.in-Ok.plan.event in
+    let calm = λ (e : c.apply-stop.result ≡ Some RecorderRefused). c.in-Ok.ensures.calm (sym c.apply-stop.ensures.answer ∙ e) in
     let left' = c.if-is_some.self in
-    let is : left' ≡ cond (is_some c.step-stop.result) 0 left =
+    let is : left' ≡ cond (is_some c.apply-stop.result) 0 left =
     elim c.if-is_some.branch [
       | then-is_some w ↦ w.self-is ∙ sym (ap (λ b. cond b 0 left) (sym c.is_some.ensures ∙ w.if-is_some.true))
       | else-is_some w ↦ w.self-is ∙ sym (ap (λ b. cond b 0 left) (sym c.is_some.ensures ∙ w.if-is_some.false))
     ] in
-    subst (λ n. Makes code n s c.first.result left' t) more
-    (subst (λ o. Makes code (suc left) s o left' t) (sym first)
-    (turn_makes code left left' s t turn.0 c.step-stop.result seen turn.1 turn.2.1 (c.step-stop.ensures.ready 0 c.new-recorder.ensures.ready) is))
+    subst (λ n. Makes code n s (Some (record { pc = c.pc.result; event = event })) left' t) more
+    (subst (λ p. Makes code (suc left) s (Some (record { pc = p; event = event })) left' t) (sym c.pc.ensures)
+    (turn_makes code left left' s t _ c.apply-stop.result (observed s event ∷ []) c.in-Ok.ensures.turn (c.apply-stop.ensures.done event) calm is))
 
 pub returns-then-self-eq0-clause-made : goal.returns-then-self-eq0-clause-made
 returns-then-self-eq0-clause-made g c =

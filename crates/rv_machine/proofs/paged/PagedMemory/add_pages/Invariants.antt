@@ -1,6 +1,6 @@
 use Rattle.std.proofs.Common.{◌≡◌, ℕ, ◌-◌, ◌≤◌, [], ◌∷◌, max}
 use Rattle.rv_machine.specs.Paged.{zeros_in, first_of, bytes_in}
-use Rattle.rv_machine.proofs.paged.add_pages.Given as goal
+use Rattle.rv_machine.proofs.paged.PagedMemory.add_pages.Given as goal
 
 -- the range as far as it has pages
 abbrev pub invariant-pages : goal.invariant-pages

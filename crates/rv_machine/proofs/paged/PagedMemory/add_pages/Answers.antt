@@ -4,7 +4,7 @@ use Rattle.rv_machine.specs.Bytes.{ByteMap, zeros}
 use Rattle.rv_machine.specs.Flat.{flat_bytes}
 use Rattle.rv_machine.specs.Paged.{zeros_in, first_of, bytes_in}
 use Rattle.rv_machine.proofs.Pages.{first_of-assoc, bytes_in-append, zeros_in-grown}
-use Rattle.rv_machine.proofs.paged.add_pages.Goals as goal
+use Rattle.rv_machine.proofs.paged.PagedMemory.add_pages.Goals as goal
 
 pub pages-preserved : goal.pages-preserved
 pages-preserved c =
