@@ -1,4 +1,4 @@
 mod NumberLemmas
-mod FaultLemmas
+pub mod FaultLemmas
 mod TextLemmas
-mod ReadLemmas
+pub mod ReadLemmas

@@ -32,7 +32,7 @@ fn rule_of_values(kind: Kind, words: &[u32]) -> Option<ArgumentRule>
 }
 
 /// The rule that an argument breaks at its parameter.
-fn broken_rule(param: &Param, arg: &Arg) -> Option<ArgumentRule>
+pub fn broken_rule(param: &Param, arg: &Arg) -> Option<ArgumentRule>
     ensures { result ≡ rule_of param.now arg.now }
 {
     match (param.form, arg) {

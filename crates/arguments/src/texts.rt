@@ -63,7 +63,7 @@ fn number_count(param: &Param) -> usize
 }
 
 /// The rule that a text breaks at its parameter.
-fn broken_rule(param: &Param, text: &str) -> Option<ArgumentRule>
+pub fn broken_rule(param: &Param, text: &str) -> Option<ArgumentRule>
     ensures { result ≡ rule_of_text param.now text.now }
 {
     if text.split(',').count() != number_count(param) {
@@ -122,7 +122,7 @@ fn words(alloc: Global, text: &str) -> Result<Vec<u32>, AllocError>
 }
 
 /// The argument that a text without fault spells.
-fn argument(alloc: Global, param: &Param, text: &str) -> Result<Arg, AllocError>
+pub fn argument(alloc: Global, param: &Param, text: &str) -> Result<Arg, AllocError>
     requires { rule_of_text param.now text.now ≡ None }
     ensures spelled { IfOk result (λ arg. Some (words_of arg) ≡ numbers_of text.now) }
     ensures within { IfOk result (IsWithin param.now) }

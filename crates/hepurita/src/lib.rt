@@ -24,6 +24,6 @@ pub use laws::{
     cut_off_runs_are_right, executions_agree, images_do_what_texts_mean, readings_agree,
     texts_are_compiled,
 };
-pub use loading::{CODE_BASE, FRAME_BASE, code, load, params, put_arguments};
+pub use loading::{CODE_BASE, FRAME_BASE, code, frame, load, params, put_argument, put_arguments};
 pub use reading::read_args;
 pub use results::{ResultSpace, outcome, result_space};

@@ -37,7 +37,7 @@ pub fn params(alloc: Global, image: &Image) -> Result<Vec<Param>, AllocError>
 }
 
 /// Puts an argument into its slot of the frame that begins at this address.
-fn put_argument<M: Memory>(memory: &mut M, frame: u32, slot: &Slot, arg: &Arg)
+pub fn put_argument<M: Memory>(memory: &mut M, frame: u32, slot: &Slot, arg: &Arg)
     requires shape { HasShape slot.now.param.form slot.now.param.length arg.now }
     requires data { HoldsSlot frame (M.bytes memory.old) slot.now }
     ensures { M.bytes memory.new ≡ with_argument frame (M.bytes memory.old) slot.now arg.now }
@@ -74,7 +74,7 @@ pub fn code(alloc: Global, image: &Image) -> Result<CodeRegion, AllocError>
 }
 
 /// An image's frame at the standard base: zeros, and no other data.
-fn frame(alloc: Global, image: &Image) -> Result<PagedMemory, AllocError>
+pub fn frame(alloc: Global, image: &Image) -> Result<PagedMemory, AllocError>
     ensures { IfOk result (λ frame. paged_bytes frame ≡ zeros frame_base image.now.frame_bytes) }
 {
     let begin = u64::from(FRAME_BASE);

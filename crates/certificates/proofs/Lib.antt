@@ -1,0 +1,5 @@
+pub mod AnswerLemmas
+pub mod CertificateLaws
+pub mod Covered
+pub mod LoadedLemmas
+pub mod ReadLemmas

@@ -1,0 +1,21 @@
+-- What is answered where the run of an image is to be certified for all arguments that have the given values.
+use Rattle.std.specs.Prelude.{◌≡◌, List, Option, Some, None, Result, Ok, Err}
+use Rattle.arguments.specs.declared.fault.ArgumentFault.{ArgumentFault}
+use Rattle.certified_runs.specs.Certified.{RunEnding, CertifiedRun}
+use Rattle.certified_runs.specs.End.{end_of}
+use Rattle.certified_runs.specs.declared.certifying.CertifiedEnd.{CertifiedEnd}
+use Rattle.codegen.specs.Loaded.{params_of, code_at}
+use Rattle.hepurita.specs.Bases.{code_base, frame_base}
+use Rattle.hepurita.specs.declared.fault.RunFault.{RunFault}
+use Rattle.hepurita.specs.declared.fault.RunFault.TheVariants.{Argument, Memory}
+use Rattle.image_fields.specs.Fields.{Fields}
+use Rattle.language.specs.declared.values.Arg.{Arg}
+use Rattle.rv_machine.specs.declared.observation.Observation.{Observation}
+use Rattle.certificates.specs.Given.{fault_of_given}
+use Rattle.certificates.specs.KnownImage.{known_at}
+
+-- what is answered: what is given is refused by its first fault; else it is what the image's certified run says, within its steps
+pub data Certified (image : Fields) (given : List (Option Arg)) : Result CertifiedEnd RunFault → Type 0 where
+  refused : {fault : ArgumentFault} → fault_of_given (params_of image) given ≡ Some fault → Certified image given (Err (Argument fault.rule fault.index))
+  out_of_memory : fault_of_given (params_of image) given ≡ None → Certified image given (Err Memory)
+  certified : {seen : List Observation} {ending : RunEnding} → fault_of_given (params_of image) given ≡ None → CertifiedRun (code_at code_base image) image.max_steps (known_at code_base frame_base image given) seen ending → Certified image given (Ok (end_of seen ending))

@@ -1,0 +1,25 @@
+// One run of an image for all arguments that have the given values.
+
+ghost use Rattle.certificates.specs.Certified.{Certified};
+
+use crate::faults::first_fault;
+use crate::loading::load;
+use certified_runs::{CertifiedEnd as Certificate, certify as certify_run};
+use hepurita::{RunFault, code};
+use image::Image;
+use language::Arg;
+use std::alloc::Global;
+
+/// Runs an image once for all arguments that have the given values, and answers whether an observer sees the same of all of them.
+/// An argument that is not given stands for every value of its type; it may be that of a secret parameter alone. What is
+/// given is refused by its first fault, before memory is asked for, and once the image is loaded the run takes no memory.
+pub fn certify(alloc: Global, image: &Image, given: &[Option<Arg>]) -> Result<Certificate, RunFault>
+    ensures { Certified image.now given.now result }
+{
+    if let Some(fault) = first_fault(image.slots(), given) {
+        return Err(RunFault::from(fault));
+    }
+    let code = code(alloc, image)?;
+    let mut loaded = load(alloc, image, given)?;
+    Ok(certify_run(alloc, &code, &mut loaded.run, &mut loaded.known))
+}
