@@ -17,7 +17,7 @@ const RANGES: [AddressRange; 2] = [
     },
     AddressRange {
         begin: 0x1000_0010,
-        end: 0x1002_0014,
+        end: 0x1000_2014,
     },
 ];
 
@@ -31,9 +31,9 @@ fn keeps_the_bytes_of_ranges_alone(rt: HostRuntime) -> Result<(), Fail> {
     assert_eq!(rt; memory.load(0x1000_000f, Size::Byte), None);
     assert!(rt; !memory.store(0x1000_000e, Size::Word, 1));
     assert_eq!(rt; memory.load(0x1000_0010, Size::Half), Some(0));
-    assert!(rt; memory.store(0x1002_0013, Size::Byte, 0xff));
-    assert_eq!(rt; memory.load(0x1002_0010, Size::Word), Some(0xff00_0000));
-    assert!(rt; !memory.store(0x1002_0014, Size::Byte, 1));
+    assert!(rt; memory.store(0x1000_2013, Size::Byte, 0xff));
+    assert_eq!(rt; memory.load(0x1000_2010, Size::Word), Some(0xff00_0000));
+    assert!(rt; !memory.store(0x1000_2014, Size::Byte, 1));
     assert_eq!(rt; memory.load(0x1000_0ffc, Size::Word), Some(0));
     Ok(())
 }
@@ -41,10 +41,10 @@ fn keeps_the_bytes_of_ranges_alone(rt: HostRuntime) -> Result<(), Fail> {
 #[test]
 fn stores_a_word_across_two_pages(rt: HostRuntime) -> Result<(), Fail> {
     let mut memory = PagedMemory::new(rt.alloc(), &RANGES)?;
-    assert!(rt; memory.store(0x1001_000d, Size::Word, 0x1234_5678));
-    assert_eq!(rt; memory.load(0x1001_000d, Size::Word), Some(0x1234_5678));
-    assert_eq!(rt; memory.load(0x1001_000f, Size::Half), Some(0x1234));
-    assert_eq!(rt; memory.load(0x1001_0010, Size::Byte), Some(0x12));
+    assert!(rt; memory.store(0x1000_100d, Size::Word, 0x1234_5678));
+    assert_eq!(rt; memory.load(0x1000_100d, Size::Word), Some(0x1234_5678));
+    assert_eq!(rt; memory.load(0x1000_100f, Size::Half), Some(0x1234));
+    assert_eq!(rt; memory.load(0x1000_1010, Size::Byte), Some(0x12));
     Ok(())
 }
 

@@ -11,8 +11,8 @@ use crate::flat::FlatMemory;
 use crate::memory::{Memory, Size};
 use std::alloc::{AllocError, Global};
 
-/// The bytes of a page, which hold the largest frame; the last page of a range ends with the range.
-const PAGE_BYTES: u64 = 65_536;
+/// The bytes of a page; the last one of a range ends with the range.
+const PAGE_BYTES: u64 = 4096;
 
 /// Addresses from the beginning on, up to the end, which is the first one after them.
 #[derive(Clone, Copy, Debug, PartialEq, Eq)]
