@@ -1,8 +1,9 @@
-use crate::slow_streams::{SlowSink, SlowSource};
+ghost use Rattle.std.specs.Prelude.{◌≤◌, false, None};
+
 use commands::Files;
-use std::alloc::{AllocError, Global};
+use std::alloc::Global;
 use std::process::Abort;
-use streams::{ByteSink, ByteSource, SinkFault, SourceFault};
+use streams::{ByteSink, ByteSource, Faltering, ReadFault, SinkFault, get_up_to, put_all};
 
 /// How streams move their bytes.
 #[derive(Clone, Copy)]
@@ -59,37 +60,48 @@ impl MemoryFiles {
     }
 }
 
+impl MemoryFiles {
+    /// How many bytes a call of a stream moves at most.
+    fn piece(&self) -> usize
+        ensures { 1 ≤ result }
+    {
+        if self.motion.slow { 1 } else { usize::MAX }
+    }
+}
+
 impl Files for MemoryFiles {
-    type Source = SlowSource;
+    const TELLS: bool = false;
 
-    type Sink = SlowSink;
+    ghost TELLS = { false };
 
-    fn open(&mut self, path: &str) -> Result<Self::Source, SourceFault> {
+    ghost contents = { λ _ _. None };
+
+    fn read(&self, alloc: Global, path: &str, limit: usize) -> Result<Vec<u8>, ReadFault> {
         let bytes = if path == PLAN {
             self.plan.as_slice()
         } else {
             self.bytes.as_slice()
         };
-        match Vec::from_slice(self.alloc, bytes) {
-            Ok(bytes) => Ok(SlowSource::new(
-                ByteSource::new(bytes),
-                self.motion.slow,
-                self.motion.good_reads,
-            )),
-            Err(AllocError) => Err(SourceFault),
-        }
+        let source = ByteSource::new(Vec::from_slice(self.alloc, bytes)?);
+        let mut source = Faltering {
+            stream: source,
+            piece: self.piece(),
+            good_calls: self.motion.good_reads,
+            failures: 0,
+        };
+        get_up_to(alloc, &mut source, limit)
     }
 
-    fn create(&mut self, _path: &str) -> Result<Self::Sink, SinkFault> {
+    fn write(&mut self, _path: &str, bytes: &[u8]) -> Result<(), SinkFault> {
         self.created = self.created.saturating_add(1);
-        Ok(SlowSink::new(
-            ByteSink::new(self.alloc),
-            self.motion.slow,
-            self.motion.good_writes,
-        ))
-    }
-
-    fn close(&mut self, sink: Self::Sink) {
-        self.written = sink.into_inner();
+        let mut sink = Faltering {
+            stream: ByteSink::new(self.alloc),
+            piece: self.piece(),
+            good_calls: self.motion.good_writes,
+            failures: 0,
+        };
+        let written = put_all(&mut sink, bytes);
+        self.written = sink.stream;
+        written
     }
 }

@@ -1,45 +1,13 @@
-// Streams in memory that move one byte a call, or fail once. They are types without parameters: the
-// toolchain takes no others as the streams of an `impl Files`.
+// A sink in memory that moves one byte a call, or fails once.
 
 ghost use Rattle.std.specs.Prelude.{◌≤◌, true};
 
-use streams::{ByteSink, ByteSource, Faltering, Sink, SinkFault, Source, SourceFault};
+use streams::{ByteSink, Faltering, Sink, SinkFault};
 
 fn piece(slow: bool) -> usize
     ensures { 1 ≤ result }
 {
     if slow { 1 } else { usize::MAX }
-}
-
-#[derive(Drop)]
-pub struct SlowSource {
-    inner: Faltering<ByteSource>,
-}
-
-impl SlowSource {
-    pub fn new(stream: ByteSource, slow: bool, good_calls: Option<u64>) -> Self {
-        let inner = Faltering {
-            stream,
-            piece: piece(slow),
-            good_calls,
-            failures: 0,
-        };
-        SlowSource { inner }
-    }
-}
-
-impl Source for SlowSource {
-    const TELLS: bool = true;
-
-    ghost TELLS = { true };
-
-    ghost coming = { λ s. s.inner.stream };
-
-    ghost failures = { λ s. s.inner.failures };
-
-    fn get(&mut self, buffer: &mut [u8]) -> Result<usize, SourceFault> {
-        self.inner.get(buffer)
-    }
 }
 
 #[derive(Drop)]

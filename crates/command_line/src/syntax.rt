@@ -16,6 +16,7 @@ pub fn factc<'a>(alloc: Global) -> Result<Command<'a>, AllocError> {
         .subcommand(run_command(alloc)?)?
         .subcommand(leak_command(alloc)?)?
         .subcommand(pair_command(alloc)?)?
+        .subcommand(certify_command(alloc)?)?
         .subcommand(list_command(alloc)?)?
         .subcommand(harts_command(alloc)?)
 }
@@ -80,6 +81,19 @@ fn pair_command<'a>(alloc: Global) -> Result<Command<'a>, AllocError> {
             alloc,
             "Those of the first run, one for each parameter and as for `run`, then those of the \
              second",
+        ))
+}
+
+fn certify_command<'a>(alloc: Global) -> Result<Command<'a>, AllocError> {
+    Command::new(alloc, "certify")
+        .about(
+            "Runs an image once for all values of its secrets, and says whether an observer sees the same of all, or \
+             where runs may begin to differ",
+        )
+        .arg(path(alloc, "IMAGE", "An image that `build` or `wrap` wrote"))?
+        .arg(arguments(
+            alloc,
+            "One for each parameter, as for `run`; for a secret one `?` stands for every value of its type",
         ))
 }
 

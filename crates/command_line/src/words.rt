@@ -31,6 +31,10 @@ pub enum Request<'a> {
         image: &'a str,
         arguments: &'a [&'a str],
     },
+    Certify {
+        image: &'a str,
+        arguments: &'a [&'a str],
+    },
     List {
         image: &'a str,
     },
@@ -97,6 +101,10 @@ fn asked<'a>(alloc: Global, words: &'a [&'a str]) -> Result<Request<'a>, Error> 
         }),
         Some(("pair", pair)) => Ok(Request::Pair {
             image: text_of(pair, "IMAGE"),
+            arguments: after_path(words),
+        }),
+        Some(("certify", certify)) => Ok(Request::Certify {
+            image: text_of(certify, "IMAGE"),
             arguments: after_path(words),
         }),
         Some(("list", list)) => Ok(Request::List {

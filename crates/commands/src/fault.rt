@@ -7,17 +7,24 @@ use language::{Refusal, Rule};
 use source_eval::EvalFault;
 use std::alloc::{AllocError, AllocFailed};
 use std::fmt;
-use thiserror::Error;
 
 /// What a file failed by, with its path; that of standard output is `-`.
-#[derive(Debug, Drop, Error)]
+#[derive(Clone, Copy, Debug)]
 pub enum FileFault<'a> {
-    #[error("cannot read {0}")]
     CannotRead(&'a str),
-    #[error("cannot write {0}")]
     CannotWrite(&'a str),
-    #[error("not UTF-8 {0}")]
     NotUtf8(&'a str),
+}
+
+/// `cannot read text.fact`.
+impl fmt::Display for FileFault<'_> {
+    fn fmt<W: fmt::Write>(&self, f: &mut fmt::Formatter<W>) -> fmt::Result {
+        match *self {
+            FileFault::CannotRead(path) => write!(f, "cannot read {path}"),
+            FileFault::CannotWrite(path) => write!(f, "cannot write {path}"),
+            FileFault::NotUtf8(path) => write!(f, "not UTF-8 {path}"),
+        }
+    }
 }
 
 /// Why a command was not done.

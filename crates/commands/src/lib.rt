@@ -1,14 +1,18 @@
 // The commands of `factc`, over files and streams that the caller hands in: they compile a text to an
-// image, work out what a text means, run an image, and compare what an observer sees of two runs.
-// The exit status of each command is promised, and no status 0 where standard output failed. The
-// work is done by the calls of `hepurita`; the words are read by `command_line`.
+// image, work out what a text means, run an image, compare what an observer sees of two runs, and say
+// whether one run shows the same for all secrets. The exit status of each command is promised, and no
+// status 0 where standard output failed. The work is done by the calls of the libraries; the words are
+// read by `command_line`.
 #![tactic(auto)]
 
+mod certifying;
 mod fault;
 mod files;
+mod images;
 mod outcome;
 mod performing;
 mod side_by_side;
+mod texts;
 
 pub use fault::{Fault, FileFault};
 pub use files::Files;

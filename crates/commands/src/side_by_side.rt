@@ -5,8 +5,10 @@ ghost use Rattle.hepurita.specs.Bases.{most_images};
 
 use crate::fault::{Fault, FileFault};
 use crate::files::Files;
+use crate::images::image_of;
 use crate::outcome;
-use crate::performing::{DONE, STOPPED, image_of, print, read_file};
+use crate::performing::{DONE, STOPPED, print};
+use crate::texts::read_fault;
 use arrayvec::ArrayString;
 use harts::{HartEnd, run_harts};
 use harts_file::{Job, read};
@@ -23,9 +25,12 @@ use streams::Sink;
 pub fn whole_text<'a, F: Files>(
     alloc: Global,
     file: &'a str,
-    files: &mut F,
+    files: &F,
 ) -> Result<String, Fault<'a>> {
-    let bytes = read_file(alloc, file, usize::MAX, files)?;
+    let bytes = match files.read(alloc, file, usize::MAX) {
+        Ok(bytes) => bytes,
+        Err(fault) => return Err(read_fault(file, fault)),
+    };
     match String::from_utf8(bytes) {
         Ok(text) => Ok(text),
         Err(_) => Err(Fault::File(FileFault::NotUtf8(file))),
@@ -37,7 +42,7 @@ pub fn whole_text<'a, F: Files>(
 pub fn run_side_by_side<'a, F: Files, O: Sink>(
     alloc: Global,
     text: &'a str,
-    files: &mut F,
+    files: &F,
     out: &mut O,
 ) -> Result<u8, Fault<'a>>
     ensures known { IfOk result (λ status. status ≤ 5) }
@@ -61,7 +66,7 @@ pub fn run_side_by_side<'a, F: Files, O: Sink>(
 fn load_jobs<'a, F: Files>(
     alloc: Global,
     jobs: &[Job<'a>],
-    files: &mut F,
+    files: &F,
 ) -> Result<Vec<(Image, Args)>, Fault<'a>>
     ensures { IfOk result (λ loaded. vec_len loaded ≡ length jobs.now) }
 {

@@ -1,11 +1,11 @@
-ghost use Rattle.std.specs.Prelude.{◌≡◌, false, []};
+ghost use Rattle.std.specs.Prelude.{◌≡◌, false, [], None};
 
 use commands::{Files, command};
 use std::alloc::{AllocError, Global};
 use std::io::{ErrorKind, Read, Write};
 use std::rt::{Env, Files as FileSystem};
 use std::{env, fs};
-use streams::{Sink, SinkFault, Source, SourceFault, put_all};
+use streams::{ReadFault, Sink, SinkFault, Source, SourceFault, get_up_to, put_all};
 
 /// Runs the program on the process's own words and files, and answers the exit status.
 pub fn run<R: Env + FileSystem + AllocGlobal, O: Write + Drop, E: Write + Drop>(
@@ -64,25 +64,25 @@ struct HostFiles<'a, R> {
 }
 
 impl<R: FileSystem> Files for HostFiles<'_, R> {
-    type Source = Unbuffered<R::File>;
+    const TELLS: bool = false;
 
-    type Sink = Unbuffered<R::File>;
+    ghost TELLS = { false };
 
-    fn open(&mut self, path: &str) -> Result<Self::Source, SourceFault> {
+    ghost contents = { λ _ _. None };
+
+    fn read(&self, alloc: Global, path: &str, limit: usize) -> Result<Vec<u8>, ReadFault> {
         match fs::open(self.rt, path) {
-            Ok(file) => Ok(Unbuffered::new(file)),
-            Err(_) => Err(SourceFault),
+            Ok(file) => get_up_to(alloc, &mut Unbuffered::new(file), limit),
+            Err(_) => Err(ReadFault::Source),
         }
     }
 
-    fn create(&mut self, path: &str) -> Result<Self::Sink, SinkFault> {
+    fn write(&mut self, path: &str, bytes: &[u8]) -> Result<(), SinkFault> {
         match fs::create(self.rt, path) {
-            Ok(file) => Ok(Unbuffered::new(file)),
+            Ok(file) => put_all(&mut Unbuffered::new(file), bytes),
             Err(_) => Err(SinkFault),
         }
     }
-
-    fn close(&mut self, _sink: Self::Sink) {}
 }
 
 /// A reader or writer of the system as a stream. Which bytes move is known to the system alone.

@@ -45,6 +45,24 @@ fn list_words(alloc: Global, base: u32, words: &[u32]) -> Result<Vec<u8>, AllocE
     Ok(lines)
 }
 
+/// The line of the word of an image at an address, as in its listing. `None` where no word begins there.
+pub fn line_at(alloc: Global, image: &Image, address: u32) -> Result<Option<Vec<u8>>, AllocError> {
+    let Some(offset) = address.checked_sub(CODE_BASE) else {
+        return Ok(None);
+    };
+    if offset % 4 != 0 {
+        return Ok(None);
+    }
+    match image.words().get((offset / 4) as usize) {
+        Some(word) => {
+            let mut line = Vec::new(alloc);
+            push_line(alloc, &mut line, address, *word)?;
+            Ok(Some(line))
+        }
+        None => Ok(None),
+    }
+}
+
 /// The words of an image with their text: a line for each, with its address.
 pub fn list(alloc: Global, image: &Image) -> Result<Vec<u8>, AllocError>
     ensures { IfOk result (λ lines. ListsCode code_base image.now.words lines.items) }

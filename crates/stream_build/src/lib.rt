@@ -10,7 +10,7 @@ mod reading;
 pub use building::{build_source, build_source_as, build_stream, build_stream_as};
 pub use fault::BuildFault;
 pub use laws::streams_agree;
-pub use reading::read_text;
+pub use reading::{read_text, text_of};
 
 #[cfg(test)]
 mod tests;

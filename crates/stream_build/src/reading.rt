@@ -29,6 +29,17 @@ pub fn read_text<R: Source>(alloc: Global, source: &mut R) -> Result<String, Bui
         Err(ReadFault::Source) => return Err(BuildFault::Read),
         Err(ReadFault::Memory) => return Err(BuildFault::Refused(Refusal::memory())),
     };
+    text_of(bytes)
+}
+
+/// The text that bytes are, if they are one that is not too long. Too many of them are not asked whether they
+/// are UTF-8.
+pub fn text_of(bytes: Vec<u8>) -> Result<String, BuildFault<Refusal>>
+    ensures whole { IfOk result (λ text. string_bytes text ≡ bytes.items) }
+    ensures within { IfOk result (λ text. length (string_bytes text) ≤ text_limit) }
+    ensures fault { IfErr result (NoText bytes.items) }
+    ensures unread { result ≢ Err BuildFault.Read }
+{
     if bytes.len() > TEXT_LIMIT {
         let too_long = Refusal::at(Rule::TextTooLong, Place::ORIGIN);
         return Err(BuildFault::Refused(too_long));
