@@ -1,1 +1,12 @@
 pub mod Contents
+pub mod OutcomeText
+pub mod Unread
+pub mod Images
+pub mod Words
+pub mod Stops
+pub mod ImageRefusals
+pub mod Runs
+pub mod Leaks
+pub mod Pairs
+pub mod Certificates
+pub mod Meanings

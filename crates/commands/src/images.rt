@@ -1,6 +1,15 @@
 // What is done with an image: it is run, its run is listed, two of its runs are compared, its words are listed.
 
-ghost use Rattle.std.specs.Prelude.{◌≡◌, ◌≤◌, IfOk, OnOk};
+ghost use Rattle.std.specs.Prelude.{◌≡◌, ◌≢◌, ◌≤◌, Some, List, ℕ, Result, length, map, IsTrue, IfOk, IfErr, OnOk};
+ghost use Rattle.std.specs.String.{string_bytes};
+ghost use Rattle.image_fields.specs.Limits.{most_parameters};
+ghost use Rattle.streams.specs.Streams.{Writes, WritesPart};
+ghost use Rattle.commands.specs.Images.{HoldsImage, NoImage};
+ghost use Rattle.commands.specs.Leaks.{SaysLeak, RefusesLeak, IsFaultOfLeak, IsOutputFault};
+ghost use Rattle.commands.specs.Pairs.{SaysPair, RefusesPair, SaysList, pairing_text};
+ghost use Rattle.commands.specs.Runs.{SaysRun, RefusesRun};
+ghost use Rattle.commands.specs.Stops.{status_of};
+ghost use Rattle.commands.specs.Words.{AreBothSpelled, IsFaultOfWords, fault_of_both};
 
 use crate::fault::{Fault, FileFault};
 use crate::files::Files;
@@ -13,11 +22,14 @@ use image::{Image, LONGEST_IMAGE, read};
 use language::{Args, Param};
 use listing::{LeakFault, leak, list};
 use rv_machine::{NullRecorder, Pairing, Stop};
-use std::alloc::Global;
+use std::alloc::{AllocError, Global};
 use streams::Sink;
 
 /// The image of a file. One byte more than the longest image has is read, so that a longer file is refused.
-pub fn image_of<'a, F: Files>(alloc: Global, path: &'a str, files: &F) -> Result<Image, Fault<'a>> {
+pub fn image_of<'a, F: Files>(alloc: Global, path: &'a str, files: &F) -> Result<Image, Fault<'a>>
+    ensures said { IsTrue F.TELLS → IfOk result (HoldsImage (F.contents files.now) path.now) }
+    ensures refused { IsTrue F.TELLS → IfErr result (NoImage (F.contents files.now) path.now) }
+{
     match files.read(alloc, path, LONGEST_IMAGE + 1) {
         Ok(bytes) => Ok(read(alloc, bytes.as_slice())?),
         Err(fault) => Err(read_fault(path, fault)),
@@ -30,7 +42,10 @@ pub fn run_image<'a, F: Files>(
     path: &'a str,
     arguments: &[&str],
     files: &F,
-) -> Result<String, Fault<'a>> {
+) -> Result<String, Fault<'a>>
+    ensures said { IsTrue F.TELLS → IfOk result (λ text. SaysRun (F.contents files.now) path.now (map (λ word. word.now) arguments.now) (string_bytes text)) }
+    ensures refused { IsTrue F.TELLS → IfErr result (RefusesRun (F.contents files.now) path.now (map (λ word. word.now) arguments.now)) }
+{
     let image = image_of(alloc, path, files)?;
     let params = params(alloc, &image)?;
     let args = read_args(alloc, params.as_slice(), arguments)?;
@@ -49,19 +64,42 @@ pub fn leak_image<'a, F: Files, O: Sink>(
 ) -> Result<u8, Fault<'a>>
     ensures known { IfOk result (λ status. status ≤ 5) }
     ensures calm { OnOk result (O.failures out.new ≡ O.failures out.old) }
+    ensures said { IsTrue F.TELLS → IfOk result (λ status. (text : List ℕ) × SaysLeak (F.contents files.now) path.now (map (λ word. word.now) arguments.now) status text) }
+    ensures written { IsTrue F.TELLS → IsTrue O.TELLS → IfOk result (λ status.
+        Writes (SaysLeak (F.contents files.now) path.now (map (λ word. word.now) arguments.now) status) (O.taken out.old) (O.taken out.new)) }
+    ensures refused { IsTrue F.TELLS → IfErr result (RefusesLeak (F.contents files.now) path.now (map (λ word. word.now) arguments.now)) }
+    ensures beginning { IsTrue F.TELLS → IsTrue O.TELLS → IfErr result (λ fault. IsOutputFault fault
+        → WritesPart (λ text. (status : ℕ) × SaysLeak (F.contents files.now) path.now (map (λ word. word.now) arguments.now) status text) (O.taken out.old) (O.taken out.new)) }
+    ensures untouched { IfErr result (λ fault. (IsOutputFault fault → ⊥) → out.new ≡ out.old) }
 {
     let image = image_of(alloc, path, files)?;
     let params = params(alloc, &image)?;
     let args = read_args(alloc, params.as_slice(), arguments)?;
     match leak(alloc, &image, &args, out) {
-        Ok(Stop::Ecall) => Ok(DONE),
-        Ok(_) => Ok(STOPPED),
+        Ok(stop) => Ok(status_of(stop)),
         Err(fault) => Err(leak_fault(fault)),
     }
 }
 
+/// The exit status of a run that stops so.
+pub fn status_of(stop: Stop) -> u8
+    ensures { result ≡ status_of stop }
+{
+    match stop {
+        Stop::Ecall => DONE,
+        Stop::Break
+        | Stop::Illegal
+        | Stop::AccessFault
+        | Stop::Misaligned
+        | Stop::Budget
+        | Stop::RecorderRefused => STOPPED,
+    }
+}
+
 /// Why a listing was not printed to its end.
-fn leak_fault(fault: LeakFault) -> Fault<'static> {
+fn leak_fault(fault: LeakFault) -> Fault<'static>
+    ensures { IsFaultOfLeak fault result }
+{
     match fault {
         LeakFault::Argument { rule, index } => Fault::Run(RunFault::Argument { rule, index }),
         LeakFault::Memory => Fault::Run(RunFault::Memory),
@@ -74,7 +112,10 @@ pub fn list_image<'a, F: Files>(
     alloc: Global,
     path: &'a str,
     files: &F,
-) -> Result<Vec<u8>, Fault<'a>> {
+) -> Result<Vec<u8>, Fault<'a>>
+    ensures said { IsTrue F.TELLS → IfOk result (λ lines. SaysList (F.contents files.now) path.now lines.items) }
+    ensures refused { IsTrue F.TELLS → IfErr result (NoImage (F.contents files.now) path.now) }
+{
     let image = image_of(alloc, path, files)?;
     Ok(list(alloc, &image)?)
 }
@@ -85,15 +126,25 @@ pub fn pair_image<'a, F: Files>(
     path: &'a str,
     arguments: &[&str],
     files: &F,
-) -> Result<String, Fault<'a>> {
+) -> Result<String, Fault<'a>>
+    ensures said { IsTrue F.TELLS → IfOk result (λ text. SaysPair (F.contents files.now) path.now (map (λ word. word.now) arguments.now) (string_bytes text)) }
+    ensures refused { IsTrue F.TELLS → IfErr result (RefusesPair (F.contents files.now) path.now (map (λ word. word.now) arguments.now)) }
+{
     let image = image_of(alloc, path, files)?;
     let params = params(alloc, &image)?;
     let (first, second) = both_args(alloc, params.as_slice(), arguments)?;
-    let line = match pair(alloc, &image, &first, &second)? {
-        Pairing::Same => String::from_str(alloc, "same\n")?,
-        Pairing::Differ(place) => format!(in alloc; "differ at {place}\n")?,
-    };
-    Ok(line)
+    let pairing = pair(alloc, &image, &first, &second)?;
+    Ok(pairing_line(alloc, pairing)?)
+}
+
+/// A comparison as a line.
+fn pairing_line(alloc: Global, pairing: Pairing) -> Result<String, AllocError>
+    ensures { IfOk result (λ text. string_bytes text ≡ pairing_text pairing) }
+{
+    match pairing {
+        Pairing::Same => String::from_str(alloc, "same\n"),
+        Pairing::Differ(place) => format!(in alloc; "differ at {place}\n"),
+    }
 }
 
 /// The two lists of arguments that words spell, of which the first half is the first. The words are
@@ -102,7 +153,11 @@ fn both_args(
     alloc: Global,
     params: &[Param],
     arguments: &[&str],
-) -> Result<(Args, Args), RunFault> {
+) -> Result<(Args, Args), RunFault>
+    requires { length params.now ≤ most_parameters }
+    ensures found { IfOk result (λ both. AreBothSpelled params.now (map (λ word. word.now) arguments.now) both.0 both.1) }
+    ensures refused { IfErr result (IsFaultOfWords (fault_of_both params.now (map (λ word. word.now) arguments.now))) }
+{
     match arguments.split_at_checked(params.len()) {
         Some((first, second)) if second.len() == params.len() => {
             let first = read_args(alloc, params, first)?;

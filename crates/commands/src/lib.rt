@@ -6,6 +6,7 @@
 #![tactic(auto)]
 
 mod certifying;
+mod evaluating;
 mod fault;
 mod files;
 mod images;

@@ -1,11 +1,12 @@
 ghost use Rattle.std.specs.Prelude.{◌≡◌, ◌≤◌, IfOk, OnOk};
 
 use crate::certifying::certify_image;
+use crate::evaluating::evaluate_text;
 use crate::fault::{Fault, FileFault};
 use crate::files::Files;
 use crate::images::{leak_image, list_image, pair_image, run_image};
 use crate::side_by_side::{run_side_by_side, whole_text};
-use crate::texts::{build_image, check_text, evaluate_text};
+use crate::texts::{build_image, check_text};
 use command_line::{NoRequest, Request, parse};
 use language::Refusal;
 use std::alloc::Global;

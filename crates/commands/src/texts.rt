@@ -2,17 +2,12 @@
 
 use crate::fault::{Fault, FileFault};
 use crate::files::Files;
-use crate::outcome;
-use hepurita::{build_as, judge, judge_as, read_args};
+use hepurita::{build_as, judge_as};
 use language::{Profile, Refusal};
-use source_eval::eval;
 use std::alloc::Global;
 use stream_build::{BuildFault, text_of};
 use streams::ReadFault;
 use syntax::TEXT_LIMIT;
-
-/// How many nodes `eval` evaluates at most.
-const EVALUATION_BUDGET: u64 = 1 << 32;
 
 /// Why a file was not read.
 pub fn read_fault(path: &str, fault: ReadFault) -> Fault<'_> {
@@ -84,19 +79,4 @@ pub fn build_image<'a, F: Files>(
     let text = text_of_file(alloc, file, files)?;
     let built = build_as(alloc, text.as_str(), profile)?;
     write_file(image, built.as_slice(), files)
-}
-
-/// What an accepted text means on arguments, as lines.
-pub fn evaluate_text<'a, F: Files>(
-    alloc: Global,
-    file: &'a str,
-    arguments: &[&str],
-    files: &F,
-) -> Result<String, Fault<'a>> {
-    let text = text_of_file(alloc, file, files)?;
-    let accepted = judge(alloc, text.as_str())?;
-    let params = accepted.params.as_slice();
-    let args = read_args(alloc, params, arguments)?;
-    let outcome = eval(alloc, &accepted.program, &args, EVALUATION_BUDGET)?;
-    Ok(outcome::text_of(alloc, params, &outcome)?)
 }
