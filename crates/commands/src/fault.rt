@@ -7,6 +7,7 @@ use language::{Refusal, Rule};
 use source_eval::EvalFault;
 use std::alloc::{AllocError, AllocFailed};
 use std::fmt;
+use wrapping::CodeRule;
 
 /// What a file failed by, with its path; that of standard output is `-`.
 #[derive(Clone, Copy, Debug)]
@@ -36,6 +37,7 @@ pub enum Fault<'a> {
     Eval(EvalFault),
     Plan(PlanFault),
     Harts(HartsFault),
+    Code(CodeRule),
     File(FileFault<'a>),
 }
 
@@ -72,6 +74,7 @@ impl Fault<'_> {
         ensures hart_argument { (hart : _) (rule : _) (index : _)
             → self.now ≡ Fault.Harts (HartsFault.Argument hart rule index) → result ≡ 1 }
         ensures harts_memory { self.now ≡ Fault.Harts HartsFault.Memory → result ≡ 4 }
+        ensures code { (rule : _) → self.now ≡ Fault.Code rule → result ≡ 1 }
         ensures file { (fault : _) → self.now ≡ Fault.File fault → result ≡ 3 }
     {
         match self {
@@ -96,6 +99,7 @@ impl Fault<'_> {
             Fault::Harts(HartsFault::Schedule { .. }) => 1,
             Fault::Harts(HartsFault::Argument { .. }) => 1,
             Fault::Harts(HartsFault::Memory) => 4,
+            Fault::Code(_) => 1,
             Fault::File(_) => 3,
         }
     }
@@ -112,6 +116,7 @@ impl fmt::Display for Fault<'_> {
             Fault::Eval(fault) => write!(f, "refused: {fault}"),
             Fault::Plan(fault) => write!(f, "refused: {fault}"),
             Fault::Harts(fault) => write_harts_fault(f, fault),
+            Fault::Code(rule) => write!(f, "refused: {rule}"),
             Fault::File(fault) => write!(f, "file: {fault}"),
         }
     }
