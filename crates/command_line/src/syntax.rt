@@ -1,4 +1,4 @@
-use clap::{Arg, ArgAction, Command};
+use clap::{Arg, ArgAction, Command, value_parser};
 use std::alloc::{AllocError, Global};
 
 /// The commands of `factc` and their words, as `clap` reads them.
@@ -18,6 +18,7 @@ pub fn factc<'a>(alloc: Global) -> Result<Command<'a>, AllocError> {
         .subcommand(pair_command(alloc)?)?
         .subcommand(certify_command(alloc)?)?
         .subcommand(list_command(alloc)?)?
+        .subcommand(wrap_command(alloc)?)?
         .subcommand(harts_command(alloc)?)
 }
 
@@ -103,6 +104,37 @@ fn list_command<'a>(alloc: Global) -> Result<Command<'a>, AllocError> {
         .arg(path(alloc, "IMAGE", "An image that `build` wrote"))
 }
 
+fn wrap_command<'a>(alloc: Global) -> Result<Command<'a>, AllocError> {
+    Command::new(alloc, "wrap")
+        .about("Makes an image of code that another compiler made, to run, list and certify it")
+        .arg(path(
+            alloc,
+            "FILE",
+            "A text whose export has the parameters and the result that the code has",
+        ))?
+        .arg(path(
+            alloc,
+            "CODE",
+            "The code's words, little-endian, as `objcopy -O binary` leaves them",
+        ))?
+        .arg(path(
+            alloc,
+            "IMAGE",
+            "Where to write the image; where anything is refused it stays as it was",
+        ))?
+        .arg(number(
+            alloc,
+            "frame",
+            "How many bytes the frame has: parameters and result lie at its beginning, as `build` lays them",
+        ))?
+        .arg(number(
+            alloc,
+            "steps",
+            "How many instructions a run executes at most",
+        ))?
+        .arg(profile(alloc))
+}
+
 fn harts_command<'a>(alloc: Global) -> Result<Command<'a>, AllocError> {
     Command::new(alloc, "harts")
         .about(
@@ -120,6 +152,17 @@ fn path<'a>(alloc: Global, name: &'a str, help: &'a str) -> Arg<'a> {
     Arg::new(alloc, name)
         .action(ArgAction::Set)
         .required(true)
+        .help(help)
+}
+
+/// A number that is to be given behind its name.
+fn number<'a>(alloc: Global, name: &'a str, help: &'a str) -> Arg<'a> {
+    Arg::new(alloc, name)
+        .long(name)
+        .value_name("N")
+        .action(ArgAction::Set)
+        .required(true)
+        .value_parser(value_parser!(u64))
         .help(help)
 }
 

@@ -38,6 +38,14 @@ pub enum Request<'a> {
     List {
         image: &'a str,
     },
+    Wrap {
+        file: &'a str,
+        code: &'a str,
+        image: &'a str,
+        frame: u64,
+        steps: u64,
+        profile: Profile,
+    },
     Harts {
         file: &'a str,
     },
@@ -110,6 +118,14 @@ fn asked<'a>(alloc: Global, words: &'a [&'a str]) -> Result<Request<'a>, Error> 
         Some(("list", list)) => Ok(Request::List {
             image: text_of(list, "IMAGE"),
         }),
+        Some(("wrap", wrap)) => Ok(Request::Wrap {
+            file: text_of(wrap, "FILE"),
+            code: text_of(wrap, "CODE"),
+            image: text_of(wrap, "IMAGE"),
+            frame: number_of(wrap, "frame"),
+            steps: number_of(wrap, "steps"),
+            profile: profile_of(wrap),
+        }),
         Some(("harts", harts)) => Ok(Request::Harts {
             file: text_of(harts, "FILE"),
         }),
@@ -120,6 +136,11 @@ fn asked<'a>(alloc: Global, words: &'a [&'a str]) -> Result<Request<'a>, Error> 
 /// The value of a required argument.
 fn text_of<'a>(matches: &ArgMatches<'a>, id: &str) -> &'a str {
     matches.get_str(id).unwrap_or("")
+}
+
+/// The value of a required option that is a number.
+fn number_of(matches: &ArgMatches<'_>, id: &str) -> u64 {
+    matches.get_one(id).unwrap_or(0)
 }
 
 /// The profile of this number, which is 1 where none is given.

@@ -1,3 +1,6 @@
+ghost use Rattle.std.specs.Prelude.{◌≡◌};
+ghost use Rattle.commands.specs.Unread.{IsOutOfMemory};
+
 use arguments::ArgumentFault;
 use harts::HartsFault;
 use harts_file::PlanFault;
@@ -7,6 +10,7 @@ use language::{Refusal, Rule};
 use source_eval::EvalFault;
 use std::alloc::{AllocError, AllocFailed};
 use std::fmt;
+use wrapping::CodeRule;
 
 /// What a file failed by, with its path; that of standard output is `-`.
 #[derive(Clone, Copy, Debug)]
@@ -36,6 +40,7 @@ pub enum Fault<'a> {
     Eval(EvalFault),
     Plan(PlanFault),
     Harts(HartsFault),
+    Code(CodeRule),
     File(FileFault<'a>),
 }
 
@@ -72,6 +77,7 @@ impl Fault<'_> {
         ensures hart_argument { (hart : _) (rule : _) (index : _)
             → self.now ≡ Fault.Harts (HartsFault.Argument hart rule index) → result ≡ 1 }
         ensures harts_memory { self.now ≡ Fault.Harts HartsFault.Memory → result ≡ 4 }
+        ensures code { (rule : _) → self.now ≡ Fault.Code rule → result ≡ 1 }
         ensures file { (fault : _) → self.now ≡ Fault.File fault → result ≡ 3 }
     {
         match self {
@@ -96,6 +102,7 @@ impl Fault<'_> {
             Fault::Harts(HartsFault::Schedule { .. }) => 1,
             Fault::Harts(HartsFault::Argument { .. }) => 1,
             Fault::Harts(HartsFault::Memory) => 4,
+            Fault::Code(_) => 1,
             Fault::File(_) => 3,
         }
     }
@@ -112,6 +119,7 @@ impl fmt::Display for Fault<'_> {
             Fault::Eval(fault) => write!(f, "refused: {fault}"),
             Fault::Plan(fault) => write!(f, "refused: {fault}"),
             Fault::Harts(fault) => write_harts_fault(f, fault),
+            Fault::Code(rule) => write!(f, "refused: {rule}"),
             Fault::File(fault) => write!(f, "file: {fault}"),
         }
     }
@@ -134,54 +142,72 @@ fn write_harts_fault<W: fmt::Write>(f: &mut fmt::Formatter<W>, fault: &HartsFaul
 }
 
 impl From<Refusal> for Fault<'_> {
+    ghost from_gives = { λ inner fault. fault ≡ Fault.Text inner };
+
     fn from(refusal: Refusal) -> Self {
         Fault::Text(refusal)
     }
 }
 
 impl From<ImageFault> for Fault<'_> {
+    ghost from_gives = { λ inner fault. fault ≡ Fault.Image inner };
+
     fn from(fault: ImageFault) -> Self {
         Fault::Image(fault)
     }
 }
 
 impl From<RunFault> for Fault<'_> {
+    ghost from_gives = { λ inner fault. fault ≡ Fault.Run inner };
+
     fn from(fault: RunFault) -> Self {
         Fault::Run(fault)
     }
 }
 
 impl From<EvalFault> for Fault<'_> {
+    ghost from_gives = { λ inner fault. fault ≡ Fault.Eval inner };
+
     fn from(fault: EvalFault) -> Self {
         Fault::Eval(fault)
     }
 }
 
 impl From<PlanFault> for Fault<'_> {
+    ghost from_gives = { λ inner fault. fault ≡ Fault.Plan inner };
+
     fn from(fault: PlanFault) -> Self {
         Fault::Plan(fault)
     }
 }
 
 impl From<HartsFault> for Fault<'_> {
+    ghost from_gives = { λ inner fault. fault ≡ Fault.Harts inner };
+
     fn from(fault: HartsFault) -> Self {
         Fault::Harts(fault)
     }
 }
 
 impl<'a> From<FileFault<'a>> for Fault<'a> {
+    ghost from_gives = { λ inner fault. fault ≡ Fault.File inner };
+
     fn from(fault: FileFault<'a>) -> Self {
         Fault::File(fault)
     }
 }
 
 impl From<AllocError> for Fault<'_> {
+    ghost from_gives = { λ _ fault. IsOutOfMemory fault };
+
     fn from(_: AllocError) -> Self {
         Fault::Text(Refusal::memory())
     }
 }
 
 impl<T: Drop> From<AllocFailed<T>> for Fault<'_> {
+    ghost from_gives = { λ _ fault. IsOutOfMemory fault };
+
     fn from(_: AllocFailed<T>) -> Self {
         Fault::Text(Refusal::memory())
     }

@@ -14,6 +14,7 @@ mod outcome;
 mod performing;
 mod side_by_side;
 mod texts;
+mod wrapping;
 
 pub use fault::{Fault, FileFault};
 pub use files::Files;

@@ -7,10 +7,12 @@ use crate::files::Files;
 use crate::images::{leak_image, list_image, pair_image, run_image};
 use crate::side_by_side::{run_side_by_side, whole_text};
 use crate::texts::{build_image, check_text};
+use crate::wrapping::wrap_code;
 use command_line::{NoRequest, Request, parse};
 use language::Refusal;
 use std::alloc::Global;
 use streams::{Sink, put_all};
+use wrapping::Asked;
 
 /// The path that stands for standard output.
 pub const STANDARD_OUTPUT: &str = "-";
@@ -131,6 +133,21 @@ fn perform<'a, F: Files, O: Sink>(
         Request::List { image } => {
             let lines = list_image(alloc, image, files)?;
             print(out, lines.as_slice())?;
+        }
+        Request::Wrap {
+            file,
+            code,
+            image,
+            frame,
+            steps,
+            profile,
+        } => {
+            let asked = Asked {
+                frame_bytes: frame,
+                max_steps: steps,
+                profile,
+            };
+            wrap_code(alloc, file, code, image, asked, files)?;
         }
         Request::Harts { file } => {
             *text = whole_text(alloc, file, files)?;

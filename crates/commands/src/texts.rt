@@ -1,5 +1,7 @@
 // What is done with a text: it is judged, compiled, or worked out on arguments.
 
+ghost use Rattle.commands.specs.Unread.{NotRead};
+
 use crate::fault::{Fault, FileFault};
 use crate::files::Files;
 use hepurita::{build_as, judge_as};
@@ -10,7 +12,9 @@ use streams::ReadFault;
 use syntax::TEXT_LIMIT;
 
 /// Why a file was not read.
-pub fn read_fault(path: &str, fault: ReadFault) -> Fault<'_> {
+pub fn read_fault(path: &str, fault: ReadFault) -> Fault<'_>
+    ensures { NotRead path.now result }
+{
     match fault {
         ReadFault::Source => Fault::File(FileFault::CannotRead(path)),
         ReadFault::Memory => Fault::Text(Refusal::memory()),

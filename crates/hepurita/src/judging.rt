@@ -1,4 +1,4 @@
-// What a text is judged to be, for an observer: what is refused first, and the program and parameters of an accepted
+// What a text is judged to be, for an observer: what is refused first, and the program, parameters and result of an accepted
 // text.
 
 ghost use Rattle.std.specs.Prelude.{◌≡◌, List, map, IfOk, IfErr};
@@ -9,7 +9,7 @@ ghost use Rattle.hepurita.specs.Built.{IsSmall, Judges, JudgesProgram, IsRefusal
 use inline::{Flat, inline};
 use intervals::check_ranges;
 use labels::check_as;
-use language::{Param, Profile, Program, Refusal};
+use language::{Param, Profile, Program, Refusal, WordType};
 use std::alloc::Global;
 use syntax::parse;
 
@@ -27,17 +27,18 @@ pub(crate) fn flat_of(
     inline(alloc, &checked)
 }
 
-/// An accepted text's program, and the parameters of its export.
+/// An accepted text's program, and the parameters of its export, and the type of the result where it has one.
 #[derive(Debug, Drop)]
 pub struct Accepted<'a> {
     pub program: Program<'a>,
     pub params: Vec<Param>,
+    pub returned: Option<WordType>,
 }
 
 /// The program of a text that is accepted for an observer of profile 1, or the first refusal: the one that
 /// `build` names.
 pub fn judge<'a>(alloc: Global, text: &'a str) -> Result<Accepted<'a>, Refusal>
-    ensures accepted { IfOk result (λ accepted. (before : List ProcedureTree) × (export : ProcedureTree) × Judges Profile.P1 text.now (accepts (program_tree accepted.program) before export) × (accepted.params.items ≡ map param_of export.parameters)) }
+    ensures accepted { IfOk result (λ accepted. (before : List ProcedureTree) × (export : ProcedureTree) × Judges Profile.P1 text.now (accepts (program_tree accepted.program) before export) × (accepted.params.items ≡ map param_of export.parameters) × (accepted.returned ≡ export.result)) }
     ensures refused { IfErr result (IsRefusal (Judges Profile.P1 text.now)) }
 {
     judge_as(alloc, text, Profile::P1)
@@ -45,12 +46,17 @@ pub fn judge<'a>(alloc: Global, text: &'a str) -> Result<Accepted<'a>, Refusal>
 
 /// The same for an observer of this profile: the refusal is the one that `build_as` names.
 pub fn judge_as<'a>(alloc: Global, text: &'a str, profile: Profile) -> Result<Accepted<'a>, Refusal>
-    ensures accepted { IfOk result (λ accepted. (before : List ProcedureTree) × (export : ProcedureTree) × Judges profile text.now (accepts (program_tree accepted.program) before export) × (accepted.params.items ≡ map param_of export.parameters)) }
+    ensures accepted { IfOk result (λ accepted. (before : List ProcedureTree) × (export : ProcedureTree) × Judges profile text.now (accepts (program_tree accepted.program) before export) × (accepted.params.items ≡ map param_of export.parameters) × (accepted.returned ≡ export.result)) }
     ensures refused { IfErr result (IsRefusal (Judges profile text.now)) }
 {
     let program = parse(alloc, text)?;
     let flat = flat_of(alloc, &program, profile)?;
     let _ranged = check_ranges(alloc, &flat)?;
     let params = flat.parameters().to_vec(alloc)?;
-    Ok(Accepted { program, params })
+    let returned = flat.returned();
+    Ok(Accepted {
+        program,
+        params,
+        returned,
+    })
 }

@@ -1,5 +1,5 @@
 // Images: a program for the machine as bytes.
-// Bytes and fields determine each other: `write` gives the one spelling of the fields of generated code, and
+// Bytes and fields determine each other: `write_fields` gives the one spelling of fields, `write` that of generated code, and
 // `read` gives the image of each spelling, and of other bytes the first fault from the left. Both are
 // stated by one format, the fields in their order.
 // It stands on the fields of `image_fields` and the code of `codegen`, and writes and reads numbers by `byteorder`.
@@ -20,4 +20,4 @@ pub use laws::{allowed_fields_are_spelled, no_spelling_begins_another, one_spell
 pub use limits::{LONGEST_IMAGE, limits_are_as_stated};
 pub use preamble::{MAGIC, VERSION, preamble_is_as_stated};
 pub use reading::read;
-pub use writing::write;
+pub use writing::{write, write_fields};

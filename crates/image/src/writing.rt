@@ -167,6 +167,16 @@ fn spelled(alloc: Global, fields: &ImageFields) -> Result<Vec<u8>, AllocError>
     Ok(out)
 }
 
+/// The one spelling of fields, whoever made them.
+pub fn write_fields(alloc: Global, fields: &ImageFields) -> Result<Vec<u8>, Refusal>
+    ensures spelled { IfOk result (λ bytes. Spells bytes.items fields.now) }
+    ensures bytes { IfOk result (λ bytes. AreBytes bytes.items) }
+    ensures short { IfOk result (λ bytes. length bytes.items ≤ longest_image) }
+    ensures memory { IfErr result (λ refusal. IsWantOfMemory refusal.rule refusal.place) }
+{
+    Ok(spelled(alloc, fields)?)
+}
+
 /// The one spelling of generated code.
 pub fn write(alloc: Global, code: &Code) -> Result<Vec<u8>, Refusal>
     ensures spelled { IfOk result (λ bytes. Spells bytes.items code.now) }
@@ -174,5 +184,5 @@ pub fn write(alloc: Global, code: &Code) -> Result<Vec<u8>, Refusal>
     ensures short { IfOk result (λ bytes. length bytes.items ≤ longest_image) }
     ensures memory { IfErr result (λ refusal. IsWantOfMemory refusal.rule refusal.place) }
 {
-    Ok(spelled(alloc, code.fields())?)
+    write_fields(alloc, code.fields())
 }
