@@ -1,5 +1,5 @@
 -- What is printed of a certificate.
-use Rattle.std.specs.Prelude.{◌≡◌, ℕ, ◌++◌, List, Option, Some, Ok, Err, codes}
+use Rattle.std.specs.Prelude.{◌≡◌, ◌≢◌, ℕ, ◌++◌, List, Option, Some, None, Ok, Err, codes, ⊤}
 use Rattle.std.specs.Fmt.{decimal}
 use Rattle.certificates.specs.Certified.{Certified}
 use Rattle.certificates.specs.Texts.{fault_of_given_texts}
@@ -19,12 +19,18 @@ use Rattle.image_fields.specs.Fields.{Fields}
 use Rattle.language.specs.declared.values.Arg.{Arg}
 use Rattle.listing.specs.Code.{IsLineAt}
 use Rattle.listing.specs.Lines.{stop_line}
+use Rattle.rv_machine.specs.Machine.{word_at}
 
 -- `same` and the stop; or the entry that may differ, and the line of the word that stands where its turn is made
 abbrev pub PrintsCertificate : Fields → CertifiedEnd → List ℕ → Type 0
 PrintsCertificate image (Same stop entries) text = text ≡ codes "same\n" ++ stop_line stop
 PrintsCertificate image (MayDiffer entry pc) text =
     (line : List ℕ) × IsLineAt (code_at code_base image) pc (Some line) × (text ≡ codes "may differ at " ++ decimal entry ++ codes "\n" ++ line)
+
+-- a word begins where the turn is made that may differ
+abbrev pub StandsInCode : Fields → CertifiedEnd → Type 0
+StandsInCode image (Same stop entries) = ⊤
+StandsInCode image (MayDiffer entry pc) = word_at (code_at code_base image) pc ≢ None
 
 -- the exit status: that of the stop; or 1
 abbrev pub certificate_status : CertifiedEnd → ℕ

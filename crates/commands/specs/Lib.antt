@@ -9,4 +9,5 @@ pub mod Runs
 pub mod Leaks
 pub mod Pairs
 pub mod Certificates
+pub mod FileTexts
 pub mod Meanings

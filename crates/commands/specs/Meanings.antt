@@ -2,6 +2,7 @@
 use Rattle.std.specs.Prelude.{◌≡◌, ℕ, List, map, Some, Ok}
 use Rattle.arguments.specs.Texts.{fault_of_texts}
 use Rattle.commands.specs.Contents.{Contents}
+use Rattle.commands.specs.FileTexts.{NoText}
 use Rattle.commands.specs.OutcomeText.{outcome_text}
 use Rattle.commands.specs.Unread.{IsOutOfMemory}
 use Rattle.commands.specs.Words.{AreSpelled, IsFaultOfWords}
@@ -42,3 +43,10 @@ pub record SaysMeaning (files : Contents) (path : List ℕ) (words : List (List 
   pub means : Means program args outcome
   pub within : answer program args evaluation_budget ≡ Ok outcome
   pub printed : text ≡ outcome_text (map param_of export.parameters) outcome
+
+-- why there is none: no text, a text that is refused, no arguments
+pub data RefusesMeaning (files : Contents) (path : List ℕ) (words : List (List ℕ)) : Fault → Type 0 where
+  no_text : {fault : Fault} → NoText files path fault → RefusesMeaning files path words fault
+  not_accepted : {bytes : List ℕ} {refusal : Refusal} → files path ≡ Some bytes → IsText bytes → IsRefusal (Judges P1 bytes) refusal → RefusesMeaning files path words (Text refusal)
+  no_arguments : {program : ProgramTree} {export : ProcedureTree} {fault : RunFault} → HoldsProgram files path program export → IsFaultOfWords (fault_of_texts (map param_of export.parameters) words) fault → RefusesMeaning files path words (Run fault)
+  out_of_memory : {fault : Fault} → IsOutOfMemory fault → RefusesMeaning files path words fault

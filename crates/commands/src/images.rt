@@ -1,7 +1,10 @@
 // What is done with an image: it is run, its run is listed, two of its runs are compared, its words are listed.
 
-ghost use Rattle.std.specs.Prelude.{◌≡◌, ◌≢◌, ◌≤◌, Some, List, ℕ, Result, length, map, IsTrue, IfOk, IfErr, OnOk};
+ghost use Rattle.std.specs.Prelude.{◌≡◌, ◌≤◌, None, List, ℕ, length, map, IsTrue, IfOk, IfErr, OnOk};
 ghost use Rattle.std.specs.String.{string_bytes};
+ghost use Rattle.std.specs.Option.{option_map};
+ghost use Rattle.arguments.specs.Texts.{fault_of_texts};
+ghost use Rattle.hepurita.specs.Paired.{shifted};
 ghost use Rattle.image_fields.specs.Limits.{most_parameters};
 ghost use Rattle.streams.specs.Streams.{Writes, WritesPart};
 ghost use Rattle.commands.specs.Images.{HoldsImage, NoImage};
@@ -9,14 +12,14 @@ ghost use Rattle.commands.specs.Leaks.{SaysLeak, RefusesLeak, IsFaultOfLeak, IsO
 ghost use Rattle.commands.specs.Pairs.{SaysPair, RefusesPair, SaysList, pairing_text};
 ghost use Rattle.commands.specs.Runs.{SaysRun, RefusesRun};
 ghost use Rattle.commands.specs.Stops.{status_of};
-ghost use Rattle.commands.specs.Words.{AreBothSpelled, IsFaultOfWords, fault_of_both};
+ghost use Rattle.commands.specs.Words.{AreSpelled, AreBothSpelled, IsFaultOfWords, fault_of_both};
 
 use crate::fault::{Fault, FileFault};
 use crate::files::Files;
 use crate::outcome;
 use crate::performing::{DONE, STANDARD_OUTPUT, STOPPED};
 use crate::texts::read_fault;
-use arguments::ArgumentRule;
+use arguments::ArgumentFault;
 use hepurita::{RunFault, execute, pair, params, read_args};
 use image::{Image, LONGEST_IMAGE, read};
 use language::{Args, Param};
@@ -149,11 +152,7 @@ fn pairing_line(alloc: Global, pairing: Pairing) -> Result<String, AllocError>
 
 /// The two lists of arguments that words spell, of which the first half is the first. The words are
 /// counted on from one list to the other.
-fn both_args(
-    alloc: Global,
-    params: &[Param],
-    arguments: &[&str],
-) -> Result<(Args, Args), RunFault>
+fn both_args(alloc: Global, params: &[Param], arguments: &[&str]) -> Result<(Args, Args), RunFault>
     requires { length params.now ≤ most_parameters }
     ensures found { IfOk result (λ both. AreBothSpelled params.now (map (λ word. word.now) arguments.now) both.0 both.1) }
     ensures refused { IfErr result (IsFaultOfWords (fault_of_both params.now (map (λ word. word.now) arguments.now))) }
@@ -161,28 +160,30 @@ fn both_args(
     match arguments.split_at_checked(params.len()) {
         Some((first, second)) if second.len() == params.len() => {
             let first = read_args(alloc, params, first)?;
-            match read_args(alloc, params, second) {
-                Ok(second) => Ok((first, second)),
-                Err(fault) => Err(counted_on(fault, params.len())),
-            }
+            let second = later_args(alloc, params, second)?;
+            Ok((first, second))
         }
-        _ => Err(RunFault::Argument {
-            rule: ArgumentRule::Count,
-            index: None,
-        }),
+        _ => Err(RunFault::from(ArgumentFault::count())),
     }
 }
 
-/// A fault of a later list, with its number counted on from those of the lists before.
-fn counted_on(fault: RunFault, before: usize) -> RunFault {
-    match fault {
-        RunFault::Argument {
+/// The arguments of the second of two lists, whose faults are numbered after the first's arguments.
+fn later_args(alloc: Global, params: &[Param], arguments: &[&str]) -> Result<Args, RunFault>
+    requires { length params.now ≤ most_parameters }
+    ensures found { IfOk result (AreSpelled params.now (map (λ word. word.now) arguments.now)) }
+    ensures only { OnOk result (fault_of_texts params.now (map (λ word. word.now) arguments.now) ≡ None) }
+    ensures refused { IfErr result (IsFaultOfWords (option_map (shifted (length params.now)) (fault_of_texts params.now (map (λ word. word.now) arguments.now)))) }
+{
+    match read_args(alloc, params, arguments) {
+        Err(
+            RunFault::Argument {
+                rule,
+                index: Some(index),
+            },
+        ) => Err(RunFault::Argument {
             rule,
-            index: Some(index),
-        } => RunFault::Argument {
-            rule,
-            index: Some(index.saturating_add(before)),
-        },
-        _ => fault,
+            index: Some(index + params.len()),
+        }),
+        read => read,
     }
 }

@@ -22,11 +22,7 @@ pub fn text_of(alloc: Global, params: &[Param], outcome: &Outcome) -> Result<Str
 }
 
 /// Puts the lines of the `mut` arrays of parameters at the end.
-fn push_arrays(
-    text: &mut String,
-    params: &[Param],
-    arrays: &[Numbers],
-) -> Result<(), AllocError>
+fn push_arrays(text: &mut String, params: &[Param], arrays: &[Numbers]) -> Result<(), AllocError>
     ensures { OnOk result (string_bytes text.new ≡ string_bytes text.old ++ array_lines 0 params.now arrays.now) }
 {
     let mut arrays = arrays;

@@ -1,5 +1,8 @@
 // What is done with a text: it is judged, compiled, or worked out on arguments.
 
+ghost use Rattle.std.specs.Prelude.{IsTrue, IfOk, IfErr};
+ghost use Rattle.std.specs.String.{string_bytes};
+ghost use Rattle.commands.specs.FileTexts.{HoldsText, NoText};
 ghost use Rattle.commands.specs.Unread.{NotRead};
 
 use crate::fault::{Fault, FileFault};
@@ -36,7 +39,10 @@ pub fn text_of_file<'a, F: Files>(
     alloc: Global,
     file: &'a str,
     files: &F,
-) -> Result<String, Fault<'a>> {
+) -> Result<String, Fault<'a>>
+    ensures said { IsTrue F.TELLS → IfOk result (λ text. HoldsText (F.contents files.now) file.now (string_bytes text)) }
+    ensures refused { IsTrue F.TELLS → IfErr result (NoText (F.contents files.now) file.now) }
+{
     let bytes = match files.read(alloc, file, TEXT_LIMIT + 1) {
         Ok(bytes) => bytes,
         Err(fault) => return Err(read_fault(file, fault)),

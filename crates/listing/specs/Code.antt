@@ -1,8 +1,9 @@
 -- The listing of code: a line for each word, with its address and its text.
-use Rattle.std.specs.Prelude.{◌≡◌, ◌≢◌, ℕ, ◌+◌, List, [], ◌∷◌, ◌++◌, codes}
+use Rattle.std.specs.Prelude.{◌≡◌, ◌≢◌, ℕ, ◌+◌, List, [], ◌∷◌, ◌++◌, codes, Option, Some, None}
 use Rattle.rv_code.specs.declared.instructions.Instr.{Instr}
 use Rattle.rv_code.specs.Text.{text_of}
 use Rattle.rv_code.specs.Words.{word_of, IsInstr}
+use Rattle.rv_machine.specs.Machine.{Code, word_at}
 use Rattle.listing.specs.Lines.{word_head}
 
 -- the text of a word: that of its instruction, or `illegal` where it is the word of none
@@ -18,3 +19,12 @@ word_line address word text = word_head address word ++ text ++ codes "\n"
 pub data ListsCode : ℕ → List ℕ → List ℕ → Type 0 where
   nothing : {address : ℕ} → ListsCode address [] []
   line : {address word : ℕ} {words text rest : List ℕ} → IsTextOf word text → ListsCode (address + 4) words rest → ListsCode address (word ∷ words) (word_line address word text ++ rest)
+
+-- the line of a word at an address, where there is one
+abbrev pub IsLineOf : ℕ → Option ℕ → Option (List ℕ) → Type 0
+IsLineOf address (Some word) line = (text : List ℕ) × IsTextOf word text × (line ≡ Some (word_line address word text))
+IsLineOf address None line = line ≡ None
+
+-- the line of the word of code that begins at an address, and none where none does
+abbrev pub IsLineAt : Code → ℕ → Option (List ℕ) → Type 0
+IsLineAt code address line = IsLineOf address (word_at code address) line

@@ -1,9 +1,12 @@
 // Code as text, a line for each word.
 
 ghost use Rattle.std.specs.Prelude.{◌≡◌, ℕ, ◌+◌, ◌*◌, ◌^◌, ◌<◌, ◌++◌, List, length, IfOk, OnOk};
+ghost use Rattle.std.specs.Option.{option_map};
 ghost use Rattle.std.specs.String.{string_bytes};
+ghost use Rattle.codegen.specs.Loaded.{code_at};
 ghost use Rattle.hepurita.specs.Bases.{code_base};
-ghost use Rattle.listing.specs.Code.{IsTextOf, ListsCode, word_line};
+ghost use Rattle.listing.specs.Code.{IsTextOf, IsLineAt, IsLineOf, ListsCode, word_line};
+ghost use Rattle.rv_machine.specs.Machine.{word_at};
 
 use crate::lines::head_of_word;
 use hepurita::CODE_BASE;
@@ -45,18 +48,26 @@ fn list_words(alloc: Global, base: u32, words: &[u32]) -> Result<Vec<u8>, AllocE
     Ok(lines)
 }
 
-/// The line of the word of an image at an address, as in its listing. `None` where no word begins there.
-pub fn line_at(alloc: Global, image: &Image, address: u32) -> Result<Option<Vec<u8>>, AllocError> {
-    let Some(offset) = address.checked_sub(CODE_BASE) else {
-        return Ok(None);
-    };
-    if offset % 4 != 0 {
-        return Ok(None);
+/// The word of an image that begins at an address.
+fn word_of(image: &Image, address: u32) -> Option<u32>
+    ensures { result ≡ word_at (code_at code_base image.now) address }
+{
+    let offset = address.checked_sub(CODE_BASE)?;
+    if offset % 4 == 0 {
+        image.words().get((offset / 4) as usize).copied()
+    } else {
+        None
     }
-    match image.words().get((offset / 4) as usize) {
+}
+
+/// The line of the word of an image that begins at an address, as in its listing. `None` where no word does.
+pub fn line_at(alloc: Global, image: &Image, address: u32) -> Result<Option<Vec<u8>>, AllocError>
+    ensures { IfOk result (λ line. IsLineAt (code_at code_base image.now) address (option_map (λ line. line.items) line)) }
+{
+    match word_of(image, address) {
         Some(word) => {
             let mut line = Vec::new(alloc);
-            push_line(alloc, &mut line, address, *word)?;
+            push_line(alloc, &mut line, address, word)?;
             Ok(Some(line))
         }
         None => Ok(None),
