@@ -27,9 +27,23 @@ roomier least most (field rule size allowed next) le h =
 
 slot_takes : (low most : ℕ) (next : Slot → Format) → ((slot : Slot) → TakesAtMost most (next slot)) → TakesAtMost (9 + most) (slot_format low next)
 unfolding slot_format
-slot_takes low most next h =
-    (omega arith, λ kind _. (omega arith, λ label _. (omega arith, λ form _. (omega arith, λ count _. (omega arith, λ offset _.
-    roomier most (9 + most - 1 - 1 - 1 - 2 - 4) _ (omega arith) (h _))))))
+slot_takes low most next h = (
+  omega arith,
+  λ kind _. (
+    omega arith,
+    λ label _. (
+      omega arith,
+      λ form _. (
+        omega arith,
+        λ count _. (
+          omega arith,
+          λ offset _.
+              roomier most (9 + most - 1 - 1 - 1 - 2 - 4) _ (omega arith) (h _),
+        ),
+      ),
+    ),
+  ),
+)
 
 slots_take : (n low most : ℕ) (next : List Slot → Format) → ((slots : List Slot) → TakesAtMost most (next slots)) → TakesAtMost (9 * n + most) (slots_format n low next)
 unfolding slots_format
@@ -63,14 +77,33 @@ few_parameters n is = grind (arith, nat_tests)
 -- all of an image
 image_takes : TakesAtMost longest_image image_format
 unfolding image_format
-image_takes =
-    (omega arith, λ magic _. (omega arith, λ version _. (omega arith, λ profile _. (omega arith, λ parameters few.
-    roomier (9 * parameters + (7 + 768272)) (longest_image - 4 - 2 - 2 - 2) _ (omega (arith, few_parameters parameters few))
-    (slots_take parameters 0 (7 + 768272) _ (λ slots.
-    result_takes (slots_end 0 slots) 768272 _ (λ returned.
-    (omega arith, λ frame _. (omega arith, λ steps _. (omega arith, λ count some.
-    roomier (4 * count + 0) (768272 - 4 - 8 - 4) _ (omega (arith, few_words count some))
-    (words_take count 0 _ (λ words. tt))))))))))))
+image_takes = (
+  omega arith,
+  λ magic _. (
+    omega arith,
+    λ version _. (
+      omega arith,
+      λ profile _. (
+        omega arith,
+        λ parameters few.
+            roomier (9 * parameters + (7 + 768272)) (longest_image - 4 - 2 - 2 - 2) _ (omega (arith, few_parameters parameters few))
+            (slots_take parameters 0 (7 + 768272) _ (λ slots.
+            result_takes (slots_end 0 slots) 768272 _ (λ returned. (
+              omega arith,
+              λ frame _. (
+                omega arith,
+                λ steps _. (
+                  omega arith,
+                  λ count some.
+                      roomier (4 * count + 0) (768272 - 4 - 8 - 4) _ (omega (arith, few_words count some))
+                      (words_take count 0 _ (λ words. tt)),
+                ),
+              ),
+            )))),
+      ),
+    ),
+  ),
+)
 
 -- ---- what is read
 

@@ -25,12 +25,12 @@ pub fn text_of(alloc: Global, params: &[Param], outcome: &Outcome) -> Result<Str
 fn push_arrays(text: &mut String, params: &[Param], arrays: &[Numbers]) -> Result<(), AllocError>
     ensures { OnOk result (string_bytes text.new ≡ string_bytes text.old ++ array_lines 0 params.now arrays.now) }
 {
-    let mut arrays = arrays;
+    let mut left = arrays;
     for (number, param) in params.iter().enumerate() {
         if param.form == Form::MutableArray {
-            if let Some((words, rest)) = arrays.split_first() {
+            if let Some((words, rest)) = left.split_first() {
                 push_array(text, number, words.as_slice())?;
-                arrays = rest;
+                left = rest;
             }
         }
     }
@@ -52,8 +52,8 @@ fn push_numbers(text: &mut String, numbers: &[u32]) -> Result<(), AllocError>
 {
     if let Some((number, later)) = numbers.split_first() {
         write!(text, "{number}")?;
-        for number in later {
-            write!(text, ",{number}")?;
+        for further in later {
+            write!(text, ",{further}")?;
         }
     }
     Ok(())
