@@ -11,3 +11,4 @@ pub mod Pairs
 pub mod Certificates
 pub mod FileTexts
 pub mod Meanings
+pub mod HartsText
