@@ -11,3 +11,8 @@ pub mod Pairs
 pub mod Certificates
 pub mod FileTexts
 pub mod Meanings
+pub mod Judged
+pub mod Written
+pub mod WrappedCode
+pub mod FaultText
+pub mod Requests
