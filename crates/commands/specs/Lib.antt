@@ -12,3 +12,8 @@ pub mod Certificates
 pub mod FileTexts
 pub mod Meanings
 pub mod HartsText
+pub mod Judged
+pub mod Written
+pub mod WrappedCode
+pub mod FaultText
+pub mod Requests

@@ -16,6 +16,7 @@ mod side_by_side;
 mod texts;
 mod wrapping;
 
+pub use command_line::Request;
 pub use fault::{Fault, FileFault};
 pub use files::Files;
-pub use performing::command;
+pub use performing::{command, perform};

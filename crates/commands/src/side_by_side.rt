@@ -11,7 +11,7 @@ use crate::fault::{Fault, FileFault};
 use crate::files::Files;
 use crate::images::image_of;
 use crate::outcome;
-use crate::performing::{DONE, STOPPED, print};
+use crate::performing::{DONE, STOPPED};
 use crate::texts::read_fault;
 use harts::{HartEnd, run_harts};
 use harts_file::{Job, read};
@@ -21,7 +21,6 @@ use language::{Args, Outcome};
 use listing::{lines_of, stop_line};
 use rv_machine::{HartObservation, ListHartRecorder, Stop};
 use std::alloc::{AllocError, Global};
-use streams::Sink;
 
 /// The text of a file, to its end.
 pub fn whole_text<'a, F: Files>(
@@ -39,16 +38,14 @@ pub fn whole_text<'a, F: Files>(
     }
 }
 
-/// Runs the harts of a file with this text, prints what an observer sees of each turn and how each hart ended, and answers
-/// the exit status. All lines are made before the first is printed.
-pub fn run_side_by_side<'a, F: Files, O: Sink>(
+/// Runs the harts of a file with this text: what an observer sees of each turn and how each hart ended, as lines, and the
+/// exit status.
+pub fn run_side_by_side<'a, F: Files>(
     alloc: Global,
     text: &'a str,
     files: &F,
-    out: &mut O,
-) -> Result<u8, Fault<'a>>
-    ensures known { IfOk result (λ status. status ≤ 5) }
-    ensures calm { OnOk result (O.failures out.new ≡ O.failures out.old) }
+) -> Result<(Vec<u8>, u8), Fault<'a>>
+    ensures known { IfOk result (λ said. said.1 ≤ 5) }
 {
     let plan = read(alloc, text)?;
     let jobs = load_jobs(alloc, plan.jobs.as_slice(), files)?;
@@ -59,9 +56,8 @@ pub fn run_side_by_side<'a, F: Files, O: Sink>(
         plan.schedule.as_slice(),
         &mut recorder,
     )?;
-    let listing = list_harts(alloc, jobs.as_slice(), recorder.list(), ends.as_slice())?;
-    print(out, listing.as_slice())?;
-    Ok(status_of(ends.as_slice()))
+    let lines = list_harts(alloc, jobs.as_slice(), recorder.list(), ends.as_slice())?;
+    Ok((lines, status_of(ends.as_slice())))
 }
 
 /// The images of harts and their arguments, hart by hart.

@@ -1,6 +1,6 @@
 // A text from a source.
 
-ghost use Rattle.std.specs.Prelude.{◌≡◌, ◌≢◌, ◌+◌, ◌≤◌, length, IsTrue, IfOk, IfErr, IsErrOf};
+ghost use Rattle.std.specs.Prelude.{◌≡◌, ◌≢◌, ℕ, ◌+◌, ◌≤◌, Err, List, length, take, IsTrue, IfOk, IfErr, IsErrOf};
 ghost use Rattle.std.specs.String.{string_bytes};
 ghost use Rattle.streams.specs.Streams.{LosesPart};
 ghost use Rattle.syntax.specs.Limits.{text_limit};
@@ -32,13 +32,14 @@ pub fn read_text<R: Source>(alloc: Global, source: &mut R) -> Result<String, Bui
     text_of(bytes)
 }
 
-/// The text that bytes are, if they are one that is not too long. Too many of them are not asked whether they
-/// are UTF-8.
+/// The text of which these are the first bytes, as many as one that is too long has, or all that there are. Too many of
+/// them are not asked whether they are UTF-8.
 pub fn text_of(bytes: Vec<u8>) -> Result<String, BuildFault<Refusal>>
-    ensures whole { IfOk result (λ text. string_bytes text ≡ bytes.items) }
+    ensures whole { (all : List ℕ) → bytes.items ≡ take (text_limit + 1) all → IfOk result (λ text. string_bytes text ≡ all) }
     ensures within { IfOk result (λ text. length (string_bytes text) ≤ text_limit) }
-    ensures fault { IfErr result (NoText bytes.items) }
+    ensures fault { (all : List ℕ) → bytes.items ≡ take (text_limit + 1) all → IfErr result (NoText all) }
     ensures unread { result ≢ Err BuildFault.Read }
+    ensures unwritten { result ≢ Err BuildFault.Write }
 {
     if bytes.len() > TEXT_LIMIT {
         let too_long = Refusal::at(Rule::TextTooLong, Place::ORIGIN);
