@@ -1,5 +1,5 @@
 -- Of a text, code and what is asked besides there is one answer.
-use Rattle.std.proofs.Common.{◌≡◌, ℕ, List, length, map, Option, None, Some, sym, ap, ap₂, subst, ◌∙◌}
+use Rattle.std.proofs.Common.{◌≡◌, ℕ, List, length, map, Option, None, Some, sym, ap, subst, ◌∙◌}
 use Rattle.std.proofs.lemmas.Option.{same_Some}
 use Rattle.hepurita.proofs.GrammaticalExports.{grammatical_export}
 use Rattle.hepurita.proofs.JudgementLemmas.{one_export}
@@ -7,6 +7,8 @@ use Rattle.hepurita.specs.Built.{Judges, accepts, fine, readable}
 use Rattle.image.proofs.Spellings.{one_by_fields}
 use Rattle.image.specs.Reading.{Spells}
 use Rattle.image_fields.specs.Fields.{Fields}
+use Rattle.image_fields.specs.declared.slot.ResultSlot.{ResultSlot}
+use Rattle.image_fields.specs.declared.slot.Slot.{Slot}
 use Rattle.inline.proofs.FlatSizes.{flat_is_sized}
 use Rattle.inline.specs.FlatSize.{IsSized}
 use Rattle.inline.specs.Numbering.{flattened}
@@ -34,16 +36,16 @@ limits_of profile text program before export judged =
     let sized = sized_of profile text program before export judged in
     record { lengths = sized.lengths; given = sized.parameters }
 
+same_fields : (p p' : Profile) (s s' : List Slot) (r r' : Option ResultSlot) (f f' m m' : ℕ) (w w' : List ℕ) → p ≡ p' → s ≡ s' → r ≡ r' → f ≡ f' → m ≡ m' → w ≡ w'
+    → ◌≡◌ {A = Fields} (record { profile = p; slots = s; returned = r; frame_bytes = f; max_steps = m; words = w }) (record { profile = p'; slots = s'; returned = r'; frame_bytes = f'; max_steps = m'; words = w' })
+same_fields p p' s s' r r' f f' m m' w w' profile slots result frame steps words = cc
+
 -- the fields that are asked for are one
 one_image : (params : List Param) (returned : Option WordType) (code : List ℕ) (asked : Asked) (one other : Fields) → IsAskedFor params returned code asked one → IsAskedFor params returned code asked other → one ≡ other
 one_image params returned code asked one other a b =
-    let profile = a.observed ∙ sym b.observed in
-    let slots = a.slots ∙ sym b.slots in
-    let result = a.result ∙ sym b.result in
-    let frame = a.frame ∙ sym b.frame in
-    let steps = a.steps ∙ sym b.steps in
     let words = same_words one.words other.words a.allowed.words b.allowed.words (a.words ∙ sym b.words) in
-    cc
+    same_fields one.profile other.profile one.slots other.slots one.returned other.returned one.frame_bytes other.frame_bytes one.max_steps other.max_steps one.words other.words
+    (a.observed ∙ sym b.observed) (a.slots ∙ sym b.slots) (a.result ∙ sym b.result) (a.frame ∙ sym b.frame) (a.steps ∙ sym b.steps) words
 
 abbrev broken_in : ProcedureTree → List ℕ → Asked → Option CodeRule
 broken_in export code asked = broken_rule (end_of (map param_of export.parameters) export.result) (length code) asked
