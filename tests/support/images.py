@@ -105,3 +105,9 @@ def first_fault(data):
     if fields.fault is None and fields.at < len(data):
         fields.blame("B6: trailing bytes")
     return fields.fault
+
+
+def labels(data):
+    """The labels of the parameters of an image."""
+    count = struct.unpack_from("<H", data, 8)[0]
+    return [data[11 + 9 * place] for place in range(count)]
