@@ -55,7 +55,7 @@ goes_on text front [] e fine p = all_fine text (subst Planned (sym (e ∙ append
 goes_on text front (line ∷ rest) e fine p =
     let case = elim (rule_of (given_by front) line) as (λ o. rule_of (given_by front) line ≡ o → Answer text) [
       | None ↦ λ is. goes_on text (front ++ line ∷ []) rest (e ∙ sym (append_assoc front (line ∷ []) rest)) (fine-more front line fine is) (planned-more front line p is)
-      | Some rule ↦ λ is. inr (rule, length front + 1, of_line e fine is)
+      | Some rule ↦ λ is. inr (rule, length front + 1, of_line front rest line rule e fine is)
     ] in
     case refl
 
@@ -78,13 +78,13 @@ one_plan text harts harts' schedule schedule' p q =
     let turns : p.turns ≡ q.turns = sym (turns_of-lines harts p.turns) ∙ ap turns_lines_of shapes ∙ turns_of-lines harts' q.turns in
     (same, p.listed ∙ ap₂ (λ (hs : List PlannedHart) ts. flat_map (turns_listed (length hs)) ts) same turns ∙ sym q.listed)
 
+none_breaks : (rule : HartsRule) → None ≡ Some rule → ⊥
+none_breaks rule e = cc
+
 pub not_both : (text : List ℕ) (harts : List PlannedHart) (schedule : List ℕ) (rule : HartsRule) (line : ℕ) → IsPlan text harts schedule → IsFault text rule line → ⊥
-not_both text harts schedule rule line p (of_line {front} {rest} {said} e fine broken) =
+not_both text harts schedule rule line p (of_line front rest said broken_rule e fine broken) =
     let none = fine_from harts p.turns (said_in text) p.lines (right_from text harts schedule p) front rest said e in
-    none_breaks (sym none ∙ broken)
-  where
-    none_breaks : {r : HartsRule} → None ≡ Some r → ⊥
-    none_breaks h = cc
+    none_breaks broken_rule (sym none ∙ broken)
 not_both text harts schedule rule line p (of_none e) =
     let empty : [] ≡ lines_for harts p.turns = ap (map said_of) (sym e) ∙ p.lines in
     nobody harts p.turns p.some empty
@@ -98,13 +98,10 @@ same_fault : (front front' rest rest' : List (Option Said)) (line line' : Option
     → rule_of (given_by front) line ≡ Some rule → rule_of (given_by front') line' ≡ Some rule' → (rule ≡ rule') × (length front + 1 ≡ length front' + 1)
 same_fault front front' rest rest' line line' rule rule' e fine fine' broken broken' =
     elim (split front front' (line' ∷ rest') rest line (sym e)) [
-      | inl h ↦ absurd (differ rule (sym (fine' front h.0 line h.1) ∙ broken))
+      | inl h ↦ absurd (none_breaks rule (sym (fine' front h.0 line h.1) ∙ broken))
       | inr h ↦ by h.0 h.1 h.2
     ]
   where
-    differ : (r : HartsRule) → None ≡ Some r → ⊥
-    differ r k = cc
-
     by : (f : List (Option Said)) → front ≡ front' ++ f → line' ∷ rest' ≡ f ++ line ∷ rest → (rule ≡ rule') × (length front + 1 ≡ length front' + 1)
     by [] a b =
         let fronts : front ≡ front' = a ∙ append-nil front' in
@@ -116,11 +113,11 @@ same_fault front front' rest rest' line line' rule rule' e fine fine' broken bro
         some_same k = cc
     by (x ∷ f) a b =
         let first : line' ≡ x = same_head line' x rest' (f ++ line ∷ rest) b in
-        absurd (differ rule' (sym (fine front' f line' (a ∙ ap (λ y. front' ++ y ∷ f) (sym first))) ∙ broken'))
+        absurd (none_breaks rule' (sym (fine front' f line' (a ∙ ap (λ y. front' ++ y ∷ f) (sym first))) ∙ broken'))
 
 pub one_fault : (text : List ℕ) (rule rule' : HartsRule) (line line' : ℕ) → IsFault text rule line → IsFault text rule' line' → (rule ≡ rule') × (line ≡ line')
-one_fault text rule rule' line line' (of_line {front} {rest} {said} e fine broken) (of_line {front'} {rest'} {said'} e' fine' broken') =
-    same_fault front front' rest rest' said said' rule rule' (sym e ∙ e') fine fine' broken broken'
-one_fault text rule rule' line line' (of_line {front} {rest} {said} e fine broken) (of_none none) = absurd (not_empty front rest said (ap (map said_of) (sym none) ∙ e))
-one_fault text rule rule' line line' (of_none none) (of_line {front} {rest} {said} e fine broken) = absurd (not_empty front rest said (ap (map said_of) (sym none) ∙ e))
+one_fault text rule rule' line line' (of_line front rest said broken_rule e fine broken) (of_line front' rest' said' broken_rule' e' fine' broken') =
+    same_fault front front' rest rest' said said' broken_rule broken_rule' (sym e ∙ e') fine fine' broken broken'
+one_fault text rule rule' line line' (of_line front rest said broken_rule e fine broken) (of_none none) = absurd (not_empty front rest said (ap (map said_of) (sym none) ∙ e))
+one_fault text rule rule' line line' (of_none none) (of_line front rest said broken_rule e fine broken) = absurd (not_empty front rest said (ap (map said_of) (sym none) ∙ e))
 one_fault text rule rule' line line' (of_none none) (of_none none') = (refl, refl)

@@ -74,6 +74,6 @@ AreFine lines = (front rest : List (Option Said)) (line : Option Said) → lines
 
 -- a text's first faulty line, counted from 1, and the first rule that it breaks. That there is no hart stands at line 1
 pub data IsFault (text : List ℕ) : HartsRule → ℕ → Type 0 where
-  of_line : {front rest : List (Option Said)} {line : Option Said} {rule : HartsRule} → said_in text ≡ front ++ line ∷ rest → AreFine front
+  of_line : (front rest : List (Option Said)) (line : Option Said) (rule : HartsRule) → said_in text ≡ front ++ line ∷ rest → AreFine front
       → rule_of (given_by front) line ≡ Some rule → IsFault text rule (length front + 1)
   of_none : lines_of text ≡ [] → IsFault text HartCount 1
