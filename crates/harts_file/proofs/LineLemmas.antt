@@ -78,20 +78,20 @@ none_left false text h = refl
 none_left true text h = let f = h refl in ap (λ w. length (lines_of w)) (nothing_left text f.0 f.1 f.2)
 
 -- a text that is cut at its line feeds; the three facts are the call's clauses `text`, `has_more` and `pattern`
-pub lines_yielded : {s : _} (text : List ℕ) → split_text (split_terminator_parts s) ≡ text → split_has_more (split_terminator_parts s) ≡ true → split_terminator_pattern s ≡ 10
+pub lines_yielded : {s : _} (text : List ℕ) → split_text {P = ℕ} (split_terminator_parts s) ≡ text → split_has_more {P = ℕ} (split_terminator_parts s) ≡ true → split_terminator_pattern {P = ℕ} s ≡ 10
     → YieldsList (split_terminator_steps FindsChar (λ a b. b ≡ a)) (λ x. x.now) s (lines_of text)
 lines_yielded {s} text is_text more pattern =
-    let shown = λ (t : _). left (split_has_more (split_terminator_parts t)) (split_text (split_terminator_parts t)) in
+    let shown = λ (t : _). left (split_has_more {P = ℕ} (split_terminator_parts t)) (split_text {P = ℕ} (split_terminator_parts t)) in
     subst (YieldsList (split_terminator_steps FindsChar (λ a b. b ≡ a)) (λ x. x.now) s) (λ i. left (more i) (is_text i))
-    (YieldsList-from_shown_while (split_terminator_steps FindsChar (λ a b. b ≡ a)) (λ x. x.now) shown (λ t. split_terminator_pattern t ≡ 10)
-    (λ t u h k. none_left (split_has_more (split_terminator_parts t)) (split_text (split_terminator_parts t))
-    (λ m. let f = k.0 m in (f.0, subst (λ d. FindsChar d (split_text (split_terminator_parts t)) f.0) h f.1, f.2)))
+    (YieldsList-from_shown_while (split_terminator_steps FindsChar (λ a b. b ≡ a)) (λ x. x.now) shown (λ t. split_terminator_pattern {P = ℕ} t ≡ 10)
+    (λ t u h k. none_left (split_has_more {P = ℕ} (split_terminator_parts t)) (split_text {P = ℕ} (split_terminator_parts t))
+    (λ m. let f = k.0 m in (f.0, subst (λ d. FindsChar d (split_text {P = ℕ} (split_terminator_parts t)) f.0) h f.1, f.2)))
     (λ t x u h k.
     let found = k.2.1 in
-    let c = cut (split_text (split_terminator_parts t)) x.now (split_text (split_terminator_parts u)) (split_has_more (split_terminator_parts u)) found.0
-    (subst (λ d. FindsChar d (split_text (split_terminator_parts t)) found.0) h found.1) found.2 in (
+    let c = cut (split_text {P = ℕ} (split_terminator_parts t)) x.now (split_text {P = ℕ} (split_terminator_parts u)) (split_has_more {P = ℕ} (split_terminator_parts u)) found.0
+    (subst (λ d. FindsChar d (split_text {P = ℕ} (split_terminator_parts t)) found.0) h found.1) found.2 in (
       k.1 ∙ h,
-      ap (λ b. left b (split_text (split_terminator_parts t))) k.0
-          ∙ next_line (split_text (split_terminator_parts t)) x.now (split_text (split_terminator_parts u)) (split_has_more (split_terminator_parts u)) c k.3,
+      ap (λ b. left b (split_text {P = ℕ} (split_terminator_parts t))) k.0
+          ∙ next_line (split_text {P = ℕ} (split_terminator_parts t)) x.now (split_text {P = ℕ} (split_terminator_parts u)) (split_has_more {P = ℕ} (split_terminator_parts u)) c k.3,
     ))
     s pattern)

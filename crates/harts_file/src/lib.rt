@@ -9,6 +9,7 @@ mod lines;
 mod numerals;
 mod plan;
 mod reader;
+mod taking;
 
 pub use fault::PlanFault;
 pub use jobs::Job;
