@@ -1,3 +1,7 @@
+ghost use Rattle.std.specs.Prelude.{◌≡◌, codes, map, IfOk, IfSome};
+ghost use Rattle.clap.specs.Matches.{first_value, found_of};
+ghost use Rattle.command_line.specs.Words.{after_path, arguments_of, profile_named};
+
 use crate::syntax::factc;
 use clap::error::ErrorKind;
 use clap::{ArgMatches, Error};
@@ -62,8 +66,10 @@ pub enum NoRequest {
     Memory,
 }
 
-/// Reads the words, of which the first is the program's own name.
-pub fn parse<'a>(alloc: Global, words: &'a [&'a str]) -> Result<Request<'a>, NoRequest> {
+/// Reads the words, of which the first is the program's own name. The arguments of a request are the words behind its path.
+pub fn parse<'a>(alloc: Global, words: &'a [&'a str]) -> Result<Request<'a>, NoRequest>
+    ensures { IfOk result (λ request. IfSome (arguments_of request) (λ arguments. arguments ≡ after_path (map (λ word. word.now) words.now))) }
+{
     match asked(alloc, words) {
         Ok(request) => Ok(request),
         Err(error) => Err(said(alloc, &error)),
@@ -82,7 +88,9 @@ fn said(alloc: Global, error: &Error) -> NoRequest {
     }
 }
 
-fn asked<'a>(alloc: Global, words: &'a [&'a str]) -> Result<Request<'a>, Error> {
+fn asked<'a>(alloc: Global, words: &'a [&'a str]) -> Result<Request<'a>, Error>
+    ensures { IfOk result (λ request. IfSome (arguments_of request) (λ arguments. arguments ≡ after_path (map (λ word. word.now) words.now))) }
+{
     let mut command = factc(alloc)?;
     let matches = command.try_get_matches_from_mut(words)?;
     match matches.subcommand() {
@@ -144,7 +152,9 @@ fn number_of(matches: &ArgMatches<'_>, id: &str) -> u64 {
 }
 
 /// The profile of this number, which is 1 where none is given.
-fn profile_of(matches: &ArgMatches<'_>) -> Profile {
+fn profile_of(matches: &ArgMatches<'_>) -> Profile
+    ensures { result ≡ profile_named (first_value (found_of matches.now) (codes "profile")) }
+{
     match matches.get_str("profile") {
         Some("2") => Profile::P2,
         _ => Profile::P1,
@@ -153,7 +163,9 @@ fn profile_of(matches: &ArgMatches<'_>) -> Profile {
 
 /// The words after a command and its FILE or IMAGE. Each of them is an argument, also `--`, which
 /// before the path says that the path may begin with a hyphen.
-fn after_path<'a>(words: &'a [&'a str]) -> &'a [&'a str] {
+fn after_path<'a>(words: &'a [&'a str]) -> &'a [&'a str]
+    ensures { map (λ word. word.now) result.now ≡ after_path (map (λ word. word.now) words.now) }
+{
     match words {
         [_, _, dashes, _, arguments @ ..] if *dashes == "--" => arguments,
         [_, _, _, arguments @ ..] => arguments,

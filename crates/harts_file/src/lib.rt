@@ -1,12 +1,17 @@
-// Files of harts: which images run side by side, on which arguments, and whose turn it is when. A text gives a plan, or its
-// first faulty line and the rule that the line breaks. It promises that a plan is one that can be run: one to eight harts, turns
-// of these alone, and no more of them than there may be.
+// Files of harts: which images run side by side, on which arguments, and whose turn it is when. A text gives one plan, or has a
+// first faulty line and the first rule that the line breaks, and `read` answers that.
 #![tactic(auto)]
 
 mod fault;
+mod jobs;
+mod laws;
 mod lines;
 mod numerals;
 mod plan;
+mod reader;
+mod taking;
 
 pub use fault::PlanFault;
-pub use plan::{Job, Plan, read};
+pub use jobs::Job;
+pub use laws::each_text_gives_one_answer;
+pub use plan::{Plan, read};

@@ -1,7 +1,12 @@
-// The forms of a line.
+// What a line says.
 
+ghost use Rattle.std.specs.Prelude.{◌≡◌, IfOk, map};
+ghost use Rattle.std.specs.Option.{option_map};
+ghost use Rattle.harts_file.specs.Lines.{is_joined, hart_by, turns_by, rounds_by, said_with, said_of};
+ghost use Rattle.harts_file.specs.private.Reading.{said_by_line, held};
+
+use crate::jobs::Job;
 use crate::numerals::decimal;
-use crate::plan::Job;
 use std::alloc::{AllocError, Global};
 
 /// What a line of a good form says.
@@ -19,32 +24,78 @@ pub enum Line<'a> {
 const BLANK: char = ' ';
 
 /// Whether a line is fields joined by one blank each. A carriage return is no field's.
-fn is_joined(line: &str) -> bool {
-    !line.contains('\r') && line.split(BLANK).all(|field| !field.is_empty())
+fn is_joined(line: &str) -> bool
+    ensures { result ≡ is_joined line.now }
+{
+    !line.as_bytes().contains(&b'\r') && line.split(BLANK).all(|field| !field.is_empty())
 }
 
-/// The hart that fields name: the path of an image, and texts of arguments.
-fn job<'a>(alloc: Global, path: &'a str, arguments: &[&'a str]) -> Result<Line<'a>, AllocError> {
-    let arguments = Vec::from_slice(alloc, arguments)?;
-    Ok(Line::Hart(Job { path, arguments }))
+/// What the fields behind `hart` say: the path of an image, and arguments.
+fn hart_by<'a>(alloc: Global, fields: &[&'a str]) -> Result<Option<Line<'a>>, AllocError>
+    ensures { IfOk result (λ line. option_map said_by_line line ≡ option_map held (hart_by (map (λ field. field.now) fields.now))) }
+{
+    match fields {
+        [path, arguments @ ..] => {
+            let arguments = Vec::from_slice(alloc, arguments)?;
+            Ok(Some(Line::Hart(Job { path, arguments })))
+        }
+        [] => Ok(None),
+    }
+}
+
+/// What the fields behind `turns` say: the number of a hart, and how many turns.
+fn turns_by<'a>(fields: &[&'a str]) -> Option<Line<'a>>
+    ensures { option_map said_by_line result ≡ option_map held (turns_by (map (λ field. field.now) fields.now)) }
+{
+    match fields {
+        [hart, count] => {
+            let hart = decimal(hart)?;
+            let count = decimal(count)?;
+            Some(Line::Turns { hart, count })
+        }
+        _ => None,
+    }
+}
+
+/// What the fields behind `round` say: how many rounds.
+fn rounds_by<'a>(fields: &[&'a str]) -> Option<Line<'a>>
+    ensures { option_map said_by_line result ≡ option_map held (rounds_by (map (λ field. field.now) fields.now)) }
+{
+    match fields {
+        [count] => {
+            let count = decimal(count)?;
+            Some(Line::Round { count })
+        }
+        _ => None,
+    }
+}
+
+/// What a word and the fields behind it say.
+fn said_with<'a>(
+    alloc: Global,
+    word: &str,
+    fields: &[&'a str],
+) -> Result<Option<Line<'a>>, AllocError>
+    ensures { IfOk result (λ line. option_map said_by_line line ≡ option_map held (said_with word.now (map (λ field. field.now) fields.now))) }
+{
+    match word {
+        "hart" => hart_by(alloc, fields),
+        "turns" => Ok(turns_by(fields)),
+        "round" => Ok(rounds_by(fields)),
+        _ => Ok(None),
+    }
 }
 
 /// What a line says, which stands without its end. `None` where it has no form.
-pub fn line_of<'a>(alloc: Global, line: &'a str) -> Result<Option<Line<'a>>, AllocError> {
+pub fn line_of<'a>(alloc: Global, line: &'a str) -> Result<Option<Line<'a>>, AllocError>
+    ensures { IfOk result (λ said. option_map said_by_line said ≡ option_map held (said_of line.now)) }
+{
     if !is_joined(line) {
         return Ok(None);
     }
     let fields: Vec<&'a str> = line.split(BLANK).collect(alloc)?;
     match fields.as_slice() {
-        ["hart", path, arguments @ ..] => Ok(Some(job(alloc, path, arguments)?)),
-        ["turns", hart, count] => match (decimal(hart), decimal(count)) {
-            (Some(hart), Some(count)) => Ok(Some(Line::Turns { hart, count })),
-            _ => Ok(None),
-        },
-        ["round", count] => match decimal(count) {
-            Some(count) => Ok(Some(Line::Round { count })),
-            None => Ok(None),
-        },
-        _ => Ok(None),
+        [word, fields @ ..] => said_with(alloc, word, fields),
+        [] => Ok(None),
     }
 }

@@ -1,7 +1,14 @@
 // Decimal numbers of any length.
 
+ghost use Rattle.std.specs.Prelude.{◌≡◌};
+ghost use Rattle.std.specs.Option.{option_map};
+ghost use Rattle.arguments.specs.Texts.{number_in};
+ghost use Rattle.harts_file.specs.private.Reading.{held_number};
+
 /// The number that decimal digits spell. One past the greatest `u64` is given as that.
-pub fn decimal(text: &str) -> Option<u64> {
+pub fn decimal(text: &str) -> Option<u64>
+    ensures { result ≡ option_map held_number (number_in 10 text.now) }
+{
     if text.is_empty() {
         return None;
     }

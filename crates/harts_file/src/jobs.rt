@@ -1,0 +1,8 @@
+// Harts as a file names them.
+
+/// What a hart runs: the image of a file, on the arguments that texts spell.
+#[derive(Debug, Drop)]
+pub struct Job<'a> {
+    pub path: &'a str,
+    pub arguments: Vec<&'a str>,
+}
