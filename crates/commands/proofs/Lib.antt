@@ -1,3 +1,5 @@
 pub mod Beginnings
 pub mod WordLemmas
 pub mod CertificateLemmas
+mod CodeLemmas
+mod LeakFaults
