@@ -27,7 +27,7 @@ pub(crate) fn flat_of(
     inline(alloc, &checked)
 }
 
-/// An accepted text's program, and the parameters of its export, and the type of the result where it has one.
+/// An accepted text's program, and of its export the parameters, and the type of the result where there is one.
 #[derive(Debug, Drop)]
 pub struct Accepted<'a> {
     pub program: Program<'a>,
@@ -53,10 +53,9 @@ pub fn judge_as<'a>(alloc: Global, text: &'a str, profile: Profile) -> Result<Ac
     let flat = flat_of(alloc, &program, profile)?;
     let _ranged = check_ranges(alloc, &flat)?;
     let params = flat.parameters().to_vec(alloc)?;
-    let returned = flat.returned();
     Ok(Accepted {
         program,
         params,
-        returned,
+        returned: flat.returned(),
     })
 }

@@ -22,9 +22,9 @@ pub data ListsCode : ℕ → List ℕ → List ℕ → Type 0 where
 
 -- the line of a word at an address, where there is one
 abbrev pub IsLineOf : ℕ → Option ℕ → Option (List ℕ) → Type 0
-IsLineOf address (Some word) line = (text : List ℕ) × IsTextOf word text × (line ≡ Some (word_line address word text))
-IsLineOf address None line = line ≡ None
+IsLineOf address (Some word) told = (text : List ℕ) × IsTextOf word text × (told ≡ Some (word_line address word text))
+IsLineOf address None told = told ≡ None
 
 -- the line of the word of code that begins at an address, and none where none does
 abbrev pub IsLineAt : Code → ℕ → Option (List ℕ) → Type 0
-IsLineAt code address line = IsLineOf address (word_at code address) line
+IsLineAt code address told = IsLineOf address (word_at code address) told

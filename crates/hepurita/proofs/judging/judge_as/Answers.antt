@@ -34,4 +34,5 @@ returns-clause-accepted c =
     let one = same_violations c.args.profile (program_tree c.in_ok-program.program) made.0 made.1 plain made.2 in
     let in_time = ap (λ vs. length vs) one ∙ subst (λ (f : FlatProgram). length (work_violations f) ≡ 0) made.3 c.in_ok-_ranged.ensures.worked in
     let params = c.in_ok-params.ensures.items_if_clones_equal (λ x y h. h) ∙ c.parameters.ensures ∙ ap (λ (flat : FlatProgram). flat.parameters) made.3 in
-    (made.0, made.1, readable c.in_ok-program.ensures.accepted (fine made.2 in_range in_time), params)
+    let returned = c.returned.ensures ∙ ap (λ (flat : FlatProgram). flat.returned) made.3 in
+    (made.0, made.1, readable c.in_ok-program.ensures.accepted (fine made.2 in_range in_time), params, returned)
