@@ -1,5 +1,5 @@
 -- The fields that are asked for are allowed, where no rule is broken.
-use Rattle.std.proofs.Common.{◌≡◌, ℕ, ◌+◌, ◌*◌, ◌/◌, ◌%◌, ◌<◌, ◌≤◌, ◌^◌, Bool, true, false, ◌&&◌, ◌==◌, nat_le, if◌then◌else◌, List, length, map, Option, None, Some, IfSome, refl, sym, ap, ◌∙◌, arith}
+use Rattle.std.proofs.Common.{◌≡◌, ℕ, ◌*◌, ◌/◌, ◌%◌, ◌<◌, ◌≤◌, ◌^◌, Bool, true, false, ◌&&◌, ◌==◌, nat_le, if◌then◌else◌, List, length, map, Option, None, Some, IfSome, refl, sym, ap, ◌∙◌, arith}
 use Rattle.std.specs.List.{AllByRecursion}
 use Rattle.std.proofs.lemmas.Bool.{and_parts, eqb-true, leb-true}
 use Rattle.codegen.proofs.ImageLemmas.{length-slots_from, count_in_words, slots_are, slots_end-slots_from, slots_inside}
@@ -95,7 +95,7 @@ module _ (params : List Param) (returned : Option WordType) (code : List ℕ) (a
   facts = unbroken (end_of params returned) (length code) asked none
 
   end : slots_end 0 (slots_from 0 params) ≡ 4 * declared_words (map declaration_of params)
-  end = slots_end-slots_from 0 params
+  end = omega (arith, slots_end-slots_from 0 params)
 
   -- the fields with these words
   abbrev made : List ℕ → Fields

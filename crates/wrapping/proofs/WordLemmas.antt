@@ -1,8 +1,9 @@
 -- Words in code: four bytes each, one after another.
-use Rattle.std.proofs.Common.{◌≡◌, ℕ, ◌+◌, ◌*◌, ◌%◌, ◌^◌, ◌<◌, ◌≤◌, List, [], ◌∷◌, ◌++◌, length, get_or, drop, refl, sym, ap, ap₂, subst, ◌∙◌, append_assoc, length-append, arith, inl, inr}
+use Rattle.std.proofs.Common.{◌≡◌, ℕ, ◌+◌, ◌*◌, ◌%◌, ◌^◌, ◌<◌, List, [], ◌∷◌, ◌++◌, All, length, get_or, drop, refl, sym, ap, ap₂, subst, ◌∙◌, append_assoc, length-append, arith, inl, inr}
 use Rattle.std.specs.List.{AllByRecursion, flat_map}
 use Rattle.std.proofs.lemmas.Bool.{cases_lt}
 use Rattle.std.proofs.lemmas.List.{append-nil, drop_at, flat_map_more, get_or_append_left, get_or-append-add, get_or_past}
+use Rattle.std.proofs.lemmas.List.Elements.{All-append, All-from_recursion}
 use Rattle.std.proofs.lemmas.List.Concat.{flat_map-cons}
 use Rattle.std.proofs.lemmas.Nat.{le_bytes_4}
 use Rattle.byteorder.specs.Endian.{little_bytes, little_number}
@@ -35,15 +36,19 @@ between front x back h i =
     ]
 
 -- four bytes more are a word more
-pub one_more : (code words x rest : List ℕ) → IsBytes code → code ≡ bytes_of words ++ (x ++ rest) → length x ≡ 4
-    → code ≡ bytes_of (words ++ little_number 4 x ∷ []) ++ rest
-one_more code words x rest fits is long =
+pub one_more : (code words x rest : List ℕ) (word : ℕ) → IsBytes code → code ≡ bytes_of words ++ (x ++ rest) → length x ≡ 4 → word ≡ little_number 4 x
+    → code ≡ bytes_of (words ++ word ∷ []) ++ rest
+one_more code words x rest word fits is long reads =
     let here = between (bytes_of words) x rest (subst IsBytes is fits) in
-    let same : little_bytes 4 (little_number 4 x) ≡ x = le_bytes_4 x (little_number 4 x) long here (omega arith) in
+    let same : little_bytes 4 word ≡ x = ap (little_bytes 4) reads ∙ le_bytes_4 x (little_number 4 x) long here (omega arith) in
     is
     ∙ (ap (λ (t : List ℕ). bytes_of words ++ (t ++ rest)) (sym same)
-    ∙ (sym (append_assoc (bytes_of words) (little_bytes 4 (little_number 4 x)) rest)
-    ∙ ap (λ (t : List ℕ). t ++ rest) (flat_map_more (λ n. little_bytes 4 n) [] words (little_number 4 x))))
+    ∙ (sym (append_assoc (bytes_of words) (little_bytes 4 word) rest)
+    ∙ ap (λ (t : List ℕ). t ++ rest) (flat_map_more (λ n. little_bytes 4 n) [] words word)))
+
+-- words stay words of 32 bits with one more behind them
+pub small_push : (words : List ℕ) (word : ℕ) → All (λ n. n < 2 ^ 32) words → word < 2 ^ 32 → All (λ n. n < 2 ^ 32) (words ++ word ∷ [])
+small_push words word all fits = All-append (λ n. n < 2 ^ 32) words (word ∷ []) all (All-from_recursion (λ n. n < 2 ^ 32) (word ∷ []) (fits, tt))
 
 none_left : (xs : List ℕ) → length xs ≡ 0 → xs ≡ []
 none_left [] h = refl

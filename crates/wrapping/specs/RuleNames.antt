@@ -1,6 +1,7 @@
 -- What each rule on code is called where it is printed.
 use Rattle.std.specs.Prelude.{ℕ, List, ◌++◌, codes}
 use Rattle.language.specs.Rules.{refusal_text}
+use Rattle.language.specs.declared.refusal.Refusal.{Refusal}
 use Rattle.wrapping.specs.declared.fault.CodeRule.{CodeRule}
 use Rattle.wrapping.specs.declared.fault.CodeRule.TheVariants.{Length, Frame, Steps}
 use Rattle.wrapping.specs.declared.fault.WrapFault.{WrapFault}
@@ -22,6 +23,6 @@ name_of Steps = codes "steps"
 abbrev pub rule_text : CodeRule → List ℕ
 rule_text rule = code_of rule ++ codes ": " ++ name_of rule
 
-abbrev pub fault_text : WrapFault → List ℕ
+abbrev pub fault_text : WrapFault Refusal → List ℕ
 fault_text (Text refusal) = refusal_text refusal.rule refusal.place
 fault_text (Code rule) = rule_text rule

@@ -11,6 +11,7 @@ use Rattle.image_fields.specs.declared.slot.ResultSlot.{ResultSlot}
 use Rattle.language.specs.Signature.{param_of}
 use Rattle.language.specs.Tree.{ProcedureTree, ProgramTree}
 use Rattle.language.specs.WantOfMemory.{IsWantOfMemory}
+use Rattle.language.specs.declared.refusal.Refusal.{Refusal}
 use Rattle.language.specs.declared.signature.Param.{Param}
 use Rattle.language.specs.declared.typing.WordType.{WordType}
 use Rattle.wrapping.specs.declared.asked.Asked.{Asked}
@@ -73,11 +74,11 @@ pub record Breaks (text code : List ℕ) (asked : Asked) (rule : CodeRule) : Typ
   pub first : broken_rule (end_of (map param_of export.parameters) export.result) (length code) asked ≡ Some rule
 
 -- the text's refusal, or the rule that is broken
-abbrev pub IsFaultOf : List ℕ → List ℕ → Asked → WrapFault → Type 0
+abbrev pub IsFaultOf : List ℕ → List ℕ → Asked → WrapFault Refusal → Type 0
 IsFaultOf text code asked (Text refusal) = IsRefusal (Judges asked.profile text) refusal
 IsFaultOf text code asked (Code rule) = Breaks text code asked rule
 
 -- want of memory, or a broken rule of which this holds
-abbrev pub IsUnlessMemory : WrapFault → (CodeRule → Type 0) → Type 0
+abbrev pub IsUnlessMemory : WrapFault Refusal → (CodeRule → Type 0) → Type 0
 IsUnlessMemory (Text refusal) P = IsWantOfMemory refusal.rule refusal.place
 IsUnlessMemory (Code rule) P = P rule

@@ -1,6 +1,6 @@
 // Why nothing was wrapped, and how that is printed.
 
-ghost use Rattle.std.specs.Prelude.{◌≡◌, ⊥};
+ghost use Rattle.std.specs.Prelude.{◌≡◌};
 ghost use Rattle.wrapping.specs.RuleNames.{code_of, name_of};
 ghost use Rattle.wrapping.specs.Wrapped.{IsUnlessMemory};
 ghost use Rattle.wrapping.specs.declared.fault.WrapFault.TheVariants.{Text};
@@ -61,14 +61,14 @@ impl fmt::Display for CodeRule {
 
 /// Why nothing was wrapped.
 #[derive(Clone, Copy, Debug)]
-pub enum WrapFault {
+pub enum WrapFault<R = Refusal> {
     /// The text is refused, or a growth was.
-    Text(Refusal),
+    Text(R),
     /// The text is accepted, and code, frame or steps break a rule.
     Code(CodeRule),
 }
 
-impl From<Refusal> for WrapFault {
+impl From<Refusal> for WrapFault<Refusal> {
     ghost from_gives = { λ refusal fault. fault ≡ Text refusal };
 
     fn from(refusal: Refusal) -> Self {
@@ -76,7 +76,7 @@ impl From<Refusal> for WrapFault {
     }
 }
 
-impl From<AllocError> for WrapFault {
+impl From<AllocError> for WrapFault<Refusal> {
     ghost from_gives = { λ _ fault. IsUnlessMemory fault (λ _. ⊥) };
 
     fn from(_: AllocError) -> Self {
@@ -85,7 +85,7 @@ impl From<AllocError> for WrapFault {
 }
 
 /// `L2 at 3:12: public assigned under secret control`, `C1: code length`, or `M1: memory`.
-impl fmt::Display for WrapFault {
+impl fmt::Display for WrapFault<Refusal> {
     ghost use Rattle.std.specs.Prelude.{Some};
     ghost use Rattle.wrapping.specs.RuleNames.{fault_text};
 
@@ -99,4 +99,4 @@ impl fmt::Display for WrapFault {
     }
 }
 
-impl Error for WrapFault {}
+impl Error for WrapFault<Refusal> {}

@@ -1,6 +1,6 @@
 // What two answers of `wrap` are to each other.
 
-ghost use Rattle.std.specs.Prelude.{◌≡◌, ℕ, List, ⊥};
+ghost use Rattle.std.specs.Prelude.{◌≡◌, ℕ, List};
 ghost use Rattle.wrapping.specs.Wrapped.{Breaks, IsWrapped};
 ghost use Rattle.wrapping.specs.declared.asked.Asked.{Asked};
 ghost use Rattle.wrapping.specs.declared.fault.CodeRule.{CodeRule};

@@ -17,7 +17,7 @@ use expression_code::slots;
 use hepurita::judge_as;
 use image::write_fields;
 use image_fields::ImageFields;
-use language::{Param, WordType};
+use language::{Param, Refusal, WordType};
 use std::alloc::Global;
 
 /// The fields of the image that is asked for, of an export with these parameters and this result; or the first rule that is
@@ -28,7 +28,7 @@ fn fields_for(
     returned: Option<WordType>,
     code: &[u8],
     asked: Asked,
-) -> Result<ImageFields, WrapFault>
+) -> Result<ImageFields, WrapFault<Refusal>>
     requires lengths { AllByRecursion (λ (parameter : Param). HasLength parameter.form parameter.length) params.now }
     requires given { 4 * declared_words (map declaration_of params.now) ≤ most_declared_bytes }
     ensures fields { IfOk result (IsAskedFor params.now returned code.now asked) }
@@ -59,7 +59,12 @@ fn fields_for(
 /// A text that is not accepted for the observer asked for is refused as by `judge_as`, before the code is looked at. Else
 /// the first rule is named that code (C1), frame (C2) or steps (C3) break: those of a frame that cuts a slot, and of fields
 /// that an image may not have. The code itself is not judged: any word may stand in it.
-pub fn wrap(alloc: Global, text: &str, code: &[u8], asked: Asked) -> Result<Vec<u8>, WrapFault>
+pub fn wrap(
+    alloc: Global,
+    text: &str,
+    code: &[u8],
+    asked: Asked,
+) -> Result<Vec<u8>, WrapFault<Refusal>>
     ensures wrapped { IfOk result (λ bytes. IsWrapped text.now code.now asked bytes.items) }
     ensures fault { IfErr result (IsFaultOf text.now code.now asked) }
 {
