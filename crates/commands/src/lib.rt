@@ -9,12 +9,12 @@ mod certifying;
 mod evaluating;
 mod fault;
 mod files;
+mod foreign_code;
 mod images;
 mod outcome;
 mod performing;
 mod side_by_side;
 mod texts;
-mod wrapping;
 
 pub use command_line::Request;
 pub use fault::{Fault, FileFault};

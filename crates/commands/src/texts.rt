@@ -1,6 +1,6 @@
 // What is done with a text: it is judged, compiled, or worked out on arguments.
 
-ghost use Rattle.std.specs.Prelude.{◌≡◌, ⊥, ℕ, List, Some, IsTrue, IfOk, IfErr, OnOk, OnErr};
+ghost use Rattle.std.specs.Prelude.{◌≡◌, ℕ, List, Some, IsTrue, IfOk, IfErr, OnOk, OnErr};
 ghost use Rattle.std.specs.String.{string_bytes};
 ghost use Rattle.commands.specs.Contents.{Contents, IsWritten, IsCutOff};
 ghost use Rattle.commands.specs.FileTexts.{HoldsText, NoText};

@@ -1,6 +1,6 @@
 // An image of code that another compiler made.
 
-ghost use Rattle.std.specs.Prelude.{◌≡◌, ⊥, IsTrue, IfErr, OnOk};
+ghost use Rattle.std.specs.Prelude.{◌≡◌, IsTrue, IfErr, OnOk};
 ghost use Rattle.commands.specs.WrappedCode.{IsImageOfCode, RefusesCode};
 ghost use Rattle.commands.specs.Written.{IsWriteFault, WritesFile, FailsToWrite};
 
