@@ -6,3 +6,5 @@ pub mod KnownTurns
 pub mod AnswerLemmas
 pub mod LineLemmas
 pub mod ReadLemmas
+pub mod RoundLemmas
+pub mod ReaderLemmas

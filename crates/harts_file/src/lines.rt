@@ -2,7 +2,7 @@
 
 ghost use Rattle.std.specs.Prelude.{◌≡◌, IfOk, map};
 ghost use Rattle.std.specs.Option.{option_map};
-ghost use Rattle.harts_file.specs.Lines.{is_joined, hart_by, turns_by, rounds_by, said_with, said_of};
+ghost use Rattle.harts_file.specs.Lines.{is_joined, hart_by, turns_by, rounds_by, said_with, said_by_fields, said_of};
 ghost use Rattle.harts_file.specs.private.Reading.{said_by_line, held};
 
 use crate::jobs::Job;
@@ -86,6 +86,16 @@ fn said_with<'a>(
     }
 }
 
+/// What fields say, of which the first is a word.
+fn said_by_fields<'a>(alloc: Global, fields: &[&'a str]) -> Result<Option<Line<'a>>, AllocError>
+    ensures { IfOk result (λ line. option_map said_by_line line ≡ option_map held (said_by_fields (map (λ field. field.now) fields.now))) }
+{
+    match fields {
+        [word, fields @ ..] => said_with(alloc, word, fields),
+        [] => Ok(None),
+    }
+}
+
 /// What a line says, which stands without its end. `None` where it has no form.
 pub fn line_of<'a>(alloc: Global, line: &'a str) -> Result<Option<Line<'a>>, AllocError>
     ensures { IfOk result (λ said. option_map said_by_line said ≡ option_map held (said_of line.now)) }
@@ -94,8 +104,5 @@ pub fn line_of<'a>(alloc: Global, line: &'a str) -> Result<Option<Line<'a>>, All
         return Ok(None);
     }
     let fields: Vec<&'a str> = line.split(BLANK).collect(alloc)?;
-    match fields.as_slice() {
-        [word, fields @ ..] => said_with(alloc, word, fields),
-        [] => Ok(None),
-    }
+    said_by_fields(alloc, fields.as_slice())
 }

@@ -97,6 +97,7 @@ impl<'a> Reader<'a> {
     fn push_round(&mut self) -> Result<(), AllocError>
         requires room { vec_len self.old.schedule + vec_len self.old.jobs ≤ most_turns }
         ensures turns { IfOk result (λ _. self.new.schedule.items ≡ self.old.schedule.items ++ range_with_len 0 (vec_len self.old.jobs)) }
+        ensures length { IfOk result (λ _. vec_len self.new.schedule ≡ vec_len self.old.schedule + vec_len self.old.jobs) }
         ensures jobs { self.new.jobs ≡ self.old.jobs }
         ensures begun { self.new.has_turns ≡ self.old.has_turns }
     {
