@@ -100,7 +100,7 @@ shown_by image args list (stop, end, calm, (seen, run, is)) =
 -- what an answer of `pair` compares
 comparison : (image : Fields) (one other : List Arg) (answer : Result Pairing RunFault) (pairing : Pairing) → Paired image one other answer → answer ≡ Ok pairing → (seen seen' : List Observation) × Observed image one seen × Observed image other seen' × Compares (entries_of seen) (entries_of seen') pairing
 comparison image one other answer pairing (pairs.refused first) is = cc
-comparison image one other answer pairing pairs.out_of_memory is = cc
+comparison image one other answer pairing (pairs.out_of_memory none) is = cc
 comparison image one other answer pairing (compared {seen} {seen'} {pairing = found} none shown shown' compares) is =
     let same : found ≡ pairing = cc in
     (seen, seen', shown, shown', subst (λ p. Compares (entries_of seen) (entries_of seen') p) same compares)

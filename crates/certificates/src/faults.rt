@@ -4,6 +4,7 @@ ghost use Rattle.std.specs.Prelude.{◌≡◌, map};
 ghost use Rattle.certificates.specs.Given.{rule_of_unknown, rule_of_given, fault_of_given};
 
 use arguments::{ArgumentFault, ArgumentRule, broken_rule};
+use hepurita::first_fault_by;
 use image_fields::Slot;
 use language::{Arg, Label, Param};
 
@@ -31,13 +32,5 @@ fn rule_at(param: &Param, given: &Option<Arg>) -> Option<ArgumentRule>
 pub(crate) fn first_fault(slots: &[Slot], given: &[Option<Arg>]) -> Option<ArgumentFault>
     ensures { result ≡ fault_of_given (map (λ slot. slot.param) slots.now) given.now }
 {
-    if given.len() != slots.len() {
-        return Some(ArgumentFault::count());
-    }
-    for (index, slot) in slots.iter().enumerate() {
-        if let Some(rule) = rule_at(&slot.param, &given[index]) {
-            return Some(ArgumentFault::at(rule, index));
-        }
-    }
-    None
+    first_fault_by(slots, given, rule_at)
 }

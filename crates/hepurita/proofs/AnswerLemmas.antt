@@ -97,7 +97,7 @@ module _ (program : ProgramTree) (before : List ProcedureTree) (export : Procedu
   the_outcome faultless args keeps list after answer within (refused first) =
       let none = (faultless (params_of image) args).1 within in
       cc
-  the_outcome faultless args keeps list after answer within out_of_memory = inl refl
+  the_outcome faultless args keeps list after answer within (out_of_memory none) = inl refl
   the_outcome faultless args keeps list after answer within (ran {stop} {end} none run answered) =
       subst (λ (r : Result Results RunFault). IsTheOutcome program args r) (sym answered) (outcome_at args within keeps list after end stop run)
 
@@ -168,7 +168,7 @@ module _ (program : ProgramTree) (before : List ProcedureTree) (export : Procedu
     the_same faultless count answer (pairs.refused first) =
         let none = no_pair_fault faultless count in
         cc
-    the_same faultless count answer pairs.out_of_memory = refl
+    the_same faultless count answer (pairs.out_of_memory none) = refl
     the_same faultless count answer (pairs.compared {seen} {seen'} {pairing} none a b compares) =
         let shown : seen ≡ seen' = seen_of one agree.one_within seen a ∙ same_shown ∙ sym (seen_of other agree.other_within seen' b) in
         compares_same (entries_of seen) (entries_of seen') pairing (ap entries_of shown) compares

@@ -63,11 +63,11 @@ begins false list seen = ([], sym (append-nil list))
 pub one_execution : (image : Fields) (args : List Arg) (keeps : Bool) (list one other : List Observation) (a b : Result Results RunFault) → Executed image args keeps list a one → Executed image args keeps list b other → (WantsMemory a → ⊥) → (WantsMemory b → ⊥) → (a ≡ b) × (one ≡ other)
 one_execution image args keeps list one other a b (refused {fault} is) (refused {fault = fault'} also) calm calm' =
     (ap (λ (f : ArgumentFault). Err (Argument f.rule f.index)) (one_fault fault fault' (fault_of (params_of image) args) is also), refl)
-one_execution image args keeps list one other a b (refused is) out_of_memory calm calm' = absurd (calm' (inl refl))
+one_execution image args keeps list one other a b (refused is) (out_of_memory none) calm calm' = absurd (calm' (inl refl))
 one_execution image args keeps list one other a b (refused is) (ran none run answered) calm calm' = absurd (none-some _ (sym none ∙ is))
-one_execution image args keeps list one other a b out_of_memory then calm calm' = absurd (calm (inl refl))
+one_execution image args keeps list one other a b (out_of_memory none) then calm calm' = absurd (calm (inl refl))
 one_execution image args keeps list one other a b (ran none run answered) (refused is) calm calm' = absurd (none-some _ (sym none ∙ is))
-one_execution image args keeps list one other a b (ran none run answered) out_of_memory calm calm' = absurd (calm' (inl refl))
+one_execution image args keeps list one other a b (ran none run answered) (out_of_memory none') calm calm' = absurd (calm' (inl refl))
 one_execution image args keeps list one other a b (ran {stop} {end} none run answered) (ran {stop = stop'} {end = end'} none' run' answered') calm calm' =
     let same = Ran-determined keeps list run run' (not_cut image stop end a answered calm) (not_cut image stop' end' b answered' calm') in
     let stops : answer_at frame_base image stop end.bytes ≡ answer_at frame_base image stop' end.bytes = ap (λ (s : Stop). answer_at frame_base image s end.bytes) same.0 in
@@ -75,12 +75,12 @@ one_execution image args keeps list one other a b (ran {stop} {end} none run ans
     (answered ∙ stops ∙ ends ∙ sym answered', same.2)
 
 pub begun_execution : (image : Fields) (args : List Arg) (keeps : Bool) (list one other : List Observation) (a b : Result Results RunFault) → Executed image args keeps list a one → Executed image args keeps list b other → (WantsMemory a → ⊥) → WantsMemory b → (rest : List Observation) × (one ≡ other ++ rest)
-begun_execution image args keeps list one other a b out_of_memory then calm wants = absurd (calm (inl refl))
+begun_execution image args keeps list one other a b (out_of_memory none) then calm wants = absurd (calm (inl refl))
 begun_execution image args keeps list one other a b (refused is) (refused also) calm wants = ([], sym (append-nil list))
-begun_execution image args keeps list one other a b (refused is) out_of_memory calm wants = ([], sym (append-nil list))
+begun_execution image args keeps list one other a b (refused is) (out_of_memory none) calm wants = absurd (none-some _ (sym none ∙ is))
 begun_execution image args keeps list one other a b (refused is) (ran none run answered) calm wants = absurd (none-some _ (sym none ∙ is))
 begun_execution image args keeps list one other a b (ran none run answered) (refused is) calm wants = absurd (none-some _ (sym none ∙ is))
-begun_execution image args keeps list one other a b (ran none run answered) out_of_memory calm wants =
+begun_execution image args keeps list one other a b (ran none run answered) (out_of_memory none') calm wants =
     let more = begins keeps list run.0 in
     (more.0, run.2 ∙ more.1)
 begun_execution image args keeps list one other a b (ran {stop} {end} none run answered) (ran {stop = stop'} {end = end'} none' run' answered') calm wants =
@@ -101,11 +101,11 @@ one_answer one other (Differ place) (Differ place') first also = ap Differ (firs
 pub one_comparison : (image : Fields) (one other : List Arg) (a b : Result Pairing RunFault) → Paired image one other a → Paired image one other b → a ≢ Err Memory → b ≢ Err Memory → a ≡ b
 one_comparison image one other a b (pairs.refused {fault} is) (pairs.refused {fault = fault'} also) calm calm' =
     ap (λ (f : ArgumentFault). Err (Argument f.rule f.index)) (one_fault fault fault' (pair_fault (params_of image) one other) is also)
-one_comparison image one other a b (pairs.refused is) pairs.out_of_memory calm calm' = absurd (calm' refl)
+one_comparison image one other a b (pairs.refused is) (pairs.out_of_memory none) calm calm' = absurd (calm' refl)
 one_comparison image one other a b (pairs.refused is) (pairs.compared none seen seen' compares) calm calm' = absurd (none-some _ (sym none ∙ is))
-one_comparison image one other a b pairs.out_of_memory then calm calm' = absurd (calm refl)
+one_comparison image one other a b (pairs.out_of_memory none) then calm calm' = absurd (calm refl)
 one_comparison image one other a b (pairs.compared none seen seen' compares) (pairs.refused is) calm calm' = absurd (none-some _ (sym none ∙ is))
-one_comparison image one other a b (pairs.compared none seen seen' compares) pairs.out_of_memory calm calm' = absurd (calm' refl)
+one_comparison image one other a b (pairs.compared none seen seen' compares) (pairs.out_of_memory none') calm calm' = absurd (calm' refl)
 one_comparison image one other a b (pairs.compared {seen = s} {seen' = t} {pairing = p} none shown shown' compares) (pairs.compared {seen = u} {seen' = v} {pairing = q} none' other_shown other_shown' compares') calm calm' =
     let left : s ≡ u = one_list image one s u shown other_shown in
     let right : t ≡ v = one_list image other t v shown' other_shown' in

@@ -1,5 +1,5 @@
 -- The export of a program that a text is, is grammatical; so its work is a sum over the source, and so is the limit on it.
-use Rattle.std.proofs.Common.{◌≡◌, ℕ, List, [], length, Some, ap, nat_lt}
+use Rattle.std.proofs.Common.{◌≡◌, ℕ, List, [], Some, ap, nat_lt}
 use Rattle.std.specs.List.{AllByRecursion}
 use Rattle.inline.specs.Numbering.{flattened}
 use Rattle.intervals.specs.Limits.{most_work}

@@ -1,5 +1,5 @@
 -- What is answered to two lists of arguments, case by case.
-use Rattle.std.proofs.Common.{◌≡◌, ℕ, List, Some, Result, Err, refl, sym, subst}
+use Rattle.std.proofs.Common.{◌≡◌, ℕ, List, Some, None, Result, Err, refl, sym, subst}
 use Rattle.arguments.specs.declared.fault.ArgumentFault.{ArgumentFault}
 use Rattle.image_fields.specs.Fields.{Fields}
 use Rattle.rv_machine.specs.Leakage.{IsShown}
@@ -13,8 +13,8 @@ use Rattle.codegen.specs.Loaded.{params_of, code_at, loaded_at}
 use Rattle.hepurita.specs.Bases.{code_base, frame_base}
 use Rattle.hepurita.specs.Paired.{Observed, Paired, pair_fault, refused, out_of_memory}
 
-pub memory_paired : (image : Fields) (one other : List Arg) (r : Result Pairing RunFault) → r ≡ Err Memory → Paired image one other r
-memory_paired image one other r is = subst (λ (x : Result Pairing RunFault). Paired image one other x) (sym is) out_of_memory
+pub memory_paired : (image : Fields) (one other : List Arg) (r : Result Pairing RunFault) → pair_fault (params_of image) one other ≡ None → r ≡ Err Memory → Paired image one other r
+memory_paired image one other r none is = subst (λ (x : Result Pairing RunFault). Paired image one other x) (sym is) (out_of_memory none)
 
 pub refused_paired : (image : Fields) (one other : List Arg) (fault : ArgumentFault) (e : RunFault) → e ≡ Argument fault.rule fault.index → pair_fault (params_of image) one other ≡ Some fault → Paired image one other (Err e)
 refused_paired image one other fault e is first = subst (λ (x : RunFault). Paired image one other (Err x)) (sym is) (refused first)

@@ -2,6 +2,7 @@ pub mod Bases
 pub mod Frames
 pub mod Compiled
 pub mod Executed
+pub mod Faults
 pub mod Paired
 pub mod Exact
 pub mod Built

@@ -39,8 +39,9 @@ Observed image args list =
     (stop : Stop) × (end : State) × (stop ≢ RecorderRefused)
     × Ran (code_at code_base image) true image.max_steps (loaded_at code_base frame_base image args) [] stop end list
 
--- what is answered for two lists of arguments
+-- what is answered for two lists of arguments: they are refused by their first fault; else memory may be wanting, or what is observed is
+-- compared
 pub data Paired (image : Fields) (one other : List Arg) : Result Pairing RunFault → Type 0 where
   refused : {fault : ArgumentFault} → pair_fault (params_of image) one other ≡ Some fault → Paired image one other (Err (Argument fault.rule fault.index))
-  out_of_memory : Paired image one other (Err Memory)
+  out_of_memory : pair_fault (params_of image) one other ≡ None → Paired image one other (Err Memory)
   compared : {seen seen' : List Observation} {pairing : Pairing} → pair_fault (params_of image) one other ≡ None → Observed image one seen → Observed image other seen' → Compares (entries_of seen) (entries_of seen') pairing → Paired image one other (Ok pairing)

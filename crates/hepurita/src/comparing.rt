@@ -1,32 +1,34 @@
 // Two runs of an image, compared by what an observer sees.
 
-ghost use Rattle.std.specs.Prelude.{◌≡◌, ◌≤◌, None, length};
+ghost use Rattle.std.specs.Prelude.{◌≡◌, None};
 ghost use Rattle.arguments.specs.Within.{AreWithin};
-ghost use Rattle.image_fields.specs.Limits.{most_parameters};
+ghost use Rattle.codegen.specs.Loaded.{params_of};
+ghost use Rattle.image_fields.specs.Fields.{IsImage};
 ghost use Rattle.hepurita.specs.Paired.{pair_fault, Paired};
 
+use crate::checking::first_fault;
 use crate::fault::RunFault;
-use crate::loading::{code, load, params};
-use arguments::{ArgumentFault, first_fault};
+use crate::loading::{code, load};
+use arguments::ArgumentFault;
 use image::Image;
-use language::{Args, Param};
+use language::Args;
 use rv_machine::{Pairing, compare};
 use std::alloc::Global;
 
 /// The first fault of two lists of arguments; those of the second are numbered after the first's.
-fn fault_of_both(params: &[Param], one: &Args, other: &Args) -> Option<ArgumentFault>
-    requires { length params.now ≤ most_parameters }
-    ensures first { result ≡ pair_fault params.now one.now other.now }
-    ensures within { result ≡ None → AreWithin params.now one.now × AreWithin params.now other.now }
+fn fault_of_both(image: &Image, one: &Args, other: &Args) -> Option<ArgumentFault>
+    ensures first { result ≡ pair_fault (params_of image.now) one.now other.now }
+    ensures within { result ≡ None → AreWithin (params_of image.now) one.now × AreWithin (params_of image.now) other.now }
+    ensures allowed { IsImage image.now }
 {
-    let count = params.len();
+    let count = image.slots().len();
     if one.as_slice().len() != count || other.as_slice().len() != count {
         return Some(ArgumentFault::count());
     }
-    if let Some(fault) = first_fault(params, one) {
+    if let Some(fault) = first_fault(image, one) {
         return Some(fault);
     }
-    let fault = first_fault(params, other)?;
+    let fault = first_fault(image, other)?;
     let index = match fault.index {
         Some(index) => Some(index + count),
         None => None,
@@ -38,13 +40,12 @@ fn fault_of_both(params: &[Param], one: &Args, other: &Args) -> Option<ArgumentF
 }
 
 /// Runs an image on two lists of arguments, and compares what an observer sees of the two runs.
-/// Stops are not compared. Arguments are refused by their first fault, before anything runs. Both runs
+/// Stops are not compared. Arguments are refused by their first fault, before memory is asked for. Both runs
 /// are made in step, and once they are loaded they take no memory.
 pub fn pair(alloc: Global, image: &Image, one: &Args, other: &Args) -> Result<Pairing, RunFault>
     ensures { Paired image.now one.now other.now result }
 {
-    let params = params(alloc, image)?;
-    if let Some(fault) = fault_of_both(params.as_slice(), one, other) {
+    if let Some(fault) = fault_of_both(image, one, other) {
         return Err(RunFault::from(fault));
     }
     let code = code(alloc, image)?;

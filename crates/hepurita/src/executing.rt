@@ -7,10 +7,10 @@ ghost use Rattle.rv_machine.specs.Paged.{paged_bytes};
 ghost use Rattle.hepurita.specs.Bases.{frame_base};
 ghost use Rattle.hepurita.specs.Frames.{IsSpaceFor};
 
+use crate::checking::first_fault;
 use crate::fault::RunFault;
-use crate::loading::{FRAME_BASE, code, load, params};
+use crate::loading::{FRAME_BASE, code, load};
 use crate::results::{ResultSpace, outcome, result_space};
-use arguments::first_fault;
 use image::Image;
 use language::{Args, Outcome};
 use rv_machine::recording::Recorder;
@@ -40,7 +40,7 @@ fn answer(
 }
 
 /// Runs an image on arguments, and answers the outcome. The recorder takes what an observer sees of
-/// the run. Arguments are refused by their first fault, before anything runs.
+/// the run. Arguments are refused by their first fault, before memory is asked for.
 pub fn execute<R: Recorder>(
     alloc: Global,
     image: &Image,
@@ -53,8 +53,7 @@ pub fn execute<R: Recorder>(
     ensures ready { R.is_ready recorder.old image.now.max_steps → result ≢ Err (RunFault.Stopped Stop.RecorderRefused) }
     ensures memory { result ≡ Err RunFault.Memory → R.list recorder.new ≡ R.list recorder.old }
 {
-    let params = params(alloc, image)?;
-    if let Some(fault) = first_fault(params.as_slice(), args) {
+    if let Some(fault) = first_fault(image, args) {
         return Err(RunFault::from(fault));
     }
     let code = code(alloc, image)?;

@@ -4,6 +4,7 @@
 #![tactic(auto)]
 
 mod building;
+mod checking;
 mod comparing;
 mod elements;
 mod executing;
@@ -15,6 +16,7 @@ mod reading;
 mod results;
 
 pub use building::{accepted_or_refused, build, build_as, each_text_is_judged, one_refusal};
+pub use checking::{first_fault, first_fault_by};
 pub use comparing::pair;
 pub use executing::execute;
 pub use fault::RunFault;

@@ -24,13 +24,13 @@ pub one_answer : (image : Fields) (args : List Arg) (a b : Result Stop LeakFault
 one_answer image args a b (refused {fault} is) (refused {fault = fault'} also) m w m' w' =
     let same : fault ≡ fault' = same_Some fault fault' (sym is ∙ also) in
     ap (λ (f : ArgumentFault). Err (Argument f.rule f.index)) same
-one_answer image args a b (refused is) out_of_memory m w m' w' = absurd (m' refl)
+one_answer image args a b (refused is) (out_of_memory none) m w m' w' = absurd (m' refl)
 one_answer image args a b (refused is) (cut_off none) m w m' w' = absurd (w' refl)
 one_answer image args a b (refused is) (ran none ends) m w m' w' = absurd (none-some _ (sym none ∙ is))
-one_answer image args a b out_of_memory then m w m' w' = absurd (m refl)
+one_answer image args a b (out_of_memory none) then m w m' w' = absurd (m refl)
 one_answer image args a b (cut_off none) then m w m' w' = absurd (w refl)
 one_answer image args a b (ran none ends) (refused is) m w m' w' = absurd (none-some _ (sym none ∙ is))
-one_answer image args a b (ran none ends) out_of_memory m w m' w' = absurd (m' refl)
+one_answer image args a b (ran none ends) (out_of_memory none') m w m' w' = absurd (m' refl)
 one_answer image args a b (ran none ends) (cut_off none') m w m' w' = absurd (w' refl)
 one_answer image args a b (ran {seen} {stop} none ends) (ran {seen = more} {stop = other} none' ends') m w m' w' =
     ap Ok (one_end image args seen more stop other ends ends').1

@@ -14,9 +14,9 @@ use Rattle.listing.specs.declared.fault.LeakFault.TheVariants.{Argument, Memory}
 use Rattle.listing.specs.Leaked.{Leaks, refused, out_of_memory, ran}
 use Rattle.listing.specs.Listings.{Ends}
 
--- want of memory
-pub memory_leaks : (image : Fields) (args : List Arg) (r : Result Stop LeakFault) → r ≡ Err Memory → Leaks image args r
-memory_leaks image args r is = subst (λ (x : Result Stop LeakFault). Leaks image args x) (sym is) out_of_memory
+-- want of memory, where there is no fault
+pub memory_leaks : (image : Fields) (args : List Arg) (r : Result Stop LeakFault) → fault_of (params_of image) args ≡ None → r ≡ Err Memory → Leaks image args r
+memory_leaks image args r none is = subst (λ (x : Result Stop LeakFault). Leaks image args x) (sym is) (out_of_memory none)
 
 -- the first fault
 pub refused_leaks : (image : Fields) (args : List Arg) (fault : ArgumentFault) (e : LeakFault) → e ≡ Argument fault.rule fault.index → fault_of (params_of image) args ≡ Some fault → Leaks image args (Err e)

@@ -8,8 +8,7 @@ ghost use Rattle.listing.specs.Leaked.{Leaks, IsLeak};
 
 use crate::fault::LeakFault;
 use crate::turns::write_run;
-use arguments::first_fault;
-use hepurita::{code, load, params};
+use hepurita::{code, first_fault, load};
 use image::Image;
 use language::Args;
 use rv_machine::Stop;
@@ -17,8 +16,8 @@ use std::alloc::Global;
 use streams::Sink;
 
 /// Runs an image on arguments, writes what an observer sees, a line for each entry, and then the line
-/// of the stop, which it answers. Arguments are refused by their first fault, before anything runs. Each
-/// turn's lines are written before the next turn is made, and once the image is loaded no memory is
+/// of the stop, which it answers. Arguments are refused by their first fault, before memory is asked for.
+/// Each turn's lines are written before the next turn is made, and once the image is loaded no memory is
 /// taken. A call of the sink that fails ends the run.
 pub fn leak<W: Sink>(
     alloc: Global,
@@ -33,8 +32,7 @@ pub fn leak<W: Sink>(
     ensures calm { result ≢ Err LeakFault.Write → W.failures sink.new ≡ W.failures sink.old }
     ensures counts { IsErrOf result LeakFault.Write → W.failures sink.new ≡ one_more (W.failures sink.old) }
 {
-    let params = params(alloc, image)?;
-    if let Some(fault) = first_fault(params.as_slice(), args) {
+    if let Some(fault) = first_fault(image, args) {
         return Err(LeakFault::from(fault));
     }
     let code = code(alloc, image)?;

@@ -51,21 +51,11 @@ pub fn arguments(alloc: Global, condition: u32) -> Result<Args, Fault>
     }
 }
 
-/// Compares the runs of an image on two lists of arguments, and answers why they are not compared.
-pub fn fault_of_pair(
-    alloc: Global,
-    image: &Image,
-    one: &Args,
-    other: &Args,
-) -> Result<Option<RunFault>, Fault>
-    ensures found { IfOk result (λ found. IfSome found (λ fault. Paired image.now one.now other.now (Err fault))) }
-    ensures memory { IfErr result (λ given. given ≡ Fault.Pair) }
+/// Why the runs of an image on two lists of arguments are not compared, where they are not.
+pub fn fault_of_pair(alloc: Global, image: &Image, one: &Args, other: &Args) -> Option<RunFault>
+    ensures { IfSome result (λ fault. Paired image.now one.now other.now (Err fault)) }
 {
-    match pair(alloc, image, one, other) {
-        Ok(_) => Ok(None),
-        Err(RunFault::Memory) => Err(Fault::Pair),
-        Err(fault) => Ok(Some(fault)),
-    }
+    pair(alloc, image, one, other).err()
 }
 
 /// Runs an image with a recorder that keeps what an observer sees. Where there is no outcome, it says

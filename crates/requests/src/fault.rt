@@ -15,8 +15,6 @@ pub enum Fault {
     /// With how many observations were kept before.
     #[error("execute: {0} after {1} observations")]
     Execute(RunFault, usize),
-    #[error("pair: M1: memory")]
-    Pair,
     /// With how many bytes were taken before.
     #[error("put_all: M1: memory after {0} bytes")]
     Put(usize),

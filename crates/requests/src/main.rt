@@ -32,7 +32,7 @@ fn main(rt: HostRuntime) -> anyhow::Result<()> {
     let (outcome, recorder) = observe(alloc, &image, &args)?;
     let large = arguments(alloc, 2)?;
     let none = Args::new(Vec::new(alloc));
-    let fault = fault_of_pair(alloc, &image, &large, &none)?;
+    let fault = fault_of_pair(alloc, &image, &large, &none);
     let sink = keep(alloc, bytes.as_slice())?;
     println!(rt; "outcome {:?}", outcome.returned())?;
     println!(rt; "{} observations", recorder.list().len())?;

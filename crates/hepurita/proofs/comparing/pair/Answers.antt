@@ -1,58 +1,48 @@
-use Rattle.std.proofs.Common.{List, Err, ap, sym, subst, ◌∙◌, arith}
+use Rattle.std.proofs.Common.{Err, ap, sym, ◌∙◌, arith}
 use Rattle.std.proofs.lemmas.Result.{err_from_is_err_and}
-use Rattle.arguments.specs.Within.{AreWithin}
 use Rattle.rv_machine.specs.Harts.{state_of}
 use Rattle.rv_machine.specs.Paged.{paged_bytes}
 use Rattle.rv_machine.specs.Regions.{code_of}
-use Rattle.language.specs.declared.signature.Param.{Param}
-use Rattle.hepurita.specs.Paired.{pair_fault, compared}
+use Rattle.hepurita.specs.Paired.{compared}
 use Rattle.hepurita.proofs.PairedLemmas.{memory_paired, refused_paired, observed_from}
 use Rattle.hepurita.proofs.comparing.pair.Goals as goal
-
-pub returns-in_err-params : goal.returns-in_err-params
-returns-in_err-params c =
-    let p = err_from_is_err_and c.from_residual.result c.from_residual.ensures.1 in
-    memory_paired c.args.image.now c.args.one.now c.args.other.now c.from_residual.result (p.1 ∙ ap Err p.2)
 
 pub returns-in-Some : goal.returns-in-Some
 returns-in-Some c =
     refused_paired c.args.image.now c.args.one.now c.args.other.now c.in-Some.fault c.from.result c.from.ensures
-    (ap (λ (ps : List Param). pair_fault ps c.args.one.now c.args.other.now) (sym (c.as_slice.ensures.value ∙ c.in_ok-params.ensures.params)) ∙ (sym c.fault_of_both.ensures.first ∙ c.in-Some.is))
+    (sym c.fault_of_both.ensures.first ∙ c.in-Some.is)
 
 pub returns-in_err-code : goal.returns-in_err-code
 returns-in_err-code c =
-    let p = err_from_is_err_and c.from_residual-in_err-code.result c.from_residual-in_err-code.ensures.1 in
-    memory_paired c.args.image.now c.args.one.now c.args.other.now c.from_residual-in_err-code.result (p.1 ∙ ap Err p.2)
+    let p = err_from_is_err_and c.from_residual.result c.from_residual.ensures.1 in
+    memory_paired c.args.image.now c.args.one.now c.args.other.now c.from_residual.result (sym c.fault_of_both.ensures.first ∙ c.in_default.is) (p.1 ∙ ap Err p.2)
 
 pub load-requires : goal.load-requires
-load-requires c =
-    subst (λ (ps : List Param). AreWithin ps c.args.one.now) (c.as_slice.ensures.value ∙ c.in_ok-params.ensures.params) (c.fault_of_both.ensures.within c.in_default.is).0
+load-requires c = (c.fault_of_both.ensures.within c.in_default.is).0
 
 pub returns-in_err-one : goal.returns-in_err-one
 returns-in_err-one c =
     let p = err_from_is_err_and c.from_residual-in_err-one.result c.from_residual-in_err-one.ensures.1 in
-    memory_paired c.args.image.now c.args.one.now c.args.other.now c.from_residual-in_err-one.result (p.1 ∙ ap Err p.2)
+    memory_paired c.args.image.now c.args.one.now c.args.other.now c.from_residual-in_err-one.result (sym c.fault_of_both.ensures.first ∙ c.in_default.is) (p.1 ∙ ap Err p.2)
 
 pub load-requires-2 : goal.load-requires-2
-load-requires-2 c =
-    subst (λ (ps : List Param). AreWithin ps c.args.other.now) (c.as_slice.ensures.value ∙ c.in_ok-params.ensures.params) (c.fault_of_both.ensures.within c.in_default.is).1
+load-requires-2 c = (c.fault_of_both.ensures.within c.in_default.is).1
 
 pub returns-in_err-other : goal.returns-in_err-other
 returns-in_err-other c =
     let p = err_from_is_err_and c.from_residual-in_err-other.result c.from_residual-in_err-other.ensures.1 in
-    memory_paired c.args.image.now c.args.one.now c.args.other.now c.from_residual-in_err-other.result (p.1 ∙ ap Err p.2)
+    memory_paired c.args.image.now c.args.one.now c.args.other.now c.from_residual-in_err-other.result (sym c.fault_of_both.ensures.first ∙ c.in_default.is) (p.1 ∙ ap Err p.2)
 
 pub compare-requires : goal.compare-requires
-compare-requires c = omega (arith, c.in_ok-one.ensures.steps, c.in_ok-params.ensures.allowed.steps)
+compare-requires c = omega (arith, c.in_ok-one.ensures.steps, c.fault_of_both.ensures.allowed.steps)
 
 pub returns : goal.returns
 returns c =
-    let none = ap (λ (ps : List Param). pair_fault ps c.args.one.now c.args.other.now) (sym (c.as_slice.ensures.value ∙ c.in_ok-params.ensures.params)) ∙ (sym c.fault_of_both.ensures.first ∙ c.in_default.is) in
     let image = c.args.image.now in
     let one = c.in_ok-one.one in
     let other = c.in_ok-other.other in
     let both = c.compare.ensures.compared in
-    compared none
+    compared (sym c.fault_of_both.ensures.first ∙ c.in_default.is)
     (observed_from image c.args.one.now (code_of c.in_ok-code.code) one.turns_left (state_of one.hart (paged_bytes one.memory)) both.0 c.in_ok-code.ensures c.in_ok-one.ensures.steps c.in_ok-one.ensures.state both.2)
     (observed_from image c.args.other.now (code_of c.in_ok-code.code) other.turns_left (state_of other.hart (paged_bytes other.memory)) both.1 c.in_ok-code.ensures c.in_ok-other.ensures.steps c.in_ok-other.ensures.state both.3)
     both.4

@@ -1,37 +1,33 @@
-use Rattle.std.proofs.Common.{List, Err, ap, sym, ◌∙◌, arith}
+use Rattle.std.proofs.Common.{Err, ap, sym, ◌∙◌, arith}
 use Rattle.std.proofs.lemmas.Result.{err_from_is_err_and}
-use Rattle.arguments.specs.Faults.{fault_of}
 use Rattle.rv_machine.specs.Harts.{state_of}
 use Rattle.rv_machine.specs.Paged.{paged_bytes}
 use Rattle.rv_machine.specs.Regions.{code_of}
-use Rattle.language.specs.declared.signature.Param.{Param}
 use Rattle.hepurita.proofs.ExecutedLemmas.{memory_executed, refused_executed, ran_executed}
 use Rattle.hepurita.proofs.executing.execute.Goals as goal
-
-pub returns-in_err-params-clause-executed : goal.returns-in_err-params-clause-executed
-returns-in_err-params-clause-executed g c =
-    let p = err_from_is_err_and c.from_residual.result c.from_residual.ensures.1 in
-    memory_executed c.args.image.now c.args.args.now g.R.Recorder.KEEPS (g.R.Recorder.list c.args.recorder.now) c.from_residual.result (p.1 ∙ ap Err p.2)
 
 pub returns-in-Some-clause-executed : goal.returns-in-Some-clause-executed
 returns-in-Some-clause-executed g c =
     refused_executed c.args.image.now c.args.args.now g.R.Recorder.KEEPS (g.R.Recorder.list c.args.recorder.now) c.in-Some.fault c.from.result c.from.ensures
-    (ap (λ (ps : List Param). fault_of ps c.args.args.now) (sym (c.as_slice.ensures.value ∙ c.in_ok-params.ensures.params)) ∙ (sym c.first_fault.ensures.first ∙ c.in-Some.is))
+    (sym c.first_fault.ensures.first ∙ c.in-Some.is)
 
 pub returns-in_err-code-clause-executed : goal.returns-in_err-code-clause-executed
 returns-in_err-code-clause-executed g c =
-    let p = err_from_is_err_and c.from_residual-in_err-code.result c.from_residual-in_err-code.ensures.1 in
-    memory_executed c.args.image.now c.args.args.now g.R.Recorder.KEEPS (g.R.Recorder.list c.args.recorder.now) c.from_residual-in_err-code.result (p.1 ∙ ap Err p.2)
-
-pub returns-in_err-loaded-clause-executed : goal.returns-in_err-loaded-clause-executed
-returns-in_err-loaded-clause-executed g c =
-    let p = err_from_is_err_and c.from_residual-in_err-loaded.result c.from_residual-in_err-loaded.ensures.1 in
-    memory_executed c.args.image.now c.args.args.now g.R.Recorder.KEEPS (g.R.Recorder.list c.args.recorder.now) c.from_residual-in_err-loaded.result (p.1 ∙ ap Err p.2)
+    let p = err_from_is_err_and c.from_residual.result c.from_residual.ensures.1 in
+    memory_executed c.args.image.now c.args.args.now g.R.Recorder.KEEPS (g.R.Recorder.list c.args.recorder.now) c.from_residual.result
+    (sym c.first_fault.ensures.first ∙ c.in_default.is) (p.1 ∙ ap Err p.2)
 
 pub returns-in_err-space-clause-executed : goal.returns-in_err-space-clause-executed
 returns-in_err-space-clause-executed g c =
     let p = err_from_is_err_and c.from_residual-in_err-space.result c.from_residual-in_err-space.ensures.1 in
-    memory_executed c.args.image.now c.args.args.now g.R.Recorder.KEEPS (g.R.Recorder.list c.args.recorder.now) c.from_residual-in_err-space.result (p.1 ∙ ap Err p.2)
+    memory_executed c.args.image.now c.args.args.now g.R.Recorder.KEEPS (g.R.Recorder.list c.args.recorder.now) c.from_residual-in_err-space.result
+    (sym c.first_fault.ensures.first ∙ c.in_default.is) (p.1 ∙ ap Err p.2)
+
+pub returns-in_err-loaded-clause-executed : goal.returns-in_err-loaded-clause-executed
+returns-in_err-loaded-clause-executed g c =
+    let p = err_from_is_err_and c.from_residual-in_err-loaded.result c.from_residual-in_err-loaded.ensures.1 in
+    memory_executed c.args.image.now c.args.args.now g.R.Recorder.KEEPS (g.R.Recorder.list c.args.recorder.now) c.from_residual-in_err-loaded.result
+    (sym c.first_fault.ensures.first ∙ c.in_default.is) (p.1 ∙ ap Err p.2)
 
 pub returns-clause-executed : goal.returns-clause-executed
 returns-clause-executed g c =
@@ -39,8 +35,8 @@ returns-clause-executed g c =
     ran_executed c.args.image.now c.args.args.now g.R.Recorder.KEEPS (g.R.Recorder.list c.args.recorder.now) (g.R.Recorder.list c.run-stop.new.recorder) c.answer.result
     (code_of c.in_ok-code.code) loaded.turns_left (state_of loaded.hart (paged_bytes loaded.memory))
     (state_of c.run-stop.new.hart (paged_bytes c.run-stop.new.memory)) c.run-stop.result
-    (ap (λ (ps : List Param). fault_of ps c.args.args.now) (sym (c.as_slice.ensures.value ∙ c.in_ok-params.ensures.params)) ∙ (sym c.first_fault.ensures.first ∙ c.in_default.is))
+    (sym c.first_fault.ensures.first ∙ c.in_default.is)
     c.in_ok-code.ensures c.in_ok-loaded.ensures.steps c.in_ok-loaded.ensures.state c.run-stop.ensures.turns c.answer.ensures
 
 pub answer-requires-clause-frame : goal.answer-requires-clause-frame
-answer-requires-clause-frame g c = omega (arith, c.in_ok-params.ensures.allowed.frame_size)
+answer-requires-clause-frame g c = omega (arith, c.first_fault.ensures.allowed.frame_size)
