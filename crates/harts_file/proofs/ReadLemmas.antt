@@ -57,10 +57,10 @@ pub record IsNext (text : List ℕ) (items : List Item) (item : Item) : Type 0 w
   pub there : said_in text ≡ said_so_far items ++ said_of item.1.now ∷ rest
   pub number : item.0 ≡ length items
 
-pub is_next : (text : List ℕ) (items : List Item) (item : Item) → map numbered items ≡ take (length items) (enumerate_from 0 (lines_of text))
+pub is_next : (text : List ℕ) (items : List Item) (item : Item) (answer : Option Item) → answer ≡ Some item → map numbered items ≡ take (length items) (enumerate_from 0 (lines_of text))
     → (length items < length (enumerate_from 0 (lines_of text))) × (numbered item ≡ get_or (enumerate_from 0 (lines_of text)) (length items) (numbered item))
     → IsNext text items item
-is_next text items item e h =
+is_next text items item answer is e h =
     let all = enumerate_from 0 (lines_of text) in
     let n = length items in
     let p = at_place all n (numbered item) h.0 in

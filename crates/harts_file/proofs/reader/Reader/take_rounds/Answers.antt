@@ -26,13 +26,13 @@ loop-preserved c =
 pub returns-in_default-clause-rule : goal.returns-in_default-clause-rule
 returns-in_default-clause-rule c =
     let jobs = c.args.self.now.jobs in
-    let harts = vec_len jobs in
-    let same : length (map hart_of jobs.items) ≡ harts = omega (arith, length-map jobs.items hart_of, jobs.ok.0) in
+    let harts = c.len-harts.result in
+    let same : length (map hart_of jobs.items) ≡ harts = omega (arith, length-map jobs.items hart_of, jobs.ok.0, c.len-harts.ensures) in
     too_many_rounds (length (map hart_of jobs.items)) (length c.args.self.now.schedule.items) c.args.count harts (omega arith) same (omega (arith, c.args.self.now.schedule.ok.0, c.turns_left.ensures, c.if-turns-turns_left.false, c.in-Some.ensures))
 
 pub returns-in_default-2-clause-rule : goal.returns-in_default-2-clause-rule
 returns-in_default-2-clause-rule c =
     let jobs = c.args.self.now.jobs in
-    let harts = vec_len jobs in
-    let same : length (map hart_of jobs.items) ≡ harts = omega (arith, length-map jobs.items hart_of, jobs.ok.0) in
+    let harts = c.len-harts.result in
+    let same : length (map hart_of jobs.items) ≡ harts = omega (arith, length-map jobs.items hart_of, jobs.ok.0, c.len-harts.ensures) in
     too_many_rounds (length (map hart_of jobs.items)) (length c.args.self.now.schedule.items) c.args.count harts (omega arith) same (omega (arith, c.in_default.ensures))
