@@ -3,3 +3,4 @@ pub mod WordLemmas
 pub mod CertificateLemmas
 mod CodeLemmas
 mod LeakFaults
+pub mod ImageLemmas

@@ -36,5 +36,6 @@ pub fn evaluate_text<'a, F: Files>(
     let params = accepted.params.as_slice();
     let args = read_args(alloc, params, arguments)?;
     let outcome = eval(alloc, &accepted.program, &args, EVALUATION_BUDGET)?;
-    Ok(outcome::text_of(alloc, params, &outcome)?)
+    let lines = outcome::text_of(alloc, params, &outcome)?;
+    Ok(lines)
 }

@@ -33,10 +33,12 @@ pub fn image_of<'a, F: Files>(alloc: Global, path: &'a str, files: &F) -> Result
     ensures said { IsTrue F.TELLS → IfOk result (HoldsImage (F.contents files.now) path.now) }
     ensures refused { IsTrue F.TELLS → IfErr result (NoImage (F.contents files.now) path.now) }
 {
-    match files.read(alloc, path, LONGEST_IMAGE + 1) {
-        Ok(bytes) => Ok(read(alloc, bytes.as_slice())?),
-        Err(fault) => Err(read_fault(path, fault)),
-    }
+    let bytes = match files.read(alloc, path, LONGEST_IMAGE + 1) {
+        Ok(bytes) => bytes,
+        Err(fault) => return Err(read_fault(path, fault)),
+    };
+    let image = read(alloc, bytes.as_slice())?;
+    Ok(image)
 }
 
 /// What an image gives on arguments, as lines.
@@ -53,7 +55,8 @@ pub fn run_image<'a, F: Files>(
     let params = params(alloc, &image)?;
     let args = read_args(alloc, params.as_slice(), arguments)?;
     let outcome = execute(alloc, &image, &args, &mut NullRecorder)?;
-    Ok(outcome::text_of(alloc, params.as_slice(), &outcome)?)
+    let text = outcome::text_of(alloc, params.as_slice(), &outcome)?;
+    Ok(text)
 }
 
 /// Prints what an observer sees of an image's run on arguments, and how the run stops. Answers the
@@ -120,7 +123,8 @@ pub fn list_image<'a, F: Files>(
     ensures refused { IsTrue F.TELLS → IfErr result (NoImage (F.contents files.now) path.now) }
 {
     let image = image_of(alloc, path, files)?;
-    Ok(list(alloc, &image)?)
+    let lines = list(alloc, &image)?;
+    Ok(lines)
 }
 
 /// Whether an observer sees the same of an image on two lists of arguments, as a line.
@@ -137,7 +141,8 @@ pub fn pair_image<'a, F: Files>(
     let params = params(alloc, &image)?;
     let (first, second) = both_args(alloc, params.as_slice(), arguments)?;
     let pairing = pair(alloc, &image, &first, &second)?;
-    Ok(pairing_line(alloc, pairing)?)
+    let line = pairing_line(alloc, pairing)?;
+    Ok(line)
 }
 
 /// A comparison as a line.
