@@ -21,7 +21,7 @@ use Rattle.hepurita.specs.declared.fault.RunFault.{RunFault}
 use Rattle.hepurita.specs.declared.fault.RunFault.TheVariants.{Argument, Memory}
 use Rattle.image_fields.specs.Fields.{Fields, IsImage}
 use Rattle.language.specs.declared.values.Arg.{Arg}
-use Rattle.listing.specs.Leaked.{ImageEnds, IsLeak}
+use Rattle.listing.specs.Leaked.{IsLeak}
 use Rattle.listing.specs.Listings.{listing}
 use Rattle.rv_machine.specs.Entries.{Entry, program_counter, entries_of, IsFirstDifference, Compares}
 use Rattle.rv_machine.specs.declared.observation.Observation.{Observation}
@@ -70,7 +70,7 @@ covered image given args allowed agree = loaded_covered code_base frame_base ima
 pub all_show : (image : Fields) (given : List (Option Arg)) (stop : Stop) (entries : ℕ) → IsImage image → Certified image given (Ok (Same stop entries)) → (seen : List Observation) × (length (entries_of seen) ≡ entries) × AllShow image given seen stop
 all_show image given stop entries allowed is =
     let run = same_of image given (Ok (Same stop entries)) stop entries is refl in
-    (run.0, run.2, λ args shown other agree ends. every_run run.1 (covered image given args allowed agree) ends.1 ends.2)
+    (run.0, run.2, λ args shown other agree ends. every_run run.1 (covered image given args allowed agree) ends.1.0 ends.1.1)
 
 -- what begins with some entries, and then one
 first_with : (all before rest : List Entry) (one : Entry) → all ≡ before ++ one ∷ rest → take (length (before ++ one ∷ [])) all ≡ before ++ one ∷ []
@@ -86,16 +86,11 @@ all_begin image given entry pc allowed is =
       before,
       run.2,
       λ args shown stop agree ends.
-          let common = entries_in_common run.1 (covered image given args allowed agree) ends.1 ends.2 in
+          let common = entries_in_common run.1 (covered image given args allowed agree) ends.1.0 ends.1.1 in
           first_with (entries_of shown) before common.0 (program_counter pc) common.1,
     )
 
 -- Pairs.
-
--- what an observer sees of a run is what it shows
-shown_by : (image : Fields) (args : List Arg) (list : List Observation) → Observed image args list → (stop : Stop) × ImageEnds image args list stop
-shown_by image args list (stop, end, calm, (seen, run, is)) =
-    (stop, subst (λ xs. ImageEnds image args xs stop) (sym is) (end, run, calm))
 
 -- what an answer of `pair` compares
 comparison : (image : Fields) (one other : List Arg) (answer : Result Pairing RunFault) (pairing : Pairing) → Paired image one other answer → answer ≡ Ok pairing → (seen seen' : List Observation) × Observed image one seen × Observed image other seen' × Compares (entries_of seen) (entries_of seen') pairing
@@ -113,8 +108,8 @@ pub pairs_same : (image : Fields) (given : List (Option Arg)) (stop : Stop) (ent
 pairs_same image given stop entries one other pairing allowed is agree agree' paired =
     let all = (all_show image given stop entries allowed is).2 in
     let both = comparison image one other (Ok pairing) pairing paired refl in
-    let first = shown_by image one both.0 both.2 in
-    let second = shown_by image other both.1 both.3 in
+    let first = both.2 in
+    let second = both.3 in
     let seen = (all one both.0 first.0 agree first.1).0 in
     let seen' = (all other both.1 second.0 agree' second.1).0 in
     is_same (entries_of both.0) (entries_of both.1) pairing (ap entries_of (seen ∙ sym seen')) both.4
@@ -138,8 +133,8 @@ pub pairs_differ_late : (image : Fields) (given : List (Option Arg)) (entry pc :
 pairs_differ_late image given entry pc one other place allowed is agree agree' paired =
     let begin = all_begin image given entry pc allowed is in
     let both = comparison image one other (Ok (pairings.Differ place)) (pairings.Differ place) paired refl in
-    let first = shown_by image one both.0 both.2 in
-    let second = shown_by image other both.1 both.3 in
+    let first = both.2 in
+    let second = both.3 in
     let seen = begin.2 one both.0 first.0 agree first.1 in
     let seen' = begin.2 other both.1 second.0 agree' second.1 in
     let late = differ_late (entries_of both.0) (entries_of both.1) (length (begin.0 ++ program_counter pc ∷ [])) place (seen ∙ sym seen') both.4 in

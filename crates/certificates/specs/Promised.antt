@@ -3,7 +3,7 @@ use Rattle.std.specs.Prelude.{◌≡◌, List, length, Option, take}
 use Rattle.codegen.specs.Loaded.{params_of}
 use Rattle.image_fields.specs.Fields.{Fields}
 use Rattle.language.specs.declared.values.Arg.{Arg}
-use Rattle.listing.specs.Leaked.{ImageEnds}
+use Rattle.hepurita.specs.Uncut.{ImageEnds}
 use Rattle.rv_machine.specs.Entries.{Entry, entries_of}
 use Rattle.rv_machine.specs.declared.observation.Observation.{Observation}
 use Rattle.rv_machine.specs.declared.stops.Stop.{Stop}

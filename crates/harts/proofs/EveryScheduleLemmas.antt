@@ -47,23 +47,26 @@ module _ (k : ℕ) (below : k < most_images) (job : Job) (fit : IsFit job) (sche
 
   stays_within : All (λ (o : Observation). IsInside (frame_base_of k) job.image.frame_bytes o.event) it.seen
   stays_within =
-      let run = run_of k job fit below in
+      let to = run_of k job fit below in
+      let run = to.run in
       let Inside : Observation → Type 0 = λ (o : Observation). IsInside (frame_base_of k) job.image.frame_bytes o.event in
       let is = shown_alone (member_of k job) it.member (loaded_alone k job).bytes it.bytes run.turns (turns_of k schedule) run.seen it.seen Ecall run.end refl run.halts it.makes in
-      subst (All Inside) (sym is) (All-take Inside (turns_of k schedule) run.seen run.within_frame)
+      subst (All Inside) (sym is) (All-take Inside (turns_of k schedule) run.seen to.within_frame)
 
   -- what its slots hold where its frame is as the run that halts leaves it
-  means_there : it.bytes ≡ (run_of k job fit below).end.bytes → Means fit.program job.args (results_in (frame_base_of k) job.image end.bytes)
+  means_there : it.bytes ≡ (run_of k job fit below).run.end.bytes → Means fit.program job.args (results_in (frame_base_of k) job.image end.bytes)
   means_there left =
-      let run = run_of k job fit below in
+      let to = run_of k job fit below in
+      let run = to.run in
       let same : results_in (frame_base_of k) job.image end.bytes ≡ results_in (frame_base_of k) job.image run.end.bytes =
       outcome_same (frame_base_of k) job.image fit.allowed run.end.bytes end.bytes (λ x low high. same_frame x low high ∙ ap (λ (b : ByteMap). b x) left) in
-      subst (λ (results : Results). Means fit.program job.args results) (sym same) run.outcome
+      subst (λ (results : Results). Means fit.program job.args results) (sym same) to.outcome
 
   has_finished : job.image.max_steps ≤ turns_of k schedule → (it.member.stop ≡ Some Ecall) × Means fit.program job.args (results_in (frame_base_of k) job.image end.bytes)
   has_finished enough =
-      let run = run_of k job fit below in
-      let steps = run.within_steps in
+      let to = run_of k job fit below in
+      let run = to.run in
+      let steps = to.within_steps in
       let stop = stopped_alone (member_of k job) it.member (loaded_alone k job).bytes it.bytes run.turns (turns_of k schedule) run.seen it.seen Ecall run.end refl run.halts it.makes (omega (arith, enough, steps)) in
       (stop.0, means_there stop.1)
 
@@ -71,7 +74,7 @@ module _ (k : ℕ) (below : k < most_images) (job : Job) (fit : IsFit job) (sche
   has_ended : (stop : Option Stop) → it.member.stop ≡ stop → (it.member.stop ≡ None) ⊎ ((it.member.stop ≡ Some Ecall) × Means fit.program job.args (results_in (frame_base_of k) job.image end.bytes))
   has_ended None is = inl is
   has_ended (Some stop) is =
-      let run = run_of k job fit below in
+      let run = (run_of k job fit below).run in
       let longer = rests_on run.turns is it.makes in
       let ended = stopped_alone (member_of k job) it.member (loaded_alone k job).bytes it.bytes run.turns (turns_of k schedule + run.turns) run.seen it.seen Ecall run.end refl run.halts longer (omega arith) in
       inr (ended.0, means_there ended.1)
@@ -138,10 +141,19 @@ shows_the_same : (k : ℕ) → k < most_images → (a b : Job) → IsFit a → I
 shows_the_same k below a b fit fit' agree n seen seen' bytes bytes' after after' makes makes' =
     let code = code_base_of k in
     let frame = frame_base_of k in
-    let run = run_of k a fit below in
-    let run' = run_of k b fit' below in
+    let run = (run_of k a fit below).run in
+    let run' = (run_of k b fit' below).run in
     let halts' : Halts (code_at code a.image) run'.turns (loaded_at code frame a.image b.args) run'.seen Ecall run'.end = subst (λ (f : Fields). Halts (code_at code f) run'.turns (loaded_at code frame f b.args) run'.seen Ecall run'.end) (sym agree.image) run'.halts in
-    let lists : run.seen ≡ run'.seen = fit.compiled.equal_leakage code frame a.args b.args run.turns run'.turns run.seen run'.seen run.end run'.end (fit.bases k below) agree.args run.halts halts' in
+    let lists : run.seen ≡ run'.seen = fit.compiled.equal_leakage (record {
+      code = code;
+      frame = frame;
+      bases = fit.bases k below;
+      args = a.args;
+      args' = b.args;
+      agree = agree.args;
+      one = run;
+      other = record { turns = run'.turns; seen = run'.seen; end = run'.end; halts = halts' };
+    }) in
     shown_alone (member_of k a) after (loaded_alone k a).bytes bytes run.turns n run.seen seen Ecall run.end refl run.halts makes
     ∙ ap (take n) lists
     ∙ sym (shown_alone (member_of k b) after' (loaded_alone k b).bytes bytes' run'.turns n run'.seen seen' Ecall run'.end refl run'.halts makes')

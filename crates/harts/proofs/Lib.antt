@@ -1,4 +1,5 @@
 mod EndLemmas
+mod EndSpaceLemmas
 mod EveryScheduleLemmas
 mod FrameLemmas
 pub mod Numbering

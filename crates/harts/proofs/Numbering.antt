@@ -44,6 +44,9 @@ module _ {J : Type 0} (seen_as : J → Job) (jobs : List J) (i : ℕ) (one : J) 
   all_more P all this =
       All-more P (map seen_as jobs) i (seen_as one) many all (subst P (sym (job_there (seen_as one))) this)
 
+  pub taken_more : take (i + 1) (map seen_as jobs) ≡ take i (map seen_as jobs) ++ seen_as one ∷ []
+  taken_more = take_more (map seen_as jobs) i (seen_as one) many ∙ ap (λ x. take i (map seen_as jobs) ++ x ∷ []) (job_there (seen_as one))
+
   pub each_more : {Y : Type 0} (f : ℕ → Job → Y) → each_from f 0 (take (i + 1) (map seen_as jobs)) ≡ each_from f 0 (take i (map seen_as jobs)) ++ f i (seen_as one) ∷ []
   each_more f =
       let all = map seen_as jobs in

@@ -1,13 +1,9 @@
 -- Refusals, by the place where the check has come to.
-use Rattle.std.proofs.Common.{◌≢◌, ℕ, ◌<◌, ◌≤◌, List, length, take, get_or, All, Ok, Err, Result, IfErr, lt-ltb, le-ltb, refl}
-use Rattle.std.specs.Prelude.{Bool}
+use Rattle.std.proofs.Common.{ℕ, ◌<◌, ◌≤◌, List, length, take, get_or, All, Ok, Err, Result, IfErr, lt-ltb, le-ltb, refl}
 use Rattle.std.proofs.lemmas.Option.{slice_get-get_or}
-use Rattle.rv_machine.specs.declared.hart_recording.HartObservation.{HartObservation}
-use Rattle.harts.specs.Refused.{most_turns, RefusesSchedule, of_entry, Refuses}
-use Rattle.harts.specs.RunHarts.{RunsHarts, refused, out_of_memory}
-use Rattle.harts.specs.SideBySide.{Job}
+use Rattle.harts.specs.Refused.{most_turns, RefusesSchedule, of_entry}
 use Rattle.harts.specs.declared.fault.HartsFault.{HartsFault}
-use Rattle.harts.specs.declared.fault.HartsFault.TheVariants.{Schedule, Argument, Memory}
+use Rattle.harts.specs.declared.fault.HartsFault.TheVariants.{Schedule}
 use Rattle.harts.specs.declared.fault.HartsRule.TheVariants.{NoSuchHart, TooManyTurns}
 
 module _ (harts : ℕ) (schedule : List ℕ) (at : ℕ) (inside : at < length schedule) (before : All (λ number. number < harts) (take at schedule)) (near : at ≤ most_turns) where
@@ -30,12 +26,6 @@ module _ (harts : ℕ) (schedule : List ℕ) (at : ℕ) (inside : at < length sc
         before = before;
         near = near;
       })
-
--- what the check before the run refuses is refused, and it may want memory
-pub refused_before : (jobs : List Job) (schedule : List ℕ) (keeps : Bool) (list : List HartObservation) (fault : HartsFault) → (fault ≢ Memory → Refuses jobs schedule fault) → RunsHarts jobs schedule keeps list (Err fault) list
-refused_before jobs schedule keeps list (Schedule rule at) because = refused (because (λ e. cc))
-refused_before jobs schedule keeps list (Argument hart rule index) because = refused (because (λ e. cc))
-refused_before jobs schedule keeps list Memory because = out_of_memory
 
 -- each fault that is answered, for another reason
 pub if_err_so : {A : Type 0} (P Q : HartsFault → Type 0) → ((fault : HartsFault) → P fault → Q fault) → (r : Result A HartsFault) → IfErr r P → IfErr r Q

@@ -1,3 +1,4 @@
+pub mod EndSpace
 pub mod Ends
 pub mod EverySchedule
 pub mod Frames

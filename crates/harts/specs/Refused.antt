@@ -1,4 +1,4 @@
--- Which images, arguments and schedules are refused before anything runs.
+-- Which images, arguments and schedules are refused.
 use Rattle.std.specs.Prelude.{◌≡◌, ◌⊎◌, ℕ, ◌<◌, ◌≤◌, nat_lt, if◌then◌else◌, List, length, take, slice_get, Option, Some, None, All}
 use Rattle.arguments.specs.Faults.{fault_of}
 use Rattle.arguments.specs.declared.fault.ArgumentFault.{ArgumentFault}

@@ -1,16 +1,15 @@
-// What is refused before anything runs.
+// What is refused before memory is asked for.
 
-ghost use Rattle.std.specs.Prelude.{◌≡◌, ◌≢◌, ◌<◌, ◌≤◌, length, map, None, All, OnOk, IfOk, IfErr};
+ghost use Rattle.std.specs.Prelude.{◌≡◌, ◌<◌, ◌≤◌, length, map, None, All, OnOk, IfErr};
 ghost use Rattle.harts.specs.Refused.{most_turns, fault_in, HasNoFault, AreFew, AreAllowed, RefusesCount, RefusesArguments, RefusesSchedule, Refuses};
 ghost use Rattle.harts.specs.Frames.{job_of, IsRunnable};
 
 use crate::bases::MOST_IMAGES;
 use crate::fault::{HartsFault, HartsRule};
-use arguments::{ArgumentFault, first_fault};
-use hepurita::params;
+use arguments::ArgumentFault;
+use hepurita::first_fault;
 use image::Image;
 use language::Args;
-use std::alloc::{AllocError, Global};
 
 /// The most entries of a schedule that are followed.
 pub const MOST_TURNS: usize = 1_048_576;
@@ -30,23 +29,22 @@ fn check_count(harts: usize) -> Result<(), HartsFault>
 }
 
 /// The first fault of a hart's arguments.
-fn argument_fault(alloc: Global, job: &(Image, Args)) -> Result<Option<ArgumentFault>, AllocError>
-    ensures fault { IfOk result (λ fault. fault ≡ fault_in (job_of job.now)) }
-    ensures within { IfOk result (λ fault. fault ≡ None → IsRunnable (job_of job.now)) }
+fn argument_fault(job: &(Image, Args)) -> Option<ArgumentFault>
+    ensures fault { result ≡ fault_in (job_of job.now) }
+    ensures within { result ≡ None → IsRunnable (job_of job.now) }
 {
     let (image, args) = job;
-    let params = params(alloc, image)?;
-    Ok(first_fault(params.as_slice(), args))
+    first_fault(image, args)
 }
 
 /// The arguments of each hart have to be within its parameters' types.
-fn check_arguments(alloc: Global, jobs: &[(Image, Args)]) -> Result<(), HartsFault>
+fn check_arguments(jobs: &[(Image, Args)]) -> Result<(), HartsFault>
     ensures faultless { OnOk result (All HasNoFault (map job_of jobs.now)) }
     ensures within { OnOk result (All IsRunnable (map job_of jobs.now)) }
-    ensures refused { IfErr result (λ fault. fault ≢ HartsFault.Memory → RefusesArguments (map job_of jobs.now) fault) }
+    ensures refused { IfErr result (RefusesArguments (map job_of jobs.now)) }
 {
     for (hart, job) in jobs.iter().enumerate() {
-        if let Some(ArgumentFault { rule, index }) = argument_fault(alloc, job)? {
+        if let Some(ArgumentFault { rule, index }) = argument_fault(job) {
             return Err(HartsFault::Argument { hart, rule, index });
         }
     }
@@ -73,13 +71,13 @@ fn check_schedule(harts: usize, schedule: &[u8]) -> Result<(), HartsFault>
 }
 
 /// Refuses harts and schedules by the first rule that they break: first the count of harts, then the
-/// arguments of hart after hart, then the schedule's entries.
-pub fn check(alloc: Global, jobs: &[(Image, Args)], schedule: &[u8]) -> Result<(), HartsFault>
+/// arguments of hart after hart, then the schedule's entries. It takes no memory.
+pub fn check(jobs: &[(Image, Args)], schedule: &[u8]) -> Result<(), HartsFault>
     ensures allowed { OnOk result (AreAllowed (map job_of jobs.now) schedule.now) }
     ensures within { OnOk result (All IsRunnable (map job_of jobs.now)) }
-    ensures refused { IfErr result (λ fault. fault ≢ HartsFault.Memory → Refuses (map job_of jobs.now) schedule.now fault) }
+    ensures refused { IfErr result (Refuses (map job_of jobs.now) schedule.now) }
 {
     check_count(jobs.len())?;
-    check_arguments(alloc, jobs)?;
+    check_arguments(jobs)?;
     check_schedule(jobs.len(), schedule)
 }

@@ -21,7 +21,7 @@ use Rattle.arguments.specs.Agreement.{Agree}
 use Rattle.arguments.specs.PublicResults.{AgreeInPublic}
 use Rattle.hepurita.specs.Bases.{code_base, frame_base}
 use Rattle.codegen.specs.Bases.{AreBases}
-use Rattle.hepurita.specs.Compiled.{IsCompiled, Means, RunsTo}
+use Rattle.hepurita.specs.Compiled.{IsCompiled, Means, RunsTo, TwoRuns}
 use Rattle.codegen.specs.Loaded.{params_of, code_at, loaded_at, results_in}
 use Rattle.language.specs.declared.signature.Param.{Param}
 use Rattle.language.specs.declared.values.Arg.{Arg}
@@ -74,10 +74,10 @@ module _ (program : ProgramTree) (before : List ProcedureTree) (export : Procedu
   run_on args within = is.compiled.results code_base frame_base args is.bases within
 
   -- a run that no recorder cuts short is that one
-  pub is_run : (args : List Arg) (within : AreWithin (params_of image) args) (keeps : Bool) (list after : List Observation) (stop : Stop) (end : State) → Ran (code_at code_base image) keeps image.max_steps (loaded_at code_base frame_base image args) list stop end after → stop ≢ RecorderRefused → (stop ≡ Ecall) × (end ≡ (run_on args within).end) × (after ≡ kept keeps list (run_on args within).seen)
+  pub is_run : (args : List Arg) (within : AreWithin (params_of image) args) (keeps : Bool) (list after : List Observation) (stop : Stop) (end : State) → Ran (code_at code_base image) keeps image.max_steps (loaded_at code_base frame_base image args) list stop end after → stop ≢ RecorderRefused → (stop ≡ Ecall) × (end ≡ (run_on args within).run.end) × (after ≡ kept keeps list (run_on args within).run.seen)
   is_run args within keeps list after stop end run calm =
       let to = run_on args within in
-      Ran-halts keeps list to.halts to.within_steps run calm
+      Ran-halts keeps list to.run.halts to.within_steps run calm
 
   -- ---- execute
 
@@ -102,7 +102,7 @@ module _ (program : ProgramTree) (before : List ProcedureTree) (export : Procedu
       subst (λ (r : Result Results RunFault). IsTheOutcome program args r) (sym answered) (outcome_at args within keeps list after end stop run)
 
   -- the results of a run that ends by ECALL, and what it showed
-  left_at : (args : List Arg) (within : AreWithin (params_of image) args) (keeps : Bool) (list after : List Observation) (end : State) (outcome : Results) (stop : Stop) → Ran (code_at code_base image) keeps image.max_steps (loaded_at code_base frame_base image args) list stop end after → Ok outcome ≡ answer_at frame_base image stop end.bytes → (outcome ≡ results_in frame_base image (run_on args within).end.bytes) × (after ≡ kept keeps list (run_on args within).seen)
+  left_at : (args : List Arg) (within : AreWithin (params_of image) args) (keeps : Bool) (list after : List Observation) (end : State) (outcome : Results) (stop : Stop) → Ran (code_at code_base image) keeps image.max_steps (loaded_at code_base frame_base image args) list stop end after → Ok outcome ≡ answer_at frame_base image stop end.bytes → (outcome ≡ results_in frame_base image (run_on args within).run.end.bytes) × (after ≡ kept keeps list (run_on args within).run.seen)
   left_at args within keeps list after end outcome Ecall run answered =
       let ended = is_run args within keeps list after Ecall end run (λ h. cc) in
       let there : outcome ≡ results_in frame_base image end.bytes = cc in
@@ -114,17 +114,27 @@ module _ (program : ProgramTree) (before : List ProcedureTree) (export : Procedu
   left_at args within keeps list after end outcome Budget run answered = cc
   left_at args within keeps list after end outcome RecorderRefused run answered = cc
 
-  pub left : (args : List Arg) (keeps : Bool) (list after : List Observation) (outcome : Results) (within : AreWithin (params_of image) args) → Executed image args keeps list (Ok outcome) after → (outcome ≡ results_in frame_base image (run_on args within).end.bytes) × (after ≡ kept keeps list (run_on args within).seen)
+  pub left : (args : List Arg) (keeps : Bool) (list after : List Observation) (outcome : Results) (within : AreWithin (params_of image) args) → Executed image args keeps list (Ok outcome) after → (outcome ≡ results_in frame_base image (run_on args within).run.end.bytes) × (after ≡ kept keeps list (run_on args within).run.seen)
   left args keeps list after outcome within (ran {stop} {end} none run answered) = left_at args within keeps list after end outcome stop run answered
 
   -- ---- two lists of arguments
 
   module _ (one other : List Arg) (agree : Agree (params_of image) one other) where
-    same_shown : (run_on one agree.one_within).seen ≡ (run_on other agree.other_within).seen
-    same_shown =
-        let a = run_on one agree.one_within in
-        let b = run_on other agree.other_within in
-        is.compiled.equal_leakage code_base frame_base one other a.turns b.turns a.seen b.seen a.end b.end is.bases agree a.halts b.halts
+    -- the runs on both
+    abbrev both_runs : TwoRuns image
+    both_runs = record {
+      code = code_base;
+      frame = frame_base;
+      bases = is.bases;
+      args = one;
+      args' = other;
+      agree = agree;
+      one = (run_on one agree.one_within).run;
+      other = (run_on other agree.other_within).run;
+    }
+
+    pub same_shown : (run_on one agree.one_within).run.seen ≡ (run_on other agree.other_within).run.seen
+    same_shown = is.compiled.equal_leakage both_runs
 
     pub one_list : (keeps : Bool) (list after after' : List Observation) (a b : Results) → Executed image one keeps list (Ok a) after → Executed image other keeps list (Ok b) after' → after ≡ after'
     one_list keeps list after after' a b first second =
@@ -134,15 +144,13 @@ module _ (program : ProgramTree) (before : List ProcedureTree) (export : Procedu
 
     pub public_results : (keeps : Bool) (list after after' : List Observation) (x y : Results) → Executed image one keeps list (Ok x) after → Executed image other keeps list (Ok y) after' → AgreeInPublic (params_of image) export.result x y
     public_results keeps list after after' x y first second =
-        let a = run_on one agree.one_within in
-        let b = run_on other agree.other_within in
         subst (λ (r : Results). AgreeInPublic (params_of image) export.result r y) (sym (left one keeps list after x agree.one_within first).0)
-        (subst (λ (r : Results). AgreeInPublic (params_of image) export.result (results_in frame_base image a.end.bytes) r) (sym (left other keeps list after' y agree.other_within second).0)
-        (is.compiled.public_results code_base frame_base one other a.turns b.turns a.seen b.seen a.end b.end is.bases agree a.halts b.halts))
+        (subst (λ (r : Results). AgreeInPublic (params_of image) export.result (results_in frame_base image (run_on one agree.one_within).run.end.bytes) r) (sym (left other keeps list after' y agree.other_within second).0)
+        (is.compiled.public_results both_runs))
 
     -- what is observed of a run is what it shows
-    seen_of : (args : List Arg) (within : AreWithin (params_of image) args) (list : List Observation) → Observed image args list → list ≡ (run_on args within).seen
-    seen_of args within list (stop, end, calm, run) = (is_run args within true [] list stop end run calm).2
+    seen_of : (args : List Arg) (within : AreWithin (params_of image) args) (list : List Observation) → Observed image args list → list ≡ (run_on args within).run.seen
+    seen_of args within list (stop, (end, (run, calm))) = (is_run args within true [] list stop end (list, run, refl) calm).2
 
     -- nothing differs from itself
     compares_same : (list list' : List Entry) (pairing : Pairing) → list ≡ list' → Compares list list' pairing → pairing ≡ Same

@@ -21,7 +21,7 @@ use Rattle.rv_machine.specs.declared.pairing.Pairing.TheVariants.{Same, Differ}
 use Rattle.rv_machine.specs.declared.stops.Stop.{Stop}
 use Rattle.rv_machine.specs.declared.stops.Stop.TheVariants.{Ecall, Break, Illegal, AccessFault, Misaligned, Budget, RecorderRefused}
 use Rattle.rv_machine.proofs.EntryLaws.{differ-apart, first-unique}
-use Rattle.rv_machine.proofs.RunLaws.{Ran-determined, Ran-beginning}
+use Rattle.rv_machine.proofs.RunLaws.{Runs-determined, Ran-determined, Ran-beginning}
 use Rattle.hepurita.specs.Bases.{frame_base}
 use Rattle.hepurita.specs.Executed.{Executed, refused, out_of_memory, ran, answer_at, WantsMemory}
 use Rattle.hepurita.specs.Paired.{Paired, Observed, pair_fault}
@@ -90,7 +90,7 @@ begun_execution image args keeps list one other a b (ran {stop} {end} none run a
 
 -- what an observer sees of a run is one list
 one_list : (image : Fields) (args : List Arg) (one other : List Observation) → Observed image args one → Observed image args other → one ≡ other
-one_list image args one other (stop, end, calm, run) (stop', end', calm', run') = (Ran-determined true [] run run' calm calm').2
+one_list image args one other (stop, (end, (run, calm))) (stop', (end', (run', calm'))) = (Runs-determined run run' calm calm').0
 
 one_answer : (one other : List Entry) (a b : Pairing) → Compares one other a → Compares one other b → a ≡ b
 one_answer one other Same Same is also = refl

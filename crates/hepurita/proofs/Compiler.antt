@@ -8,15 +8,12 @@ use Rattle.branch_removal.specs.Straight.{StraightProgram}
 use Rattle.branch_removal.specs.StraightMeaning.{outcome_of, path_of}
 use Rattle.codegen.specs.Bases.{AreBases}
 use Rattle.codegen.specs.Followed.{RunsAs, IsGenerated}
-use Rattle.codegen.specs.Loaded.{params_of, code_at, loaded_at, results_in}
+use Rattle.codegen.specs.Loaded.{params_of, results_in}
 use Rattle.image_fields.specs.Fields.{Fields}
 use Rattle.inline.specs.FlatMeaning.{outcome_of as outcome_of_flat}
 use Rattle.inline.specs.Numbering.{flattened, param_of}
 use Rattle.inline.specs.Path.{seen as seen_of}
 use Rattle.intervals.specs.Work.{ranged, work_of}
-use Rattle.rv_machine.specs.declared.observation.Observation.{Observation}
-use Rattle.rv_machine.specs.declared.stops.Stop.TheVariants.{Ecall}
-use Rattle.rv_machine.specs.Leakage.{Halts}
 use Rattle.rv_machine.specs.Machine.{State}
 use Rattle.rv_machine.proofs.RunLaws.{Halts-determined}
 use Rattle.language.specs.declared.signature.Param.{Param}
@@ -24,7 +21,7 @@ use Rattle.language.specs.declared.typing.WordType.{WordType}
 use Rattle.language.specs.declared.values.Arg.{Arg}
 use Rattle.language.specs.Results.{Results}
 use Rattle.language.specs.Tree.{ProcedureTree, ProgramTree}
-use Rattle.hepurita.specs.Compiled.{Means, RunsTo, IsCompiled}
+use Rattle.hepurita.specs.Compiled.{Means, WholeRun, RunsTo, TwoRuns, IsCompiled}
 use Rattle.source_work.specs.SourceWork.{source_work}
 use Rattle.word.specs.declared.profile.Profile.{Profile}
 
@@ -62,36 +59,41 @@ module _ (profile : Profile) (program : ProgramTree) (before : List ProcedureTre
   runs_to code frame args bases fits =
       let run = run_of code frame args bases (within args fits) in
       record {
-        turns = run.turns;
-        seen = (generated.follows code frame bases).shown (seen_of straight.profile (path_of straight args));
-        end = run.end;
-        halts = run.halts;
+        run = record {
+          turns = run.turns;
+          seen = (generated.follows code frame bases).shown (seen_of straight.profile (path_of straight args));
+          end = run.end;
+          halts = run.halts;
+        };
         within_steps = run.within_steps;
         within_frame = run.within_frame;
         outcome = subst (λ (results : Results). Means program args results) (sym (run.outcome ∙ removed.outcome args (straight_within args (within args fits)))) (means args (within args fits));
       }
 
-  -- each run that halts shows the one list of its path, and leaves the one outcome
-  one_list : (code frame : ℕ) (args : List Arg) (n : ℕ) (seen : List Observation) (s : State) (bases : AreBases image code frame) → AreWithin (map param_of p.parameters) args → Halts (code_at code image) n (loaded_at code frame image args) seen Ecall s →
-      (seen ≡ (generated.follows code frame bases).shown (seen_of straight.profile (path_of straight args))) × (results_in frame image s.bytes ≡ outcome_of straight args)
-  one_list code frame args n seen s bases fits stopped =
+  -- each whole run shows the one list of its path, and leaves the one outcome
+  one_list : (code frame : ℕ) (args : List Arg) (whole : WholeRun image code frame args) (bases : AreBases image code frame) → AreWithin (map param_of p.parameters) args →
+      (whole.seen ≡ (generated.follows code frame bases).shown (seen_of straight.profile (path_of straight args))) × (results_in frame image whole.end.bytes ≡ outcome_of straight args)
+  one_list code frame args whole bases fits =
       let run = run_of code frame args bases fits in
-      let same = Halts-determined stopped run.halts in
+      let same = Halts-determined whole.halts run.halts in
       (same.1, ap (λ (t : State). results_in frame image t.bytes) same.3 ∙ run.outcome)
 
-  same_list : (code frame : ℕ) (one other : List Arg) (m n : ℕ) (seen seen' : List Observation) (s t : State) → AreBases image code frame → Agree (params_of image) one other → Halts (code_at code image) m (loaded_at code frame image one) seen Ecall s → Halts (code_at code image) n (loaded_at code frame image other) seen' Ecall t → seen ≡ seen'
-  same_list code frame one other m n seen seen' s t bases agree first second =
-      let both = agreeing one other agree in
-      (one_list code frame one m seen s bases both.one_within first).0
-      ∙ (ap (generated.follows code frame bases).shown (removed.paths one other (straight_agreeing one other both)) ∙ sym (one_list code frame other n seen' t bases both.other_within second).0)
+  same_list : (runs : TwoRuns image) → runs.one.seen ≡ runs.other.seen
+  same_list runs =
+      let both = agreeing runs.args runs.args' runs.agree in
+      (one_list runs.code runs.frame runs.args runs.one runs.bases both.one_within).0
+      ∙ (ap (generated.follows runs.code runs.frame runs.bases).shown (removed.paths runs.args runs.args' (straight_agreeing runs.args runs.args' both))
+      ∙ sym (one_list runs.code runs.frame runs.args' runs.other runs.bases both.other_within).0)
 
-  same_results : (code frame : ℕ) (one other : List Arg) (m n : ℕ) (seen seen' : List Observation) (s t : State) → AreBases image code frame → Agree (params_of image) one other → Halts (code_at code image) m (loaded_at code frame image one) seen Ecall s → Halts (code_at code image) n (loaded_at code frame image other) seen' Ecall t → AgreeInPublic (params_of image) p.result (results_in frame image s.bytes) (results_in frame image t.bytes)
-  same_results code frame one other m n seen seen' s t bases agree first second =
-      let both = agreeing one other agree in
-      let here = (one_list code frame one m seen s bases both.one_within first).1 in
-      let there = (one_list code frame other n seen' t bases both.other_within second).1 in
+  same_results : (runs : TwoRuns image) → AgreeInPublic (params_of image) p.result (results_in runs.frame image runs.one.end.bytes) (results_in runs.frame image runs.other.end.bytes)
+  same_results runs =
+      let one = runs.args in
+      let other = runs.args' in
+      let both = agreeing one other runs.agree in
+      let here = (one_list runs.code runs.frame one runs.one runs.bases both.one_within).1 in
+      let there = (one_list runs.code runs.frame other runs.other runs.bases both.other_within).1 in
       let public = removed.public one other (straight_agreeing one other both) in
-      subst (λ (x : Results). AgreeInPublic (params_of image) p.result x (results_in frame image t.bytes)) (sym here)
+      subst (λ (x : Results). AgreeInPublic (params_of image) p.result x (results_in runs.frame image runs.other.end.bytes)) (sym here)
       (subst (λ (y : Results). AgreeInPublic (params_of image) p.result (outcome_of straight one) y) (sym there)
       (subst (λ (params : List Param). AgreeInPublic params p.result (outcome_of straight one) (outcome_of straight other)) (removed.parameters ∙ sym same_params)
       (subst (λ (returned : Option WordType). AgreeInPublic straight.parameters returned (outcome_of straight one) (outcome_of straight other)) removed.returned public)))

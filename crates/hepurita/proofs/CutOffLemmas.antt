@@ -5,10 +5,11 @@ use Rattle.std.proofs.lemmas.List.{take_all}
 use Rattle.arguments.specs.Agreement.{Agree}
 use Rattle.arguments.specs.Within.{AreWithin}
 use Rattle.codegen.specs.Loaded.{params_of, results_in}
-use Rattle.hepurita.proofs.AnswerLemmas.{Fits, run_on}
-use Rattle.hepurita.specs.Bases.{code_base, frame_base}
+use Rattle.hepurita.proofs.AnswerLemmas.{Fits, run_on, same_shown}
+use Rattle.hepurita.specs.Bases.{frame_base}
 use Rattle.hepurita.specs.Compiled.{Means}
-use Rattle.hepurita.specs.CutOff.{RunsFor, IsRightSoFar}
+use Rattle.hepurita.specs.CutOff.{IsRightSoFar}
+use Rattle.hepurita.specs.Uncut.{RunsFor}
 use Rattle.image_fields.specs.Fields.{Fields}
 use Rattle.language.specs.Tree.{ProcedureTree, ProgramTree}
 use Rattle.language.specs.declared.values.Arg.{Arg}
@@ -69,24 +70,21 @@ begun {given = given} (halts {n = n} {seen = seen} {last = last} first end is) (
     }
 
 module _ (program : ProgramTree) (before : List ProcedureTree) (export : ProcedureTree) (image : Fields) (is : Fits program before export image) where
-  begun_on : (args : List Arg) (within : AreWithin (params_of image) args) (given : ℕ) (seen : List Observation) (stop : Stop) (end : State) → RunsFor given image args seen stop end → (let to = run_on program before export image is args within in Begun to.turns given to.seen Ecall to.end seen stop end)
+  begun_on : (args : List Arg) (within : AreWithin (params_of image) args) (given : ℕ) (seen : List Observation) (stop : Stop) (end : State) → RunsFor given image args seen stop end → (let to = run_on program before export image is args within in Begun to.run.turns given to.run.seen Ecall to.run.end seen stop end)
   begun_on args within given seen stop end run =
-      begun (run_on program before export image is args within).halts run.0 run.1
+      begun (run_on program before export image is args within).run.halts run.0 run.1
 
   pub right_so_far : (args : List Arg) (given : ℕ) (seen : List Observation) (stop : Stop) (end : State) → AreWithin (params_of image) args → RunsFor given image args seen stop end → IsRightSoFar program image args given stop end
   right_so_far args given seen stop end within run =
       let to = run_on program before export image is args within in
       let steps = to.within_steps in
       ⊎_elim
-      (λ (it : (stop ≡ Ecall) × (end ≡ to.end)). inl (it.0, subst (λ (t : State). Means program args (results_in frame_base image t.bytes)) (sym it.1) to.outcome))
-      (λ (it : (stop ≡ Budget) × (given < to.turns)). let fewer = it.1 in inr (it.0, omega (arith, fewer, steps)))
+      (λ (it : (stop ≡ Ecall) × (end ≡ to.run.end)). inl (it.0, subst (λ (t : State). Means program args (results_in frame_base image t.bytes)) (sym it.1) to.outcome))
+      (λ (it : (stop ≡ Budget) × (given < to.run.turns)). let fewer = it.1 in inr (it.0, omega (arith, fewer, steps)))
       (begun_on args within given seen stop end run).ended
 
   pub same_so_far : (one other : List Arg) (given : ℕ) (seen seen' : List Observation) (stop stop' : Stop) (end end' : State) → Agree (params_of image) one other → RunsFor given image one seen stop end → RunsFor given image other seen' stop' end' → seen ≡ seen'
   same_so_far one other given seen seen' stop stop' end end' agree run run' =
-      let a = run_on program before export image is one agree.one_within in
-      let b = run_on program before export image is other agree.other_within in
-      let same : a.seen ≡ b.seen = is.compiled.equal_leakage code_base frame_base one other a.turns b.turns a.seen b.seen a.end b.end is.bases agree a.halts b.halts in
       (begun_on one agree.one_within given seen stop end run).shown
-      ∙ ap (take given) same
+      ∙ ap (take given) (same_shown program before export image is one other agree)
       ∙ sym (begun_on other agree.other_within given seen' stop' end' run').shown

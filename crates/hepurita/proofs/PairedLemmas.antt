@@ -1,5 +1,5 @@
 -- What is answered to two lists of arguments, case by case.
-use Rattle.std.proofs.Common.{◌≡◌, ℕ, List, Some, None, Result, Err, refl, sym, subst}
+use Rattle.std.proofs.Common.{◌≡◌, ℕ, List, Some, None, Result, Err, sym, subst}
 use Rattle.arguments.specs.declared.fault.ArgumentFault.{ArgumentFault}
 use Rattle.image_fields.specs.Fields.{Fields}
 use Rattle.rv_machine.specs.Leakage.{IsShown}
@@ -26,4 +26,4 @@ observed_from image args code steps s seen code_is steps_is s_is shown =
     subst (λ (x : State). IsShown (code_at code_base image) image.max_steps x seen) s_is
     (subst (λ (x : ℕ). IsShown (code_at code_base image) x s seen) steps_is
     (subst (λ (x : Code). IsShown x steps s seen) code_is shown)) in
-    (there.0, there.1, there.3, (seen, there.2, refl))
+    (there.0, (there.1, (there.2, there.3)))

@@ -25,15 +25,30 @@ pub record Means (program : ProgramTree) (args : List Arg) (results : Results) :
   pub given : Gives program args (gives results)
   pub alone : (other : Ending Results) → Gives program args other → other ≡ gives results
 
--- a run that gives what the source means, within the stated steps and the frame
-pub record RunsTo (program : ProgramTree) (image : Fields) (code frame : ℕ) (args : List Arg) : Type 0 where
+-- the image's run on arguments, at these bases: from where it is loaded to the ECALL that stops it
+pub record WholeRun (image : Fields) (code frame : ℕ) (args : List Arg) : Type 0 where
   pub turns : ℕ
   pub seen : List Observation
   pub end : State
   pub halts : Halts (code_at code image) turns (loaded_at code frame image args) seen Ecall end
-  pub within_steps : turns ≤ image.max_steps
-  pub within_frame : All (λ (o : Observation). IsInside frame image.frame_bytes o.event) seen
-  pub outcome : Means program args (results_in frame image end.bytes)
+
+-- a run that gives what the source means, within the stated steps and the frame
+pub record RunsTo (program : ProgramTree) (image : Fields) (code frame : ℕ) (args : List Arg) : Type 0 where
+  pub run : WholeRun image code frame args
+  pub within_steps : run.turns ≤ image.max_steps
+  pub within_frame : All (λ (o : Observation). IsInside frame image.frame_bytes o.event) run.seen
+  pub outcome : Means program args (results_in frame image run.end.bytes)
+
+-- two runs of the image, at the same bases, on two lists of arguments that agree
+pub record TwoRuns (image : Fields) : Type 0 where
+  pub code : ℕ
+  pub frame : ℕ
+  pub bases : AreBases image code frame
+  pub args : List Arg
+  pub args' : List Arg
+  pub agree : Agree (params_of image) args args'
+  pub one : WholeRun image code frame args
+  pub other : WholeRun image code frame args'
 
 -- the image is the program's exported procedure, with the bodies of those before it where it calls them
 pub record IsCompiled (program : ProgramTree) (before : List ProcedureTree) (p : ProcedureTree) (image : Fields) : Type 0 where
@@ -44,7 +59,7 @@ pub record IsCompiled (program : ProgramTree) (before : List ProcedureTree) (p :
   pub word_count : length image.words ≤ 32 * nodes_of (extents_of before) p + 64
   -- results: on all arguments within the parameter types
   pub results : (code frame : ℕ) (args : List Arg) → AreBases image code frame → AreWithin (params_of image) args → RunsTo program image code frame args
-  -- equal leakage: two lists of arguments that agree show one and the same list of observations
-  pub equal_leakage : (code frame : ℕ) (one other : List Arg) (m n : ℕ) (seen seen' : List Observation) (s t : State) → AreBases image code frame → Agree (params_of image) one other → Halts (code_at code image) m (loaded_at code frame image one) seen Ecall s → Halts (code_at code image) n (loaded_at code frame image other) seen' Ecall t → seen ≡ seen'
-  -- and give one and the same return and `mut` arrays, where these are public
-  pub public_results : (code frame : ℕ) (one other : List Arg) (m n : ℕ) (seen seen' : List Observation) (s t : State) → AreBases image code frame → Agree (params_of image) one other → Halts (code_at code image) m (loaded_at code frame image one) seen Ecall s → Halts (code_at code image) n (loaded_at code frame image other) seen' Ecall t → AgreeInPublic (params_of image) p.result (results_in frame image s.bytes) (results_in frame image t.bytes)
+  -- equal leakage: two runs on arguments that agree show one and the same list of observations
+  pub equal_leakage : (runs : TwoRuns image) → runs.one.seen ≡ runs.other.seen
+  -- and leave one and the same return and `mut` arrays, where these are public
+  pub public_results : (runs : TwoRuns image) → AgreeInPublic (params_of image) p.result (results_in runs.frame image runs.one.end.bytes) (results_in runs.frame image runs.other.end.bytes)

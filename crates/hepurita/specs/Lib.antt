@@ -9,3 +9,4 @@ pub mod Built
 pub mod Answers
 pub mod Text
 pub mod CutOff
+pub mod Uncut

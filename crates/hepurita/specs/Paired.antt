@@ -1,22 +1,19 @@
 -- What two runs of an image look like side by side.
-use Rattle.std.specs.Prelude.{◌≡◌, ◌≢◌, ℕ, ◌+◌, ◌==◌, ◌&&◌, true, List, [], length, Option, Some, None, Result, Ok, Err, if◌then◌else◌}
+use Rattle.std.specs.Prelude.{◌≡◌, ℕ, ◌+◌, ◌==◌, ◌&&◌, List, length, Option, Some, None, Result, Ok, Err, if◌then◌else◌}
 use Rattle.std.specs.Option.{option_map}
 use Rattle.arguments.specs.Faults.{fault_of, count_fault}
 use Rattle.arguments.specs.declared.fault.ArgumentFault.{ArgumentFault}
 use Rattle.image_fields.specs.Fields.{Fields}
 use Rattle.rv_machine.specs.Entries.{entries_of, Compares}
 use Rattle.rv_machine.specs.declared.pairing.Pairing.{Pairing}
-use Rattle.rv_machine.specs.Leakage.{Ran}
-use Rattle.rv_machine.specs.Machine.{State}
 use Rattle.rv_machine.specs.declared.observation.Observation.{Observation}
 use Rattle.rv_machine.specs.declared.stops.Stop.{Stop}
-use Rattle.rv_machine.specs.declared.stops.Stop.TheVariants.{RecorderRefused}
 use Rattle.language.specs.declared.signature.Param.{Param}
 use Rattle.language.specs.declared.values.Arg.{Arg}
 use Rattle.hepurita.specs.declared.fault.RunFault.{RunFault}
 use Rattle.hepurita.specs.declared.fault.RunFault.TheVariants.{Argument, Memory}
-use Rattle.hepurita.specs.Bases.{code_base, frame_base}
-use Rattle.codegen.specs.Loaded.{params_of, code_at, loaded_at}
+use Rattle.hepurita.specs.Uncut.{ImageEnds}
+use Rattle.codegen.specs.Loaded.{params_of}
 
 -- a fault of the second list: its arguments are numbered after those of the first
 abbrev pub shifted : ℕ → ArgumentFault → ArgumentFault
@@ -35,9 +32,7 @@ pair_fault params one other =
 
 -- what an observer sees of the image's run on arguments
 abbrev pub Observed : Fields → List Arg → List Observation → Type 0
-Observed image args list =
-    (stop : Stop) × (end : State) × (stop ≢ RecorderRefused)
-    × Ran (code_at code_base image) true image.max_steps (loaded_at code_base frame_base image args) [] stop end list
+Observed image args list = (stop : Stop) × ImageEnds image args list stop
 
 -- what is answered for two lists of arguments: they are refused by their first fault; else memory may be wanting, or what is observed is
 -- compared

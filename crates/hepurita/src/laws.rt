@@ -21,7 +21,7 @@ ghost use Rattle.language.specs.Limits.{most_nodes};
 ghost use Rattle.hepurita.specs.Bases.{code_base, frame_base, most_images, code_distance, frame_distance};
 ghost use Rattle.hepurita.specs.Built.{IsBuilt, Judges, JudgesProgram, accepts};
 ghost use Rattle.hepurita.specs.Compiled.{IsCompiled, Means};
-ghost use Rattle.hepurita.specs.CutOff.{RunsFor, IsRightSoFar};
+ghost use Rattle.hepurita.specs.CutOff.{IsRightSoFar};
 ghost use Rattle.source_eval.specs.Answer.{answer};
 ghost use Rattle.codegen.specs.Loaded.{params_of};
 ghost use Rattle.syntax.specs.Reading.{Reads, accepted};
@@ -34,6 +34,7 @@ ghost use Rattle.hepurita.specs.declared.fault.RunFault.{RunFault};
 ghost use Rattle.hepurita.specs.Answers.{Builds, IsTheOutcome, IsSame};
 ghost use Rattle.hepurita.specs.Executed.{Executed, WantsMemory};
 ghost use Rattle.hepurita.specs.Paired.{Paired};
+ghost use Rattle.hepurita.specs.Uncut.{RunsFor};
 
 use arguments::faultless_arguments;
 use syntax::one_answer_for_a_text;

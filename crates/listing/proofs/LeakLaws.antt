@@ -11,12 +11,13 @@ use Rattle.rv_machine.proofs.RunLaws.{Runs-determined}
 use Rattle.streams.specs.Streams.{Writes, WritesPart}
 use Rattle.listing.specs.declared.fault.LeakFault.{LeakFault}
 use Rattle.listing.specs.declared.fault.LeakFault.TheVariants.{Argument, Memory, Write}
-use Rattle.listing.specs.Leaked.{Leaks, refused, out_of_memory, cut_off, ran, ImageEnds, IsLeak}
+use Rattle.hepurita.specs.Uncut.{ImageEnds}
+use Rattle.listing.specs.Leaked.{Leaks, refused, out_of_memory, cut_off, ran, IsLeak}
 use Rattle.listing.specs.Listings.{listing}
 
 -- the run of an image shows one list and has one stop
 one_end : (image : Fields) (args : List Arg) (seen more : List Observation) (stop other : Stop) → ImageEnds image args seen stop → ImageEnds image args more other → (seen ≡ more) × (stop ≡ other)
-one_end image args seen more stop other (end, run, calm) (end', run', calm') =
+one_end image args seen more stop other (end, (run, calm)) (end', (run', calm')) =
     let same = Runs-determined run run' calm calm' in
     (same.0, same.1)
 

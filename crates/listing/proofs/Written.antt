@@ -63,7 +63,7 @@ ends_from : (code : Code) (budget : ℕ) (s : State) (k : ℕ) (t : State) (seen
 ends_from code budget s k t seen led within =
     let run = run_of_state code (budget - k) t in
     let e : k + (budget - k) ≡ budget = omega arith in
-    (run.0, run.1, (run.2, subst (λ n. Runs code n s (seen ++ run.0) run.1 run.2) e (Runs-after led run.3), run.4))
+    (run.0, run.1, (run.2, (subst (λ n. Runs code n s (seen ++ run.0) run.1 run.2) e (Runs-after led run.3), run.4)))
 
 -- so many turns were made from a state, which showed this
 module _ (code : Code) (budget : ℕ) (s : State) (k : ℕ) (t : State) (seen : List Observation) (led : Leads code k s seen t) where
@@ -75,11 +75,11 @@ module _ (code : Code) (budget : ℕ) (s : State) (k : ℕ) (t : State) (seen : 
 
   -- the next one stops
   pub ends_here : (last : List Observation) (stop : Stop) → k < budget → Turn code t (stops last stop) → Ends code budget s (seen ++ last) stop
-  ends_here last stop within turn = (t, halted (omega arith) (halts led turn refl), (turn_stops code t last stop turn).0)
+  ends_here last stop within turn = (t, (halted (omega arith) (halts led turn refl), (turn_stops code t last stop turn).0))
 
   -- no more are allowed
   pub ends_spent : k ≡ budget → Ends code budget s seen Budget
-  ends_spent all = (t, spent (subst (λ n. Leads code n s seen t) all led), λ e. cc)
+  ends_spent all = (t, (spent (subst (λ n. Leads code n s seen t) all led), λ e. cc))
 
   -- a turn is made, and the run goes on to its end
   pub ends_after : (last : Option Observation) (answer : Option Stop) (u : State) → k < budget → Turned code t last answer u → (more : List Observation) × (stop : Stop) × Ends code budget s ((seen ++ listed last) ++ more) stop

@@ -6,17 +6,14 @@ use Rattle.codegen.specs.Loaded.{params_of, code_at, loaded_at}
 use Rattle.hepurita.specs.Bases.{code_base, frame_base}
 use Rattle.image_fields.specs.Fields.{Fields}
 use Rattle.language.specs.declared.values.Arg.{Arg}
+use Rattle.hepurita.specs.Uncut.{ImageEnds}
 use Rattle.rv_machine.specs.declared.observation.Observation.{Observation}
 use Rattle.rv_machine.specs.declared.stops.Stop.{Stop}
 use Rattle.listing.specs.declared.fault.LeakFault.{LeakFault}
 use Rattle.listing.specs.declared.fault.LeakFault.TheVariants.{Argument, Memory, Write}
-use Rattle.listing.specs.Listings.{Ends, IsListing}
+use Rattle.listing.specs.Listings.{IsListing}
 
--- the run of the image, loaded with these arguments, shows this within its steps and stops so
-abbrev pub ImageEnds : Fields → List Arg → List Observation → Stop → Type 0
-ImageEnds image args seen stop = Ends (code_at code_base image) image.max_steps (loaded_at code_base frame_base image args) seen stop
-
--- these bytes are the listing of that run, which stops so
+-- these bytes are the listing of the run of the image, loaded with these arguments, within its steps, which stops so
 abbrev pub IsLeak : Fields → List Arg → Stop → List ℕ → Type 0
 IsLeak image args stop bytes = IsListing (code_at code_base image) image.max_steps (loaded_at code_base frame_base image args) stop bytes
 

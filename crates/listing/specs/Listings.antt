@@ -1,10 +1,9 @@
 -- The listings of runs: a line for each entry that an observer sees, and then the stop.
-use Rattle.std.specs.Prelude.{◌≡◌, ◌≢◌, ℕ, ◌++◌, List}
+use Rattle.std.specs.Prelude.{◌≡◌, ℕ, ◌++◌, List}
 use Rattle.rv_machine.specs.declared.observation.Observation.{Observation}
 use Rattle.rv_machine.specs.declared.stops.Stop.{Stop}
-use Rattle.rv_machine.specs.declared.stops.Stop.TheVariants.{RecorderRefused}
-use Rattle.rv_machine.specs.Leakage.{Runs}
 use Rattle.rv_machine.specs.Machine.{State, Code}
+use Rattle.hepurita.specs.Uncut.{RunsUncut}
 use Rattle.listing.specs.Lines.{lines_of, stop_line}
 
 -- the listing of what was seen, and of this stop
@@ -13,7 +12,7 @@ listing seen stop = lines_of seen ++ stop_line stop
 
 -- a run of at most so many turns, which no recorder cuts short, shows this and stops so
 abbrev pub Ends : Code → ℕ → State → List Observation → Stop → Type 0
-Ends code budget s seen stop = (end : State) × Runs code budget s seen stop end × (stop ≢ RecorderRefused)
+Ends code budget s seen stop = (end : State) × RunsUncut code budget s seen stop end
 
 -- these bytes are the listing of a run of at most so many turns, which stops so
 abbrev pub IsListing : Code → ℕ → State → Stop → List ℕ → Type 0

@@ -1,0 +1,23 @@
+-- Runs of at most so many turns that no recorder cuts short.
+use Rattle.std.specs.Prelude.{◌≢◌, ℕ, List}
+use Rattle.codegen.specs.Loaded.{code_at, loaded_at}
+use Rattle.image_fields.specs.Fields.{Fields}
+use Rattle.language.specs.declared.values.Arg.{Arg}
+use Rattle.rv_machine.specs.Leakage.{Runs}
+use Rattle.rv_machine.specs.Machine.{State, Code}
+use Rattle.rv_machine.specs.declared.observation.Observation.{Observation}
+use Rattle.rv_machine.specs.declared.stops.Stop.{Stop}
+use Rattle.rv_machine.specs.declared.stops.Stop.TheVariants.{RecorderRefused}
+use Rattle.hepurita.specs.Bases.{code_base, frame_base}
+
+-- the run shows this, and has this stop, which is `Budget` where no turn has stopped, and this state
+abbrev pub RunsUncut : Code → ℕ → State → List Observation → Stop → State → Type 0
+RunsUncut code budget s seen stop end = Runs code budget s seen stop end × (stop ≢ RecorderRefused)
+
+-- the same of an image, loaded with these arguments
+abbrev pub RunsFor : ℕ → Fields → List Arg → List Observation → Stop → State → Type 0
+RunsFor turns image args seen stop end = RunsUncut (code_at code_base image) turns (loaded_at code_base frame_base image args) seen stop end
+
+-- within its steps it shows this and stops so
+abbrev pub ImageEnds : Fields → List Arg → List Observation → Stop → Type 0
+ImageEnds image args seen stop = (end : State) × RunsFor image.max_steps image args seen stop end
