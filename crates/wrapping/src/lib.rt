@@ -17,6 +17,3 @@ pub use asked::Asked;
 pub use fault::{CodeRule, WrapFault};
 pub use laws::wraps_agree;
 pub use making::wrap;
-
-#[cfg(test)]
-mod tests;
