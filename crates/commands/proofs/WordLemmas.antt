@@ -2,12 +2,15 @@
 use Rattle.std.proofs.Common.{◌≡◌, ◌≢◌, ℕ, ◌+◌, ◌*◌, ◌<◌, ◌==◌, Bool, true, false, cond, List, [], ◌∷◌, length, map, take, drop, Option, Some, None, Result, Ok, Err, refl, sym, ap, ◌∙◌, subst, arith}
 use Rattle.std.specs.Option.{option_map}
 use Rattle.std.proofs.lemmas.Bool.Decides.{Decides-eqb}
+use Rattle.std.proofs.lemmas.Simd.{map-map}
 use Rattle.arguments.specs.Faults.{fault_at, fault_from, fault_by, count_fault}
 use Rattle.arguments.specs.Texts.{numbers_of, fault_of_texts, rule_of_text}
 use Rattle.arguments.specs.Within.{AreWithin, words_of}
 use Rattle.arguments.specs.declared.fault.ArgumentFault.{ArgumentFault}
 use Rattle.arguments.specs.declared.fault.ArgumentRule.{ArgumentRule}
-use Rattle.commands.specs.Words.{AreSpelled, AreBothSpelled, IsFaultOfWords, fault_of_both}
+use Rattle.certificates.specs.Given.{fault_of_given}
+use Rattle.certificates.specs.Texts.{numbers_given}
+use Rattle.commands.specs.Words.{AreSpelled, AreBothSpelled, AreGiven, IsFaultOfWords, fault_of_both}
 use Rattle.hepurita.specs.Paired.{shifted, first_of}
 use Rattle.hepurita.specs.declared.fault.RunFault.{RunFault}
 use Rattle.hepurita.specs.declared.fault.RunFault.TheVariants.{Argument, Memory, Stopped}
@@ -82,3 +85,19 @@ fault_of_second params words why many none h =
 -- a fault of the second list
 pub shifted_fault : (params : List Param) (first : Option ArgumentFault) (rule : ArgumentRule) (index : ℕ) → IsFaultOfWords first (Argument rule (Some index)) → IsFaultOfWords (option_map (shifted (length params)) first) (Argument rule (Some (index + length params)))
 shifted_fault params first rule index h = ap (option_map (shifted (length params))) h
+
+-- arguments that were read for parameters, from words in another form
+pub spelled_from : {A : Type 0} {params others : List Param} {args : List Arg} (texts : List A) (bytes : A → List ℕ) → params ≡ others → AreWithin params args
+    → map (λ arg. Some (words_of arg)) args ≡ map (λ text. numbers_of (bytes text)) texts → AreSpelled others (map bytes texts) args
+spelled_from {args = args} texts bytes same within found = record {
+  within = subst (λ (ps : List Param). AreWithin ps args) same within;
+  numbers = found ∙ sym (map-map numbers_of bytes texts);
+}
+
+-- what was read of given values
+pub given_from : {A : Type 0} {params others : List Param} {given : List (Option Arg)} (texts : List A) (bytes : A → List ℕ) → params ≡ others → fault_of_given params given ≡ None
+    → map (λ one. option_map words_of one) given ≡ map (λ text. numbers_given (bytes text)) texts → AreGiven others (map bytes texts) given
+given_from {given = given} texts bytes same faultless found = record {
+  faultless = subst (λ (ps : List Param). fault_of_given ps given ≡ None) same faultless;
+  numbers = found ∙ sym (map-map numbers_given bytes texts);
+}

@@ -1,5 +1,5 @@
 -- What is asked for, done: what is printed, the exit status, and what files hold then.
-use Rattle.std.specs.Prelude.{◌≡◌, ◌⊎◌, ◌×◌, ℕ, ◌≤◌, List, [], ◌++◌, map, codes}
+use Rattle.std.specs.Prelude.{◌≡◌, ◌⊎◌, ℕ, ◌≤◌, List, [], ◌++◌, map, codes}
 use Rattle.command_line.specs.declared.words.Request.{Request}
 use Rattle.command_line.specs.declared.words.Request.TheVariants as requests
 use Rattle.commands.specs.Certificates.{SaysCertificate, RefusesCertificate}
@@ -15,6 +15,7 @@ use Rattle.commands.specs.WrappedCode.{IsImageOfCode, RefusesCode}
 use Rattle.commands.specs.Written.{WritesFile, FailsToWrite}
 use Rattle.commands.specs.declared.fault.Fault.{Fault}
 use Rattle.streams.specs.Streams.{GainsPart}
+use Rattle.wrapping.specs.declared.asked.Asked.{Asked}
 
 -- the text that answers a request, and the exit status, by what files hold; of harts that run side by side only that the status is one
 abbrev pub Answers : Request → Contents → List ℕ → ℕ → Type 0
@@ -56,7 +57,7 @@ Refuses (requests.Certify image arguments) before after fault =
     RefusesCertificate before image.now (map (λ word. word.now) arguments.now) fault × (after ≡ before)
 Refuses (requests.List image) before after fault = NoImage before image.now fault × (after ≡ before)
 Refuses (requests.Wrap file code image frame steps profile) before after fault =
-    let asked = record { frame_bytes = frame; max_steps = steps; profile = profile } in
+    let asked : Asked = record { frame_bytes = frame; max_steps = steps; profile = profile } in
     FailsToWrite image.now (IsImageOfCode asked before file.now code.now) (RefusesCode asked before file.now code.now) before after fault
 Refuses (requests.Harts file) before after fault = after ≡ before
 

@@ -1,5 +1,5 @@
 -- How files change where a command writes one: it is written with such bytes, or not at all, or its writing fails.
-use Rattle.std.specs.Prelude.{◌≡◌, ◌×◌, ℕ, List}
+use Rattle.std.specs.Prelude.{◌≡◌, ℕ, List}
 use Rattle.commands.specs.Contents.{Contents, IsWritten, IsCutOff}
 use Rattle.commands.specs.Unread.{IsUnwritten}
 use Rattle.commands.specs.declared.fault.Fault.{Fault}

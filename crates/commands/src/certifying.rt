@@ -75,7 +75,8 @@ fn difference_text(alloc: Global, image: &Image, entry: u64, pc: u32) -> Result<
 
 /// The exit status of a certificate.
 fn status_of_certificate(certificate: Certificate) -> u8
-    ensures { result ≡ certificate_status certificate }
+    ensures exact { result ≡ certificate_status certificate }
+    ensures known { result ≤ 5 }
 {
     match certificate {
         Certificate::Same { stop, .. } => status_of(stop),

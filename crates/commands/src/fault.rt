@@ -1,5 +1,6 @@
 ghost use Rattle.std.specs.Prelude.{◌≡◌};
 ghost use Rattle.commands.specs.Unread.{IsOutOfMemory};
+ghost use Rattle.commands.specs.declared.fault.Fault.TheVariants.{Text, Image, Run, Eval, Plan, Harts, File};
 
 use arguments::ArgumentFault;
 use harts::HartsFault;
@@ -123,7 +124,7 @@ impl fmt::Display for Fault<'_> {
 }
 
 impl From<Refusal> for Fault<'_> {
-    ghost from_gives = { λ inner fault. fault ≡ Fault.Text inner };
+    ghost from_gives = { λ inner fault. fault ≡ Text inner };
 
     fn from(refusal: Refusal) -> Self {
         Fault::Text(refusal)
@@ -131,7 +132,7 @@ impl From<Refusal> for Fault<'_> {
 }
 
 impl From<ImageFault> for Fault<'_> {
-    ghost from_gives = { λ inner fault. fault ≡ Fault.Image inner };
+    ghost from_gives = { λ inner fault. fault ≡ Image inner };
 
     fn from(fault: ImageFault) -> Self {
         Fault::Image(fault)
@@ -139,7 +140,7 @@ impl From<ImageFault> for Fault<'_> {
 }
 
 impl From<RunFault> for Fault<'_> {
-    ghost from_gives = { λ inner fault. fault ≡ Fault.Run inner };
+    ghost from_gives = { λ inner fault. fault ≡ Run inner };
 
     fn from(fault: RunFault) -> Self {
         Fault::Run(fault)
@@ -147,7 +148,7 @@ impl From<RunFault> for Fault<'_> {
 }
 
 impl From<EvalFault> for Fault<'_> {
-    ghost from_gives = { λ inner fault. fault ≡ Fault.Eval inner };
+    ghost from_gives = { λ inner fault. fault ≡ Eval inner };
 
     fn from(fault: EvalFault) -> Self {
         Fault::Eval(fault)
@@ -155,7 +156,7 @@ impl From<EvalFault> for Fault<'_> {
 }
 
 impl From<PlanFault> for Fault<'_> {
-    ghost from_gives = { λ inner fault. fault ≡ Fault.Plan inner };
+    ghost from_gives = { λ inner fault. fault ≡ Plan inner };
 
     fn from(fault: PlanFault) -> Self {
         Fault::Plan(fault)
@@ -163,7 +164,7 @@ impl From<PlanFault> for Fault<'_> {
 }
 
 impl From<HartsFault> for Fault<'_> {
-    ghost from_gives = { λ inner fault. fault ≡ Fault.Harts inner };
+    ghost from_gives = { λ inner fault. fault ≡ Harts inner };
 
     fn from(fault: HartsFault) -> Self {
         Fault::Harts(fault)
@@ -171,7 +172,7 @@ impl From<HartsFault> for Fault<'_> {
 }
 
 impl<'a> From<FileFault<'a>> for Fault<'a> {
-    ghost from_gives = { λ inner fault. fault ≡ Fault.File inner };
+    ghost from_gives = { λ inner fault. fault ≡ File inner };
 
     fn from(fault: FileFault<'a>) -> Self {
         Fault::File(fault)

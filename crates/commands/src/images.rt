@@ -89,7 +89,8 @@ pub fn leak_image<'a, F: Files, O: Sink>(
 
 /// The exit status of a run that stops so.
 pub fn status_of(stop: Stop) -> u8
-    ensures { result ≡ status_of stop }
+    ensures exact { result ≡ status_of stop }
+    ensures known { result ≤ 5 }
 {
     match stop {
         Stop::Ecall => DONE,

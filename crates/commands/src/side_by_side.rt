@@ -198,7 +198,8 @@ fn is_well(stop: Option<Stop>) -> bool
 
 /// The exit status of harts that ended so.
 fn status_of(ends: &[HartEnd]) -> u8
-    ensures { result ≡ status_of_ends ends.now }
+    ensures exact { result ≡ status_of_ends ends.now }
+    ensures known { result ≤ 5 }
 {
     if ends.iter().all(|end| is_well(end.stop)) {
         DONE

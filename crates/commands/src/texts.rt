@@ -30,7 +30,7 @@ pub fn read_fault(path: &str, fault: ReadFault) -> Fault<'_>
 
 /// Why the bytes of a file are no text.
 fn text_fault(file: &str, fault: BuildFault<Refusal>) -> Fault<'_>
-    ensures { (files : Contents) (bytes : List ℕ) → files file.now ≡ Some bytes → texts.NoText bytes fault.entry
+    ensures { (files : Contents) (bytes : List ℕ) → files file.now ≡ Some bytes → texts.NoText bytes fault
         → NoText files file.now result }
 {
     match fault {
