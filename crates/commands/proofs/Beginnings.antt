@@ -1,6 +1,6 @@
 -- One byte more than the longest image decides what bytes spell.
 use Rattle.std.proofs.Common.{◌≡◌, ℕ, zero, suc, ◌+◌, ◌*◌, ◌-◌, ◌<◌, ◌≤◌, Bool, true, false, cond, eqb, ltb, nat_le, List, [], ◌∷◌, ◌++◌, length, take, drop, Option, Some, None, refl, sym, ap, ◌∙◌, subst, length-append, arith}
-use Rattle.std.proofs.lemmas.Bool.{le-ltb}
+use Rattle.std.proofs.lemmas.Bool.{le-ltb, ne_eqb}
 use Rattle.std.proofs.lemmas.Bool.Decides.{nat_tests}
 use Rattle.std.proofs.lemmas.List.{drop-append-le, length-drop, length-take-le, take-append-drop, take_all}
 use Rattle.byteorder.specs.Endian.{little_number}
@@ -47,7 +47,7 @@ slot_takes low most next h = (
 
 slots_take : (n low most : ℕ) (next : List Slot → Format) → ((slots : List Slot) → TakesAtMost most (next slots)) → TakesAtMost (9 * n + most) (slots_format n low next)
 unfolding slots_format
-slots_take zero low most next h = h []
+slots_take zero low most next h = roomier most (9 * 0 + most) (next []) (omega arith) (h [])
 slots_take (suc n) low most next h =
     roomier (9 + (9 * n + most)) (9 * suc n + most) (slots_format (suc n) low next) (omega arith)
     (slot_takes low (9 * n + most) _ (λ slot. slots_take n (slot_end slot) most (λ slots. next (slot ∷ slots)) (λ slots. h (slot ∷ slots))))
@@ -64,7 +64,7 @@ result_takes low most next h =
 
 words_take : (n most : ℕ) (next : List ℕ → Format) → ((words : List ℕ) → TakesAtMost most (next words)) → TakesAtMost (4 * n + most) (words_format n next)
 unfolding words_format
-words_take zero most next h = h []
+words_take zero most next h = roomier most (4 * 0 + most) (next []) (omega arith) (h [])
 words_take (suc n) most next h =
     (omega arith, λ word _. roomier (4 * n + most) (4 * suc n + most - 4) _ (omega arith) (words_take n most (λ words. next (word ∷ words)) (λ words. h (word ∷ words))))
 
@@ -112,8 +112,7 @@ chosen true one other refused h = h refl
 chosen false one other refused h = refl
 
 not_empty : (bytes : List ℕ) → 0 < length bytes → eqb (length bytes) 0 ≡ false
-not_empty [] some = absurd (omega arith)
-not_empty (byte ∷ bytes) some = refl
+not_empty bytes some = ne_eqb (length bytes) 0 (λ none. omega (arith, none))
 
 -- bytes of which more are left than a reading takes are read as they are with others behind them
 front_decides : (total most : ℕ) (format : Format) (left more : List ℕ) → TakesAtMost most format → most < length left → read_by (total + length more) format (left ++ more) ≡ read_by total format left

@@ -25,7 +25,7 @@ image_held files path bytes image begun is allowed = record {
   allowed = allowed;
 }
 
-pub image_refused : (files : Contents) (path bytes : List ℕ) (fault : ImageFault) → Begins files path (longest_image + 1) bytes → IsUnlessMemory {Fields} (Err fault) (reading bytes) → NoImage files path (Image fault)
+pub image_refused : (files : Contents) (path bytes : List ℕ) (fault : ImageFault) → Begins files path (longest_image + 1) bytes → IsUnlessMemory {A = Fields} (Err fault) (reading bytes) → NoImage files path (Image fault)
 image_refused files path bytes (Field rule offset) begun is = not_spelled begun.held (all_read files path bytes begun (Err (Field rule offset)) is)
 image_refused files path bytes Memory begun is = not_read (out_of_memory refl)
 
