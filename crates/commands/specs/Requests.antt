@@ -80,7 +80,7 @@ pub record IsDone (request : Request) (before after : Contents) (out out' : List
 -- a request fails by a fault: it is refused, and nothing is printed; or it is done, and standard output failed
 pub data Fails (request : Request) (before after : Contents) (out out' : List ℕ) : Fault → Type 0 where
   refused : {fault : Fault} → Refuses request before after fault → out' ≡ out → Fails request before after out out' fault
-  unprinted : {text : List ℕ} {status : ℕ} {fault : Fault} → Answers request before text status → Leaves request before after → GainsPart out out' text
+  unprinted : {text : List ℕ} {fault : Fault} (status : ℕ) → Answers request before text status → Leaves request before after → GainsPart out out' text
       → IsOutputFault fault → Fails request before after out out' fault
 
 -- what comes of a request, with the exit status
