@@ -4,7 +4,7 @@ use Rattle.std.specs.Str.{bytes_eq}
 use Rattle.word.specs.declared.profile.Profile.{Profile}
 use Rattle.word.specs.declared.profile.Profile.TheVariants.{P1, P2}
 use Rattle.command_line.specs.declared.words.Request.{Request}
-use Rattle.command_line.specs.declared.words.Request.TheVariants.{Eval, Run, Leak, Pair}
+use Rattle.command_line.specs.declared.words.Request.TheVariants.{Eval, Run, Leak, Pair, Certify}
 
 -- the words behind the program's name, a command and a path; `--` may stand before the path
 abbrev pub after_path : List (List ℕ) → List (List ℕ)
@@ -21,4 +21,5 @@ arguments_of (Eval file arguments) = Some (map (λ word. word.now) arguments.now
 arguments_of (Run image arguments) = Some (map (λ word. word.now) arguments.now)
 arguments_of (Leak image arguments) = Some (map (λ word. word.now) arguments.now)
 arguments_of (Pair image arguments) = Some (map (λ word. word.now) arguments.now)
+arguments_of (Certify image arguments) = Some (map (λ word. word.now) arguments.now)
 arguments_of request = None
