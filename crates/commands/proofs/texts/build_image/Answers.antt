@@ -1,9 +1,14 @@
-use Rattle.std.proofs.Common.{refl}
-use Rattle.std.proofs.lemmas.Result.{err_from_is_err_and, on_ok_weaker, IfErr-weaker}
+use Rattle.std.proofs.Common.{ℕ, List, Result, Ok, Err, IfErr, refl, sym, subst}
+use Rattle.std.proofs.lemmas.Result.{err_from_is_err_and, on_ok_weaker}
 use Rattle.std.specs.String.{string_bytes}
-use Rattle.commands.specs.Judged.{no_text, not_accepted}
+use Rattle.hepurita.specs.Built.{Judges, IsRefusal, IsBuilt}
+use Rattle.commands.specs.Judged.{IsImageOf, no_text, not_accepted}
 use Rattle.commands.specs.Written.{refused, cut_off}
 use Rattle.commands.proofs.texts.build_image.Goals as goal
+
+err_both : {T E : Type 0} (P Q R : E → Type 0) (r : Result T E) → IfErr r P → IfErr r Q → ((e : E) → P e → Q e → R e) → IfErr r R
+err_both P Q R (Ok x) p q f = tt
+err_both P Q R (Err e) p q f = f e p q
 
 pub returns-in_err-text-clause-refused : goal.returns-in_err-text-clause-refused
 returns-in_err-text-clause-refused g c =
@@ -13,10 +18,22 @@ pub returns-in_err-built-clause-refused : goal.returns-in_err-built-clause-refus
 returns-in_err-built-clause-refused g c =
     λ tells.
     let p = err_from_is_err_and c.from_residual-in_err-built.result c.from_residual-in_err-built.ensures.1 in
-    rw (p.1, p.2) (refused (not_accepted (c.in_ok-text.ensures.said tells) c.in_err-built.ensures.refused) refl)
+    let refusal = c.in_err-built.field-0.0 in
+    let why : IsRefusal (Judges c.args.profile (string_bytes c.in_ok-text.text)) refusal = subst (λ (t : List ℕ). IsRefusal (Judges c.args.profile t) refusal) c.as_str.ensures c.in_err-built.ensures.refused in
+    rw (p.1, p.2) (refused (not_accepted {refusal = refusal} (c.in_ok-text.ensures.said tells) why) refl)
 
 pub returns-clause-said : goal.returns-clause-said
 returns-clause-said g c =
     λ tells.
-    let image = record { text = string_bytes c.in_ok-text.text; held = c.in_ok-text.ensures.said tells; built = c.in_ok-built.ensures.accepted } in
-    on_ok_weaker c.write_file.result (λ written. record { bytes = c.in_ok-built.built.items; such = image; written = written }) (c.write_file.ensures.written tells)
+    let bytes = c.in_ok-built.built.items in
+    let built : IsBuilt c.args.profile (string_bytes c.in_ok-text.text) bytes = subst (λ (t : List ℕ). IsBuilt c.args.profile t bytes) c.as_str.ensures c.in_ok-built.ensures.accepted in
+    let image : IsImageOf c.args.profile (g.F.Files.contents c.args.files.now) c.args.file.now bytes = record { text = string_bytes c.in_ok-text.text; held = c.in_ok-text.ensures.said tells; built = built } in
+    on_ok_weaker c.write_file.result (λ written. record { bytes = bytes; such = image; written = written }) (c.write_file.ensures.written tells)
+
+pub returns-clause-refused : goal.returns-clause-refused
+returns-clause-refused g c =
+    λ tells.
+    let bytes = c.in_ok-built.built.items in
+    let built : IsBuilt c.args.profile (string_bytes c.in_ok-text.text) bytes = subst (λ (t : List ℕ). IsBuilt c.args.profile t bytes) c.as_str.ensures c.in_ok-built.ensures.accepted in
+    let image : IsImageOf c.args.profile (g.F.Files.contents c.args.files.now) c.args.file.now bytes = record { text = string_bytes c.in_ok-text.text; held = c.in_ok-text.ensures.said tells; built = built } in
+    err_both _ _ _ c.write_file.result (c.write_file.ensures.cut_off tells) c.write_file.ensures.fault (λ fault cut why. cut_off image cut why)
