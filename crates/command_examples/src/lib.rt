@@ -9,8 +9,6 @@ mod listings;
 #[cfg(test)]
 mod memory_files;
 #[cfg(test)]
-mod one_file;
-#[cfg(test)]
 mod profiles;
 #[cfg(test)]
 mod side_by_side;

@@ -6,7 +6,6 @@
 #![tactic(auto)]
 
 mod certifying;
-mod evaluating;
 mod fault;
 mod files;
 mod foreign_code;
@@ -16,7 +15,6 @@ mod performing;
 mod side_by_side;
 mod texts;
 
-pub use command_line::Request;
 pub use fault::{Fault, FileFault};
 pub use files::Files;
-pub use performing::{command, perform};
+pub use performing::command;

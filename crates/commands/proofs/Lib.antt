@@ -1,6 +1,0 @@
-pub mod Beginnings
-pub mod WordLemmas
-pub mod CertificateLemmas
-mod CodeLemmas
-mod LeakFaults
-pub mod ImageLemmas
