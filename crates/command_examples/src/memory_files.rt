@@ -1,4 +1,4 @@
-ghost use Rattle.std.specs.Prelude.{◌≤◌, false, None};
+ghost use Rattle.std.specs.Prelude.{◌≤◌};
 
 use commands::Files;
 use std::alloc::Global;
@@ -70,12 +70,6 @@ impl MemoryFiles {
 }
 
 impl Files for MemoryFiles {
-    const TELLS: bool = false;
-
-    ghost TELLS = { false };
-
-    ghost contents = { λ _ _. None };
-
     fn read(&self, alloc: Global, path: &str, limit: usize) -> Result<Vec<u8>, ReadFault> {
         let bytes = if path == PLAN {
             self.plan.as_slice()
