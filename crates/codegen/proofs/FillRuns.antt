@@ -1,10 +1,9 @@
 -- The code that fills an array with values.
-use Rattle.std.proofs.Common.{◌≡◌, ℕ, ◌+◌, ◌*◌, ◌%◌, ◌^◌, ◌<◌, ◌≤◌, ◌==◌, Bool, true, false, cond, nat_lt, List, [], ◌∷◌, ◌++◌, length, map, None, Some, slice_get, is_some, refl, sym, ap, ◌∙◌, subst, arith, eq-eqb, append_assoc, length-append}
+use Rattle.std.proofs.Common.{◌≡◌, ℕ, ◌+◌, ◌*◌, ◌%◌, ◌<◌, ◌≤◌, ◌==◌, Bool, true, false, cond, nat_lt, List, [], ◌∷◌, ◌++◌, length, map, None, Some, slice_get, refl, sym, ap, ◌∙◌, subst, arith, eq-eqb, append_assoc, length-append}
 use Rattle.std.specs.Prelude.{slice_set}
 use Rattle.std.proofs.Math.Nat.{le-max_left, le-max_right}
 use Rattle.std.proofs.Math.Seq.{set-append_seam}
 use Rattle.std.proofs.lemmas.Bool.{eqb-true}
-use Rattle.std.proofs.lemmas.Bool.Decides.{nat_tests}
 use Rattle.std.proofs.lemmas.List.{nil_from_length}
 use Rattle.inline.specs.declared.flat.FlatVariable.{FlatVariable}
 use Rattle.inline.specs.Flat.{TermTree, array_as}
@@ -19,108 +18,32 @@ use Rattle.branch_removal.specs.StraightTyping.{IsFilled, types_but}
 use Rattle.codegen.specs.private.Emitted.{store_by, element_store_code, fill_code, statement_code, height_of_all}
 use Rattle.expression_code.specs.Layout.{variable_offset}
 use Rattle.expression_code.specs.Registers.{slots_to}
-use Rattle.expression_code.specs.TermCode.{upper_part, lower_part, expr_code, height_of}
+use Rattle.expression_code.specs.TermCode.{expr_code, height_of}
 use Rattle.language.specs.declared.signature.Kind.{Kind}
 use Rattle.language.specs.declared.typing.WordType.{WordType}
 use Rattle.language.specs.Size.{element_bytes}
 use Rattle.word.specs.declared.profile.Profile.{Profile}
-use Rattle.rv_code.specs.declared.instructions.Instr.TheVariants as instr
-use Rattle.rv_code.specs.declared.operations.RegisterOperation.TheVariants.{Add}
-use Rattle.rv_code.specs.declared.operations.UpperOperation.TheVariants.{Lui}
-use Rattle.rv_machine.specs.Bytes.{ByteMap, number_at, with_number}
-use Rattle.rv_machine.specs.Effects.{store_size, sum_of, sign_extended}
-use Rattle.rv_machine.specs.Machine as machine
-use Rattle.rv_machine.specs.Registers.{register}
-use Rattle.rv_machine.specs.Sizes.{byte_count}
-use Rattle.expression_code.proofs.Arithmetic.{near_address, far_address, upper_fits, lower_fits}
 use Rattle.expression_code.proofs.ExpressionRuns.{steps_of, kind_known}
-use Rattle.expression_code.proofs.Held.{HeldAt, Held, held_store, frame_there}
+use Rattle.expression_code.proofs.Held.{Held}
 use Rattle.expression_code.proofs.Places.{place_of, place_aligned}
 use Rattle.codegen.proofs.PutRuns.{store_bytes, element_before, element_inside}
 use Rattle.codegen.proofs.Showing.{Shown, suits_fits, value_runs, ready_valued, wrote_as}
-use Rattle.codegen.proofs.Slots.{Wrote, hidden_then, hidden_kept, hidden_wrote, cut_element, ready_same, ready_put}
-use Rattle.expression_code.proofs.Steps.{Always, Inside, Fit, Moves, storing, computing}
-use Rattle.expression_code.proofs.Straight.{Setting, base_of, none, Runs, seq, quiet, weaken, gives, cheaper, beside, along, as_code, idle}
+use Rattle.expression_code.proofs.Pieces.{Put, put_by}
+use Rattle.codegen.proofs.Slots.{Wrote, put_wrote, hidden_then, hidden_kept, hidden_wrote, cut_element, ready_same, ready_put}
+use Rattle.expression_code.proofs.Straight.{Setting, base_of, none, Runs, seq, quiet, gives, cheaper, beside, along, as_code, idle}
 use Rattle.expression_code.proofs.TermLengths.{height}
 use Rattle.expression_code.proofs.Values.{Ready}
 
--- The value's register into an element of a fixed place.
-module _ (z : Setting) (kind : Kind) (o : ℕ) (inside : o + element_bytes kind ≤ z.size) (even : (z.frame + o) % element_bytes kind ≡ 0) where
-  abbrev stored : ℕ
-  stored = byte_count (store_size (store_by kind))
-
-  in_frame : Inside z stored (z.frame + o)
-  in_frame =
-      let bytes = store_bytes kind in
-      record { even = ap (λ m. (z.frame + o) % m) bytes ∙ even; low = omega arith; high = omega (arith, inside, bytes) }
-
-  fits_at : (s : machine.State) (r l : ℕ) → HeldAt z s → sum_of (register s.regs r) (sign_extended 12 l) ≡ z.frame + o → Fit stored r l (z.frame + o) s
-  fits_at s r l held address = record {
-    address = address;
-    data_there = ap (λ m. is_some (number_at s.bytes m (z.frame + o))) (store_bytes kind) ∙ frame_there z s held (element_bytes kind) o inside;
-  }
-
-  wrote_by : (s t : machine.State) (v : ℕ) → HeldAt z s → t.regs 2 ≡ s.regs 2 → t.bytes ≡ with_number s.bytes stored (z.frame + o) v → Wrote z (element_bytes kind) o v s t
-  wrote_by s t v held base bytes =
-      let written = bytes ∙ ap (λ m. with_number s.bytes m (z.frame + o) v) (store_bytes kind) in
-      record { held = held_store z s t (element_bytes kind) o v inside base written held; written = written }
-
-  near_element : o < 2048 → Runs z 3 none (instr.Store (store_by kind) 5 2 o ∷ []) (Held z) (λ env s t. Wrote z (element_bytes kind) o (s.regs 5) s t)
-  near_element near =
-      let ends = z.ends in
-      cheaper z (omega arith)
-      (weaken z
-      (λ env s fine held. fits_at s 2 o held (ap (λ x. sum_of x (sign_extended 12 o)) held.base ∙ near_address z.frame o near (omega (arith, ends, inside))))
-      (λ env s t fine held writes. wrote_by s t (s.regs 5) held (ap (λ (regs : ℕ → ℕ). regs 2) writes.same) writes.written)
-      (storing z (store_by kind) 5 2 o (z.frame + o) (omega arith, omega arith, omega (arith, near)) in_frame))
-
-  raised : Runs z 2 none (instr.Upper Lui 28 (upper_part o) ∷ instr.Register Add 28 28 2 ∷ []) (Held z) (λ env s t. Moves 28 (sum_of (upper_part o * 2 ^ 12) z.frame) s t)
-  raised =
-      weaken z {P = Always}
-      (λ env s fine held. tt)
-      (λ env s t fine held both.
-      let m = both.middle in
-      let one = both.first in
-      let two = both.second in
-      let base : m.regs 2 ≡ z.frame = one.others 2 (λ e. omega arith) ∙ held.base in
-      record {
-        there = two.there ∙ (ap (λ x. sum_of x (m.regs 2)) one.there ∙ ap (λ x. sum_of (upper_part o * 2 ^ 12) x) base);
-        others = λ q h. two.others q h ∙ one.others q h;
-        same = two.same ∙ one.same;
-      })
-      (seq z
-      (computing z (instr.Upper Lui 28 (upper_part o)) 28 (λ regs. upper_part o * 2 ^ 12) (omega arith, upper_fits o) (λ e. omega arith) (λ pc regs. refl))
-      (computing z (instr.Register Add 28 28 2) 28 (λ regs. sum_of (regs 28) (regs 2)) (omega arith, omega arith, omega arith) (λ e. omega arith) (λ pc regs. refl))
-      (λ env s t fit done. tt))
-
-  far_element : Runs z 3 none (instr.Upper Lui 28 (upper_part o) ∷ instr.Register Add 28 28 2 ∷ instr.Store (store_by kind) 5 28 (lower_part o) ∷ []) (Held z) (λ env s t. Wrote z (element_bytes kind) o (s.regs 5) s t)
-  far_element =
-      let ends = z.ends in
-      gives z
-      (λ env s t fine held both.
-      let m = both.middle in
-      let one = both.first in
-      let two = both.second in
-      wrote_by s t (s.regs 5) held (ap (λ (regs : ℕ → ℕ). regs 2) two.same ∙ one.others 2 (λ e. omega arith))
-      (two.written ∙ (ap (λ (b : ByteMap). with_number b stored (z.frame + o) (m.regs 5)) one.same ∙ ap (λ v. with_number s.bytes stored (z.frame + o) v) (one.others 5 (λ e. omega arith)))))
-      (seq z raised
-      (storing z (store_by kind) 5 28 (lower_part o) (z.frame + o) (omega arith, omega arith, lower_fits o) in_frame)
-      (λ env s t held moves. record {
-        address = ap (λ x. sum_of x (sign_extended 12 (lower_part o))) moves.there ∙ far_address z.frame o (omega (arith, ends, inside));
-        data_there = ap (λ (b : ByteMap). is_some (number_at b stored (z.frame + o))) moves.same ∙ (fits_there s held);
-      }))
-    where
-      fits_there : (s : machine.State) → HeldAt z s → is_some (number_at s.bytes stored (z.frame + o)) ≡ true
-      fits_there s held = ap (λ m. is_some (number_at s.bytes m (z.frame + o))) (store_bytes kind) ∙ frame_there z s held (element_bytes kind) o inside
-
-  element_by : (b : Bool) → nat_lt o 2048 ≡ b
-      → Runs z 3 none (cond b (instr.Store (store_by kind) 5 2 o ∷ []) (instr.Upper Lui 28 (upper_part o) ∷ instr.Register Add 28 28 2 ∷ instr.Store (store_by kind) 5 28 (lower_part o) ∷ []))
-      (Held z) (λ env s t. Wrote z (element_bytes kind) o (s.regs 5) s t)
-  element_by true h = near_element (grind (arith, nat_tests))
-  element_by false h = far_element
-
-  element_runs : Runs z 3 none (element_store_code kind o) (Held z) (λ env s t. Wrote z (element_bytes kind) o (s.regs 5) s t)
-  element_runs = element_by (nat_lt o 2048) refl
+-- the value's register into an element of a fixed place
+element_runs : (z : Setting) (kind : Kind) (o : ℕ) → o + element_bytes kind ≤ z.size → (z.frame + o) % element_bytes kind ≡ 0
+    → Runs z 3 none (element_store_code kind o) (Held z) (λ env s t. Wrote z (element_bytes kind) o (s.regs 5) s t)
+element_runs z kind o inside even =
+    let bytes = store_bytes kind in
+    gives z
+    (λ env s t fine held put. put_wrote z (element_bytes kind) 5 o env s t (subst (λ n. Put z n 5 o env s t) bytes put))
+    (put_by z 5 (omega arith) (λ e. omega arith) (λ e. omega arith) o (store_by kind) (omega (arith, inside, bytes))
+    (record { even = ap (λ m. (z.frame + o) % m) bytes ∙ even; low = omega arith; high = omega (arith, inside, bytes) })
+    (nat_lt o 2048) refl)
 
 -- a variable that is not known by its type is not read
 unread : (profile : Profile) (declared : List FlatVariable) (x : ℕ) (m : Values) (l : List ℕ) (y : ℕ) (d : FlatVariable) → (types_but profile declared x).at y ≡ Some d → m y ≡ with_value m x l y
@@ -168,12 +91,7 @@ module _ (z : Setting) (depth : ℕ) (within : depth ≤ z.depths) (x size : ℕ
   fill_from : (k o : ℕ) (es : List TermTree) → o ≡ at k → AllSuit (types_but z.code.profile z.declared x) word es → k + length es ≤ size → base_of z + 4 * slots_to (height_of_all es) ≤ z.size
       → Runs z (32 * terms_nodes es) (λ env. path_in_all env.variables es) (fill_code z.declared (base_of z) word.kind o es) (Ready z) (Shown z depth (filled k es))
   fill_from k o [] is suits few room =
-      gives z
-      (λ env s t fine ready still. record {
-        ready = subst (λ (u : machine.State). Ready z env u) (sym still) ready;
-        hidden = λ a low high. ap (λ (u : machine.State). u.bytes (z.frame + a)) still;
-      })
-      (idle z {P = Ready z})
+      idle z (λ env s ready. record { ready = ready; hidden = λ a low high. refl })
   fill_from k o (e ∷ es) is suits few room =
       let a = le-max_left (height_of e) (height_of_all es) in
       let b = le-max_right (height_of e) (height_of_all es) in

@@ -1,10 +1,9 @@
 -- Code that jumps: of two lists one is run, or a list is run again and again.
-use Rattle.std.proofs.Common.{◌≡◌, ◌≢◌, ℕ, zero, suc, ◌+◌, ◌-◌, ◌*◌, ◌%◌, ◌^◌, ◌<◌, ◌≤◌, ◌==◌, Bool, true, false, not, cond, if◌then◌else◌, List, [], ◌∷◌, ◌++◌, length, None, All, refl, sym, ap, ◌∙◌, subst, arith, length-append}
+use Rattle.std.proofs.Common.{◌≡◌, ◌≢◌, ℕ, zero, suc, ◌+◌, ◌-◌, ◌*◌, ◌%◌, ◌^◌, ◌<◌, ◌≤◌, ◌==◌, Bool, true, false, not, cond, if◌then◌else◌, List, [], ◌∷◌, ◌++◌, length, None, refl, sym, ap, ◌∙◌, arith, length-append}
 use Rattle.std.proofs.Math.Path.{fun_ext}
 use Rattle.std.proofs.lemmas.Bool.{true≢false, eqb-true}
 use Rattle.std.proofs.lemmas.Bool.Decides.{nat_tests}
 use Rattle.branch_removal.specs.StraightMeaning.{StraightState}
-use Rattle.expression_code.specs.Inside.{IsInside}
 use Rattle.codegen.specs.private.Jumps.{skip, over, back, branch_code, loop_code}
 use Rattle.std.specs.Prelude.{slice_index}
 use Rattle.std.proofs.lemmas.Nat.{mul-le}
@@ -15,13 +14,12 @@ use Rattle.rv_code.specs.declared.instructions.Instr.TheVariants as instr
 use Rattle.rv_code.specs.declared.operations.BranchTest.TheVariants.{Bne}
 use Rattle.rv_machine.specs.declared.observation.Observation.{Observation}
 use Rattle.rv_machine.specs.Effects.{jump_target, branch_target, sign_extended, sum_of}
-use Rattle.rv_machine.specs.Leakage.{Leads}
 use Rattle.rv_machine.specs.Machine as machine
 use Rattle.rv_machine.specs.Machine.{with_link, moved_to, next}
 use Rattle.rv_machine.specs.Registers.{with_register}
 use Rattle.rv_machine.proofs.TurnLaws.{with_link-pc, with_link-regs, with_link-bytes, moved_to-pc, moved_to-regs, moved_to-bytes, jump_leads, branch_leads, branch_passes}
-use Rattle.expression_code.proofs.Steps.{All-one, stands}
-use Rattle.expression_code.proofs.Straight.{Setting, seen_by, seen_then, Placed, Placed-left, Placed-right, Before, After, Steps, none, Leak, always, both, fine_left, fine_right, Ends, Straight, Runs, then_ends, ends_as, ends_to, ends_by, ends_on, Placed-below}
+use Rattle.expression_code.proofs.Steps.{stands}
+use Rattle.expression_code.proofs.Straight.{Setting, seen_by, seen_then, Placed, Placed-left, Placed-right, Before, After, Steps, none, Leak, always, both, fine_left, fine_right, Ends, Straight, Runs, turn_ends, then_ends, ends_as, ends_to, ends_by, ends_on, Placed-below}
 
 -- only the program counter has changed
 pub record Still (s t : machine.State) : Type 0 where
@@ -35,10 +33,6 @@ dropped regs v = fun_ext (λ r. by_register r (r == 0))
     by_register r true = refl
     by_register r false = refl
 
--- the same word, whatever the program counter is called
-here_at : (code : machine.Code) (s t : machine.State) (p : ℕ) → s.pc ≡ p → Leads code 1 s (record { pc = s.pc; event = None } ∷ []) t → Leads code 1 s (record { pc = p; event = None } ∷ []) t
-here_at code s t p at leads = subst (λ q. Leads code 1 s (record { pc = q; event = None } ∷ []) t) at leads
-
 multiple : (t q : ℕ) → t ≡ q + 8 → q % 4 ≡ 0 → t % 4 ≡ 0
 multiple t q to even = omega (arith, to, even)
 
@@ -51,28 +45,17 @@ record Between (Q : After) (env : StraightState) (s u : machine.State) : Type 0 
   done : Q env start u
 
 module _ (z : Setting) where
-  quiet_inside : (p : ℕ) → All (λ (o : Observation). IsInside z.frame z.size o.event) (record { pc = p; event = None } ∷ [])
-  quiet_inside p = All-one (λ (o : Observation). IsInside z.frame z.size o.event) (record { pc = p; event = None }) tt
-
   jump_ends : (p halves target : ℕ) (rest : Path) → Placed z.code p (instr.Jump 0 halves ∷ []) → halves < 2 ^ 20 → jump_target p halves ≡ target → target % 4 ≡ 0
       → (s : machine.State) → s.pc ≡ p → Ends z 1 target (always (record { pc = p; event = None } ∷ [])) rest rest (λ t. Still s t) s
   jump_ends p halves target rest placed small to even s at =
       let there : jump_target s.pc halves ≡ target = ap (λ q. jump_target q halves) at ∙ to in
-      let leads = jump_leads z.code s 0 halves (stands z.code p _ [] placed (omega arith, small) s at) (ap (λ q. q % 4) there ∙ even) in
-      record {
-        turns = 1;
-        end = with_link s 0 (jump_target s.pc halves);
-        seen = record { pc = p; event = None } ∷ [];
-        leads = here_at z.code s _ p at leads;
-        within = omega arith;
-        shown = refl;
-        inside = quiet_inside p;
-        at = with_link-pc s 0 (jump_target s.pc halves) ∙ there;
-        done = record {
-          regs = with_link-regs s 0 (jump_target s.pc halves) ∙ dropped s.regs (next s);
-          bytes = with_link-bytes s 0 (jump_target s.pc halves);
-        };
-      }
+      turn_ends z None None (with_link s 0 (jump_target s.pc halves)) at
+      (jump_leads z.code s 0 halves (stands z.code p _ [] placed (omega arith, small) s at) (ap (λ q. q % 4) there ∙ even)) refl tt refl
+      (with_link-pc s 0 (jump_target s.pc halves) ∙ there)
+      (record {
+        regs = with_link-regs s 0 (jump_target s.pc halves) ∙ dropped s.regs (next s);
+        bytes = with_link-bytes s 0 (jump_target s.pc halves);
+      })
 
   forward : (p n : ℕ) → 2 * n + 2 < 2 ^ 19 → p + 4 + 4 * n < 2 ^ 32 → jump_target p (2 * n + 2) ≡ p + 4 + 4 * n
   forward p n near below =
@@ -107,18 +90,10 @@ module _ (z : Setting) where
       let taken : not (s.regs 5 == 0) ≡ true = grind (arith, nat_tests) in
       let to : branch_target p 4 ≡ p + 8 = omega (arith, below) in
       let there : branch_target s.pc 4 ≡ p + 8 = ap (λ q. branch_target q 4) at ∙ to in
-      let leads = branch_leads z.code s Bne 5 0 4 (stands z.code p _ [] placed (omega arith, omega arith, omega arith) s at) taken (multiple _ p there even) in
-      record {
-        turns = 1;
-        end = moved_to s (branch_target s.pc 4);
-        seen = shown_at p;
-        leads = here_at z.code s _ p at leads;
-        within = omega arith;
-        shown = refl;
-        inside = quiet_inside p;
-        at = moved_to-pc s (branch_target s.pc 4) ∙ there;
-        done = record { regs = moved_to-regs s (branch_target s.pc 4); bytes = moved_to-bytes s (branch_target s.pc 4) };
-      }
+      turn_ends z None None (moved_to s (branch_target s.pc 4)) at
+      (branch_leads z.code s Bne 5 0 4 (stands z.code p _ [] placed (omega arith, omega arith, omega arith) s at) taken (multiple _ p there even)) refl tt refl
+      (moved_to-pc s (branch_target s.pc 4) ∙ there)
+      (record { regs = moved_to-regs s (branch_target s.pc 4); bytes = moved_to-bytes s (branch_target s.pc 4) })
 
   -- the value is 0
   pass_ends : (p : ℕ) (rest : Path) → Placed z.code p (skip ∷ []) → (s : machine.State) → s.pc ≡ p → s.regs 5 ≡ 0
@@ -127,18 +102,10 @@ module _ (z : Setting) where
       let below = placed.1 in
       let untaken : not (s.regs 5 == 0) ≡ false = grind (arith, nat_tests) in
       let to : next s ≡ p + 4 = omega (arith, at, below) in
-      let leads = branch_passes z.code s Bne 5 0 4 (stands z.code p _ [] placed (omega arith, omega arith, omega arith) s at) untaken in
-      record {
-        turns = 1;
-        end = moved_to s (next s);
-        seen = shown_at p;
-        leads = here_at z.code s _ p at leads;
-        within = omega arith;
-        shown = refl;
-        inside = quiet_inside p;
-        at = moved_to-pc s (next s) ∙ to;
-        done = record { regs = moved_to-regs s (next s); bytes = moved_to-bytes s (next s) };
-      }
+      turn_ends z None None (moved_to s (next s)) at
+      (branch_passes z.code s Bne 5 0 4 (stands z.code p _ [] placed (omega arith, omega arith, omega arith) s at) untaken) refl tt refl
+      (moved_to-pc s (next s) ∙ to)
+      (record { regs = moved_to-regs s (next s); bytes = moved_to-bytes s (next s) })
 
   -- Of two pieces one.
 

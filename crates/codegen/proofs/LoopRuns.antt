@@ -26,10 +26,9 @@ use Rattle.expression_code.proofs.Computing.{computing_runs}
 use Rattle.expression_code.proofs.ExpressionRuns.{value_word}
 use Rattle.expression_code.proofs.Held.{HeldAt, held_regs}
 use Rattle.codegen.proofs.Jumps.{Still, looping}
-use Rattle.expression_code.proofs.Pieces.{load_runs}
+use Rattle.expression_code.proofs.Pieces.{load_runs, store_runs}
 use Rattle.codegen.proofs.Showing.{Shown, first_runs, ready_with, ready_below, ready_behind, word_before, wrote_as}
 use Rattle.codegen.proofs.Slots.{Hidden, hidden_then, hidden_less, hidden_by, hidden_wrote, hidden_beyond, hidden_number, put_wrote, other_number, ready_set}
-use Rattle.expression_code.proofs.Stores.{store_runs}
 use Rattle.expression_code.proofs.Straight.{Setting, base_of, none, Runs, seq, quiet, quietly, weaken, gives, as_code, beside}
 use Rattle.expression_code.proofs.Values.{Kept, Ready, kept_number, kept_less, kept_then, put_kept, put_there}
 

@@ -1,5 +1,5 @@
 -- The code of a result puts it into its slot; without a result there is no code.
-use Rattle.std.proofs.Common.{◌+◌, ◌*◌, ◌≤◌, Option, Some, None, subst, sym, arith}
+use Rattle.std.proofs.Common.{◌+◌, ◌*◌, ◌≤◌, Option, Some, None, arith}
 use Rattle.inline.specs.Flat.{TermTree}
 use Rattle.inline.specs.FlatMeaning.{value_in, path_of_result}
 use Rattle.inline.specs.FlatSize.{value_nodes}
@@ -14,7 +14,7 @@ use Rattle.expression_code.proofs.ExpressionRuns.{value_word}
 use Rattle.codegen.proofs.Results.{Left}
 use Rattle.codegen.proofs.Showing.{value_runs, ready_valued, ready_result}
 use Rattle.codegen.proofs.Slots.{put_wrote}
-use Rattle.expression_code.proofs.Stores.{store_runs}
+use Rattle.expression_code.proofs.Pieces.{store_runs}
 use Rattle.expression_code.proofs.Straight.{Setting, base_of, Steps, Runs, quiet, gives, cheaper, idle}
 use Rattle.expression_code.proofs.Values.{Ready, put_there}
 
@@ -30,9 +30,7 @@ pub record Given (z : Setting) (value : Option TermTree) (env : StraightState) (
 module _ (z : Setting) where
   pub result_runs : (returned : Option WordType) (value : Option TermTree) → IsResult (types_of z.code.profile z.declared) returned value → base_of z + 4 * slots_to (result_height value) ≤ z.size → Runs z (32 * value_nodes value) (steps_of_result value) (result_code z.declared (base_of z) value) (Ready z) (Given z value)
   result_runs returned None typed room =
-      gives z
-      (λ env s t fine ready still. record { ready = subst (λ (u : machine.State). Ready z env u) (sym still) ready; left = tt })
-      (idle z {P = Ready z})
+      idle z (λ env s ready. record { ready = ready; left = tt })
   result_runs None (Some value) typed room = absurd typed
   result_runs (Some word) (Some value) typed room =
       let o = result_offset z.declared in

@@ -26,10 +26,9 @@ use Rattle.expression_code.proofs.Computing.{Computed, computing_runs}
 use Rattle.expression_code.proofs.ExpressionRuns.{steps_of}
 use Rattle.expression_code.proofs.Held.{HeldAt}
 use Rattle.expression_code.proofs.Masks.{mask_of, mask_when, mask_otherwise, masks_join, merged, merge}
-use Rattle.expression_code.proofs.Pieces.{Took, load_runs}
+use Rattle.expression_code.proofs.Pieces.{Took, load_runs, store_runs}
 use Rattle.codegen.proofs.Showing.{Shown, Evaluated, suits_fits, first_runs, value_runs, ready_valued, ready_with, word_before, wrote_as}
 use Rattle.codegen.proofs.Slots.{hidden_then, hidden_by, hidden_kept, hidden_wrote, put_wrote, cut_kind, ready_set, ready_under, ready_taken}
-use Rattle.expression_code.proofs.Stores.{store_runs}
 use Rattle.expression_code.proofs.Straight.{Setting, base_of, none, Then, Runs, quiet, weaken, gives, cheaper, idle}
 use Rattle.expression_code.proofs.Values.{Ready}
 
@@ -54,15 +53,7 @@ chosen_fits false v old n h k = k
 module _ (z : Setting) where
   within_runs : (within : Option ℕ) (f g : StraightState → Bool) → IsAmong z.controls within → Runs z 5 none (within_code z.declared within) (Prepared z f g) (Narrowed z within f g)
   within_runs None f g among =
-      cheaper z (omega arith)
-      (gives z
-      (λ env s t fine prepared still. record {
-        held = subst (λ (u : machine.State). HeldAt z u) (sym still) prepared.ready.held;
-        when = ap (λ (u : machine.State). u.regs 7) still ∙ prepared.when;
-        otherwise = ap (λ (u : machine.State). u.regs 5) still ∙ prepared.otherwise;
-        same = ap (λ (u : machine.State). u.bytes) still;
-      })
-      (idle z {P = Prepared z f g}))
+      idle z (λ env s prepared. record { held = prepared.ready.held; when = prepared.when; otherwise = prepared.otherwise; same = refl })
   within_runs (Some d) f g among =
       let o = control_offset z.declared d in
       let room = z.room in

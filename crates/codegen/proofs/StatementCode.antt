@@ -14,16 +14,7 @@ use Rattle.expression_code.specs.TermCode.{expr_code}
 use Rattle.inline.specs.declared.flat.FlatVariable.{FlatVariable}
 use Rattle.inline.specs.declared.flat.Term.{Term}
 use Rattle.inline.specs.Flat.{term_tree}
-use Rattle.language.specs.declared.signature.Kind.{Kind}
-use Rattle.language.specs.declared.signature.Kind.TheVariants.{Boolean, Uint8, Uint16, Uint32}
-use Rattle.language.specs.Size.{array_words}
 use Rattle.rv_code.specs.declared.instructions.Instr.{Instr}
-
-pub few_words : (kind : Kind) (size : ℕ) → size ≤ 65536 → array_words kind size ≤ 65536
-few_words Boolean size h = omega (arith, h)
-few_words Uint8 size h = omega (arith, h)
-few_words Uint16 size h = omega (arith, h)
-few_words Uint32 size h = omega (arith, h)
 
 rows : (n : _) (row : code.Row_of-StraightStatement n) → straight_row row ≡ straight_block (code.items-the_row-StraightStatement n row)
 rows n code.end_of-StraightStatement = refl

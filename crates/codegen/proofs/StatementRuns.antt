@@ -1,5 +1,5 @@
 -- The code of a statement makes of the state what the statement makes of it.
-use Rattle.std.proofs.Common.{ℕ, ◌+◌, ◌*◌, ◌≤◌, max, sym, ap, subst, arith, length-append}
+use Rattle.std.proofs.Common.{ℕ, ◌+◌, ◌*◌, ◌≤◌, max, refl, arith, length-append}
 use Rattle.std.proofs.Math.Nat.{le-max_left, le-max_right}
 use Rattle.branch_removal.specs.Bounds.{statement_nodes, block_nodes, statement_work, block_work}
 use Rattle.branch_removal.specs.Straight.{StraightTree, set, clear, fill, put, take, set_under, put_under, branch, repeats, StraightBlock, nothing, first}
@@ -12,7 +12,6 @@ use Rattle.expression_code.specs.TermCode.{height_of}
 use Rattle.language.specs.WellTyped.{labelled}
 use Rattle.language.specs.declared.signature.Kind.TheVariants.{Boolean}
 use Rattle.language.specs.declared.signature.Label.TheVariants.{Public}
-use Rattle.rv_machine.specs.Machine as machine
 use Rattle.codegen.proofs.PutRuns.{put_runs, put_under_runs}
 use Rattle.codegen.proofs.BranchRuns.{branch_runs}
 use Rattle.codegen.proofs.ClearRuns.{clear_runs}
@@ -73,12 +72,7 @@ module _ (z : Setting) where
     pub block_runs : (depth : ℕ) (b : StraightBlock) → AreTyped z.code.profile z.declared z.controls b → base_of z + 4 * slots_to (height_in_all b) ≤ z.size → depth + depth_in_all b ≤ z.depths → block_nodes b ≤ 6000
         → Runs z (32 * block_work z.counts b) (λ env. path_along env b) (block_code z.declared z.controls z.depths depth b) (Ready z) (Shown z depth (λ env. after_all env b))
     block_runs depth nothing typed room within few =
-        gives z
-        (λ env s t fine ready still. record {
-          ready = subst (λ (u : machine.State). Ready z env u) (sym still) ready;
-          hidden = λ o low high. ap (λ (u : machine.State). u.bytes (z.frame + o)) still;
-        })
-        (idle z {P = Ready z})
+        idle z (λ env s ready. record { ready = ready; hidden = λ o low high. refl })
     block_runs depth (first s rest) typed room within few =
         let a = le-max_left (height_in s) (height_in_all rest) in
         let b = le-max_right (height_in s) (height_in_all rest) in

@@ -30,8 +30,7 @@ use Rattle.codegen.proofs.Placing.{placed}
 use Rattle.codegen.proofs.ResultRuns.{steps_of_result, Given, result_runs}
 use Rattle.codegen.proofs.Results.{arrays_are, returned_is}
 use Rattle.codegen.proofs.StatementRuns.{block_runs}
-use Rattle.expression_code.proofs.Steps.{All-one}
-use Rattle.expression_code.proofs.Straight.{Setting, seen_by, Placed, Placed-left, Placed-right, Straight, Steps, Runs, seq, gives, cheaper, beside}
+use Rattle.expression_code.proofs.Straight.{All-one, Setting, seen_by, Placed, Placed-left, Placed-right, Straight, Steps, Runs, seq, gives, cheaper, beside}
 use Rattle.expression_code.proofs.Values.{Ready}
 
 -- the state that the value is taken in

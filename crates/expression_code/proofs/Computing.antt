@@ -165,9 +165,7 @@ record Follows (is : List Instr) (env : StraightState) (s t : State) : Type 0 wh
 module _ (z : Setting) (works : ℕ → Bool) (allowed : AreWorking works) where
   follows : (is : List Instr) → only_computes works is ≡ true → Runs z (length is) none is Always (Follows is)
   follows [] h =
-      gives z
-      (λ env s t fine fit still. record { registers = ap (λ (u : State). u.regs) still; same = ap (λ (u : State). u.bytes) still })
-      (idle z)
+      idle z (λ env s fit. record { registers = refl; same = refl })
   follows (i ∷ is) h =
       let one = plain works allowed i (both_left (computes works i) (only_computes works is) h) in
       let rd = written_register i in

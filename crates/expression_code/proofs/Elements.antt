@@ -18,7 +18,7 @@ use Rattle.expression_code.proofs.Held.{HeldAt, Held, held_regs}
 use Rattle.expression_code.proofs.Homes.{IsFree}
 use Rattle.expression_code.proofs.Pieces.{register-at}
 use Rattle.expression_code.proofs.Steps.{Always, Moves, computing}
-use Rattle.expression_code.proofs.Straight.{Setting, Before, none, Runs, seq, weaken, gives, cheaper, idle}
+use Rattle.expression_code.proofs.Straight.{Setting, Before, none, Runs, seq, weaken, gives, idle}
 
 -- only this register and the one for addresses are written
 pub record Rewrites (r value : ℕ) (s t : State) : Type 0 where
@@ -64,16 +64,7 @@ module _ (z : Setting) (r : ℕ) (free : IsFree r) where
 
   unshifted : Runs z 1 none [] (λ env s. 1 * s.regs r < 2 ^ 32) (λ env s t. Moves r (1 * s.regs r) s t)
   unshifted =
-      cheaper z (omega arith)
-      (gives z
-      (λ env s t fine fit still.
-      let one : s.regs r ≡ 1 * s.regs r = omega arith in
-      record {
-        there = ap (λ (u : State). u.regs r) still ∙ one;
-        others = λ q other. ap (λ (u : State). u.regs q) still;
-        same = ap (λ (u : State). u.bytes) still;
-      })
-      (idle z))
+      idle z (λ env s fit. let one : s.regs r ≡ 1 * s.regs r = omega arith in record { there = one; others = λ q other. refl; same = refl })
 
   -- times the bytes of an element
   scale_runs : (kind : Kind) → Runs z 1 none (scale_code r kind) (λ env s. element_bytes kind * s.regs r < 2 ^ 32) (λ env s t. Moves r (element_bytes kind * s.regs r) s t)
@@ -83,15 +74,7 @@ module _ (z : Setting) (r : ℕ) (free : IsFree r) where
   scale_runs Uint32 = shifts 2 4 (omega arith) (λ v below. omega (arith, below))
 
   raise_by : (o : ℕ) (near : Bool) → Runs z 2 none (cond near [] (instr.Upper Lui 28 (upper_part o) ∷ instr.Register Add r r 28 ∷ [])) Always (λ env s t. Rewrites r (raised near o (s.regs r)) s t)
-  raise_by o true =
-      cheaper z (omega arith)
-      (gives z
-      (λ env s t fine fit still. record {
-        there = ap (λ (u : State). u.regs r) still;
-        others = λ q other another. ap (λ (u : State). u.regs q) still;
-        same = ap (λ (u : State). u.bytes) still;
-      })
-      (idle z))
+  raise_by o true = idle z (λ env s fit. record { there = refl; others = λ q other another. refl; same = refl })
   raise_by o false =
       weaken z {P = Always}
       (λ env s fine fit. tt)

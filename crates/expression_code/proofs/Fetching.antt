@@ -1,5 +1,5 @@
 -- The code that fetches a temporary for an operator, and that keeps what an operator has made.
-use Rattle.std.proofs.Common.{◌≡◌, ◌≢◌, ℕ, ◌+◌, ◌*◌, ◌%◌, ◌^◌, ◌<◌, ◌≤◌, Bool, true, false, cond, nat_lt, List, [], ◌++◌, refl, sym, ap, ◌∙◌, arith}
+use Rattle.std.proofs.Common.{◌≡◌, ◌≢◌, ℕ, ◌+◌, ◌*◌, ◌%◌, ◌^◌, ◌<◌, ◌≤◌, Bool, true, false, cond, nat_lt, List, [], ◌++◌, refl, sym, ◌∙◌, arith}
 use Rattle.std.proofs.lemmas.Bool.Decides.{nat_tests}
 use Rattle.std.proofs.lemmas.Option.{same_Some}
 use Rattle.branch_removal.specs.StraightMeaning.{StraightState}
@@ -9,10 +9,9 @@ use Rattle.inline.specs.Flat.{TermTree}
 use Rattle.inline.specs.FlatMeaning.{value_in}
 use Rattle.rv_code.specs.declared.instructions.Instr.{Instr}
 use Rattle.rv_machine.specs.Machine as machine
-use Rattle.expression_code.proofs.Held.{HeldAt, held_regs}
-use Rattle.expression_code.proofs.Pieces.{load_runs}
-use Rattle.expression_code.proofs.Stores.{store_runs}
-use Rattle.expression_code.proofs.Straight.{Setting, none, Steps, Before, Runs, quiet, weaken, gives, cheaper, idle}
+use Rattle.expression_code.proofs.Held.{HeldAt}
+use Rattle.expression_code.proofs.Pieces.{load_runs, store_runs}
+use Rattle.expression_code.proofs.Straight.{Setting, none, Steps, Before, Runs, quiet, weaken, gives, idle}
 use Rattle.expression_code.proofs.Values.{Valued, Kept, Lower, Holds, HoldsBy, kept_by, kept_then, put_kept, put_there}
 
 -- a temporary is in a register, and only a spare register has changed
@@ -46,15 +45,7 @@ module _ (z : Setting) (free : ℕ) (aligned : free % 4 ≡ 0) (place : ℕ) (ro
     fetch_by : (b : Bool) → nat_lt place register_count ≡ b
         → Runs z 3 none (cond b [] (load_code spare (slot_of free place))) (λ env s. HeldAt z s × HoldsBy b z free place s (v env)) (λ env s t. Fetched z (cond b (5 + place) spare) spare (v env) s t)
     fetch_by true h =
-        cheaper z (omega arith)
-        (gives z
-        (λ env s t fine given still. record {
-          held = held_regs z s t (ap (λ (u : machine.State). u.regs 2) still) (ap (λ (u : machine.State). u.bytes) still) given.0;
-          there = ap (λ (u : machine.State). u.regs (5 + place)) still ∙ given.1;
-          others = λ q other. ap (λ (u : machine.State). u.regs q) still;
-          same = ap (λ (u : machine.State). u.bytes) still;
-        })
-        (idle z))
+        idle z (λ env s given. record { held = given.0; there = given.1; others = λ q other. refl; same = refl })
     fetch_by false h =
         let large : register_count ≤ place = grind (arith, nat_tests) in
         weaken z
@@ -75,15 +66,7 @@ module _ (z : Setting) (free : ℕ) (aligned : free % 4 ≡ 0) (place : ℕ) (ro
         → Runs z 3 none (cond b [] (store_code 29 (slot_of free place))) (λ env s. HeldAt z s × (s.regs (cond b (5 + place) 29) ≡ v env) × (v env < 2 ^ 32))
         (λ env s t. HeldAt z t × HoldsBy b z free place t (v env) × Kept z (slot_of free place) s t × ((q : ℕ) → q ≢ 28 → t.regs q ≡ s.regs q))
     keep_by true h =
-        cheaper z (omega arith)
-        (gives z
-        (λ env s t fine given still. (
-          held_regs z s t (ap (λ (u : machine.State). u.regs 2) still) (ap (λ (u : machine.State). u.bytes) still) given.0,
-          ap (λ (u : machine.State). u.regs (5 + place)) still ∙ given.1,
-          kept_by z (slot_of free place) s t (ap (λ (u : machine.State). u.bytes) still),
-          λ q other. ap (λ (u : machine.State). u.regs q) still,
-        ))
-        (idle z))
+        idle z (λ env s given. (given.0, given.1, kept_by z (slot_of free place) s s refl, λ q other. refl))
     keep_by false h =
         let large : register_count ≤ place = grind (arith, nat_tests) in
         weaken z

@@ -3,7 +3,6 @@ pub mod Arithmetic
 pub mod Steps
 pub mod Held
 pub mod Pieces
-pub mod Stores
 pub mod Homes
 pub mod Computing
 pub mod OperatorRuns

@@ -1,9 +1,8 @@
 -- What the instructions for each operator compute, which is what the operator makes of its operands.
 use Rattle.std.proofs.Common.{◌≡◌, ℕ, zero, suc, ◌+◌, ◌-◌, ◌*◌, ◌/◌, ◌%◌, ◌^◌, ◌<◌, ◌≤◌, ◌==◌, ◌&&◌, ◌||◌, not, nat_lt, nat_le, Bool, true, false, if◌then◌else◌, bit_and, bit_or, refl, ap, ap₂, ◌∙◌, arith, ne_eqb}
-use Rattle.std.proofs.Math.Nat.{div-le_self, mod-le}
 use Rattle.std.proofs.lemmas.Bool.{true≢false}
 use Rattle.std.proofs.lemmas.Bool.Decides.{nat_tests}
-use Rattle.std.proofs.lemmas.Nat.{and_mask, and_le_l, or_of_32, xor_of_32, mod_below, pow_pos}
+use Rattle.std.proofs.lemmas.Nat.{and_mask, mod_below, pow_pos}
 use Rattle.rv_code.specs.declared.operations.ImmediateOperation.TheVariants.{Addi, Sltiu, Andi}
 use Rattle.rv_code.specs.declared.operations.ShiftOperation.TheVariants.{Slli, Srli}
 use Rattle.rv_code.specs.declared.operations.RegisterOperation.TheVariants as register
@@ -203,43 +202,8 @@ rotate_computes w b amount fits =
     ap (λ n. around_value w n (amount % bits w)) (cut_computes w b fits)
     ∙ around w (b % 2 ^ bits w) (amount % bits w) (mod_below b (2 ^ bits w) (pow_pos (bits w))) (mod_below amount (bits w) (wide w))
 
--- The values are words of 32 bits.
-
-pub converted_fits : (w : Width) (b : ℕ) → converted w b < 2 ^ 32
-converted_fits W8 b = omega arith
-converted_fits W16 b = omega arith
-converted_fits W32 b = omega arith
+-- a truth is a word of 32 bits
 
 pub truth_fits : (c : Bool) → word_of c < 2 ^ 32
 truth_fits false = omega arith
 truth_fits true = omega arith
-
-complement_fits : (w : Width) (n : ℕ) → 2 ^ bits w - 1 - n < 2 ^ 32
-complement_fits W8 n = omega arith
-complement_fits W16 n = omega arith
-complement_fits W32 n = omega arith
-
-pub prefix_fits : (operator : PrefixOperator) (w : Width) (b : ℕ) → prefix_value operator w b < 2 ^ 32
-prefix_fits Not w b = truth_fits (not (truth_of b))
-prefix_fits Complement w b = complement_fits w (b % 2 ^ bits w)
-prefix_fits Negate w b = converted_fits w (2 ^ bits w - b % 2 ^ bits w)
-
-pub operated_fits : (operator : BinaryOperator) (w : Width) (a b : ℕ) → a < 2 ^ 32 → b < 2 ^ 32 → operated operator w a b < 2 ^ 32
-operated_fits Either w a b p q = truth_fits (truth_of a || truth_of b)
-operated_fits Both w a b p q = truth_fits (truth_of a && truth_of b)
-operated_fits Equal w a b p q = truth_fits (a == b)
-operated_fits Unequal w a b p q = truth_fits (not (a == b))
-operated_fits Less w a b p q = truth_fits (nat_lt a b)
-operated_fits LessOrEqual w a b p q = truth_fits (nat_le a b)
-operated_fits Greater w a b p q = truth_fits (nat_lt b a)
-operated_fits GreaterOrEqual w a b p q = truth_fits (nat_le b a)
-operated_fits BitOr w a b p q = or_of_32 a b p q
-operated_fits BitXor w a b p q = xor_of_32 a b p q
-operated_fits BitAnd w a b p q = let h = and_le_l a b in omega (arith, h, p)
-operated_fits ShiftLeft w a b p q = converted_fits w (a * 2 ^ (b % 32))
-operated_fits ShiftRight w a b p q = converted_fits w (a / 2 ^ (b % 32))
-operated_fits Add w a b p q = converted_fits w (a + b)
-operated_fits Subtract w a b p q = converted_fits w (a + (2 ^ bits w - b % 2 ^ bits w))
-operated_fits Multiply w a b p q = converted_fits w (a * b)
-operated_fits Divide w a b p q = let h = div-le_self a b in omega (arith, h, p)
-operated_fits Remainder w a b p q = let h = mod-le a b in omega (arith, h, p)

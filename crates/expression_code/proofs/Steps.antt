@@ -1,5 +1,5 @@
 -- Code of one instruction.
-use Rattle.std.proofs.Common.{◌≡◌, ◌≢◌, ℕ, zero, suc, ◌+◌, ◌%◌, ◌^◌, ◌<◌, ◌≤◌, Bool, true, false, cond, nat_eq, List, [], ◌∷◌, ◌++◌, Option, Some, None, All, is_some, refl, sym, ap, ◌∙◌, subst, arith, eq-eqb, ne_eqb}
+use Rattle.std.proofs.Common.{◌≡◌, ◌≢◌, ℕ, ◌+◌, ◌%◌, ◌^◌, ◌<◌, ◌≤◌, Bool, true, false, cond, nat_eq, List, [], ◌∷◌, ◌++◌, Option, Some, None, is_some, refl, sym, ap, ap₂, ◌∙◌, subst, arith, eq-eqb, ne_eqb}
 use Rattle.std.proofs.lemmas.Bool.{false≢true}
 use Rattle.rv_code.specs.declared.instructions.Instr.{Instr}
 use Rattle.rv_code.specs.declared.instructions.Instr.TheVariants as instr
@@ -11,19 +11,18 @@ use Rattle.rv_code.specs.Words.{IsInstr}
 use Rattle.rv_machine.specs.declared.effects.Effect.TheVariants.{Computes}
 use Rattle.rv_machine.specs.declared.observation.Event.{Event}
 use Rattle.rv_machine.specs.declared.observation.Event.TheVariants as event
-use Rattle.rv_machine.specs.declared.observation.Observation.{Observation}
 use Rattle.rv_machine.specs.Bytes.{number_at, with_number}
 use Rattle.rv_machine.specs.Effects.{effect_of, address_of, load_size, loaded_value, store_size, multiply_value, divide_value}
 use Rattle.rv_machine.specs.Sizes.{byte_count}
 use Rattle.rv_machine.proofs.EndingLaws.{ending_of-Computes}
-use Rattle.rv_machine.specs.Leakage.{Leads, stays, turns}
+use Rattle.rv_machine.specs.Leakage.{stays, turns}
 use Rattle.rv_machine.specs.Machine.{State, Code, product_shown, ending_of, with_value, with_stored, IsAt}
 use Rattle.rv_machine.specs.Registers.{register, with_register}
 use Rattle.rv_machine.proofs.TurnLaws.{turn_of, with_value-pc, with_value-regs, with_value-bytes, with_stored-pc, with_stored-regs, with_stored-bytes, load_leads, store_leads, multiply_leads, divide_leads}
 use Rattle.branch_removal.specs.StraightMeaning.{StraightState}
 use Rattle.inline.specs.Path.{Path, indexed, divided, multiplied, seen as seen_of}
 use Rattle.expression_code.specs.Inside.{IsInside}
-use Rattle.expression_code.proofs.Straight.{Setting, none, Leak, always, Placed, Before, Ends, Runs}
+use Rattle.expression_code.proofs.Straight.{Setting, none, Leak, always, Placed, Before, Ends, Runs, turn_ends}
 use Rattle.word.specs.declared.place.Place.{Place}
 use Rattle.word.specs.declared.profile.Profile.{Profile}
 use Rattle.word.specs.declared.profile.Profile.TheVariants.{P1, P2}
@@ -57,21 +56,12 @@ moved s rd value h = record {
   same = with_value-bytes s rd value;
 }
 
-pub All-one : {A : Type 0} (P : A → Type 0) (x : A) → P x → All P (x ∷ [])
-All-one P x h zero d below = h
-All-one P x h (suc k) d below = absurd (omega arith)
-
 -- an instruction of placed code stands where the machine is
 pub stands : (code : Code) (p : ℕ) (i : Instr) (is : List Instr) → Placed code p (i ∷ is) → IsInstr i → (s : State) → s.pc ≡ p → IsAt code s.pc i
 stands code p i is placed ok s at = subst (λ q. IsAt code q i) (sym at) (record { aligned = placed.0; word = placed.2; in_range = ok })
 
 next_pc : (pc p q : ℕ) → pc ≡ p → p + 4 < 2 ^ 32 → q ≡ (pc + 4) % 2 ^ 32 → q ≡ p + 4
 next_pc pc p q at below e = omega arith
-
-observed : (code : Code) (s t : State) (p a b : ℕ) (e : ℕ → Option Event) → s.pc ≡ p → b ≡ a → Leads code 1 s (record { pc = s.pc; event = e b } ∷ []) t → Leads code 1 s (record { pc = p; event = e a } ∷ []) t
-observed code s t p a b e at is leads =
-    let first = subst (λ x. Leads code 1 s (record { pc = s.pc; event = e x } ∷ []) t) is leads in
-    subst (λ x. Leads code 1 s (record { pc = x; event = e a } ∷ []) t) at first
 
 pub some_of : (o : Option ℕ) → is_some o ≡ true → (v : ℕ) × (o ≡ Some v)
 some_of (Some v) h = (v, refl)
@@ -105,17 +95,7 @@ module _ (z : Setting) where
     runs = λ env s rest at fine fit.
         let v = value s.regs in
         let turn = turn_of z.code s i _ (stands z.code p i [] placed ok s at) (ap (λ e. ending_of z.code.profile e s) (effect s.pc s.regs) ∙ ending_of-Computes z.code.profile rd v s) in
-        record {
-          turns = 1;
-          end = with_value s rd v;
-          seen = record { pc = p; event = None } ∷ [];
-          leads = observed z.code s (with_value s rd v) p 0 0 (λ a. None) at refl (turns turn stays);
-          within = omega arith;
-          shown = refl;
-          inside = All-one (λ (o : Observation). IsInside z.frame z.size o.event) (record { pc = p; event = None }) tt;
-          at = next_pc s.pc p _ at placed.1 (with_value-pc s rd v);
-          done = moved s rd v nonzero;
-        };
+        turn_ends z None None (with_value s rd v) at (turns turn stays) refl tt refl (next_pc s.pc p _ at placed.1 (with_value-pc s rd v)) (moved s rd v nonzero);
   }
 
   -- One access, at an address that is read off the path or known beforehand.
@@ -131,20 +111,11 @@ module _ (z : Setting) where
       let found = some_of (number_at s.bytes n a) fit.data_there in
       let v = found.0 in
       let is = fit.address in
-      let b = address_of s.regs rs offset in
       let leads = load_leads z.code s operation rd rs offset v (stands z.code p _ [] placed ok s at) (ap (λ x. x % n) is ∙ even) (ap (λ x. number_at s.bytes n x) is ∙ found.1) in
       let moves = moved s rd (loaded_value operation v) nonzero in
-      record {
-        turns = 1;
-        end = with_value s rd (loaded_value operation v);
-        seen = record { pc = p; event = Some (event.Load a (load_size operation)) } ∷ [];
-        leads = observed z.code s (with_value s rd (loaded_value operation v)) p a b (λ x. Some (event.Load x (load_size operation))) at is leads;
-        within = omega arith;
-        shown = shown;
-        inside = All-one (λ (o : Observation). IsInside z.frame z.size o.event) (record { pc = p; event = Some (event.Load a (load_size operation)) }) (low, high);
-        at = next_pc s.pc p _ at placed.1 (with_value-pc s rd (loaded_value operation v));
-        done = record { value = v; found = found.1; there = moves.there; others = moves.others; same = moves.same };
-      }
+      turn_ends z _ (Some (event.Load a (load_size operation))) (with_value s rd (loaded_value operation v)) at leads (ap (λ x. Some (event.Load x (load_size operation))) is) (low, high)
+      shown (next_pc s.pc p _ at placed.1 (with_value-pc s rd (loaded_value operation v)))
+      (record { value = v; found = found.1; there = moves.there; others = moves.others; same = moves.same })
 
   store_ends : (operation : StoreOperation) (rs2 rs offset a p : ℕ) (leak : Leak) (path rest : Path) → IsInstr (instr.Store operation rs2 rs offset)
       → Placed z.code p (instr.Store operation rs2 rs offset ∷ [])
@@ -158,17 +129,9 @@ module _ (z : Setting) where
       let b = address_of s.regs rs offset in
       let v = register s.regs rs2 in
       let leads = store_leads z.code s operation rs2 rs offset (stands z.code p _ [] placed ok s at) (ap (λ x. x % n) is ∙ even) (ap (λ x. is_some (number_at s.bytes n x)) is ∙ fit.data_there) in
-      record {
-        turns = 1;
-        end = with_stored s (store_size operation) b v;
-        seen = record { pc = p; event = Some (event.Store a (store_size operation)) } ∷ [];
-        leads = observed z.code s (with_stored s (store_size operation) b v) p a b (λ x. Some (event.Store x (store_size operation))) at is leads;
-        within = omega arith;
-        shown = shown;
-        inside = All-one (λ (o : Observation). IsInside z.frame z.size o.event) (record { pc = p; event = Some (event.Store a (store_size operation)) }) (low, high);
-        at = next_pc s.pc p _ at placed.1 (with_stored-pc s operation b v);
-        done = record { written = with_stored-bytes s operation b v ∙ ap (λ x. with_number s.bytes n x v) is; same = with_stored-regs s operation b v };
-      }
+      turn_ends z _ (Some (event.Store a (store_size operation))) (with_stored s (store_size operation) b v) at leads (ap (λ x. Some (event.Store x (store_size operation))) is) (low, high)
+      shown (next_pc s.pc p _ at placed.1 (with_stored-pc s operation b v))
+      (record { written = with_stored-bytes s operation b v ∙ ap (λ x. with_number s.bytes n x v) is; same = with_stored-regs s operation b v })
 
   -- an access that keeps inside the frame
   pub record Inside (n a : ℕ) : Type 0 where
@@ -226,25 +189,9 @@ module _ (z : Setting) where
         let a = register s.regs rs1 in
         let b = register s.regs rs2 in
         let v = divide_value operation a b in
-        let leads = divide_leads z.code s operation rd rs1 rs2 (stands z.code p _ [] placed ok s at) in
-        let moves = moved s rd v nonzero in
-        record {
-          turns = 1;
-          end = with_value s rd v;
-          seen = record { pc = p; event = Some (event.Div (left env) (right env)) } ∷ [];
-          leads =
-              subst (λ y. Leads z.code 1 s (record { pc = p; event = Some (event.Div (left env) y) } ∷ []) (with_value s rd v)) fit.1
-              (observed z.code s (with_value s rd v) p (left env) a (λ x. Some (event.Div x b)) at fit.0 leads);
-          within = omega arith;
-          shown = refl;
-          inside = All-one (λ (o : Observation). IsInside z.frame z.size o.event) (record { pc = p; event = Some (event.Div (left env) (right env)) }) tt;
-          at = next_pc s.pc p _ at placed.1 (with_value-pc s rd v);
-          done = record {
-            there = moves.there ∙ (ap (λ x. divide_value operation x b) fit.0 ∙ ap (λ y. divide_value operation (left env) y) fit.1);
-            others = moves.others;
-            same = moves.same;
-          };
-        };
+        turn_ends z _ (Some (event.Div (left env) (right env))) (with_value s rd v) at (divide_leads z.code s operation rd rs1 rs2 (stands z.code p _ [] placed ok s at))
+        (ap₂ (λ x y. Some (event.Div x y)) fit.0 fit.1) tt refl (next_pc s.pc p _ at placed.1 (with_value-pc s rd v))
+        (subst (λ w. Moves rd w s (with_value s rd v)) (ap₂ (divide_value operation) fit.0 fit.1) (moved s rd v nonzero));
   }
 
   -- what is shown of the next mark's factors, where they are seen
@@ -272,25 +219,8 @@ module _ (z : Setting) where
         let a = register s.regs rs1 in
         let b = register s.regs rs2 in
         let v = multiply_value operation a b in
-        let leads = multiply_leads z.code s operation rd rs1 rs2 (stands z.code p _ [] placed ok s at) in
-        let moves = moved s rd v nonzero in
-        record {
-          turns = 1;
-          end = with_value s rd v;
-          seen = record { pc = p; event = product_shown z.code.profile (left env) (right env) } ∷ [];
-          leads =
-              subst (λ y. Leads z.code 1 s (record { pc = p; event = product_shown z.code.profile (left env) y } ∷ []) (with_value s rd v)) fit.1
-              (observed z.code s (with_value s rd v) p (left env) a (λ x. product_shown z.code.profile x b) at fit.0 leads);
-          within = omega arith;
-          shown = factors_shown z.code.profile p (left env) (right env) rest;
-          inside =
-              All-one (λ (o : Observation). IsInside z.frame z.size o.event) (record { pc = p; event = product_shown z.code.profile (left env) (right env) })
-              (factors_inside z.code.profile (left env) (right env));
-          at = next_pc s.pc p _ at placed.1 (with_value-pc s rd v);
-          done = record {
-            there = moves.there ∙ (ap (λ x. multiply_value operation x b) fit.0 ∙ ap (λ y. multiply_value operation (left env) y) fit.1);
-            others = moves.others;
-            same = moves.same;
-          };
-        };
+        turn_ends z _ (product_shown z.code.profile (left env) (right env)) (with_value s rd v) at (multiply_leads z.code s operation rd rs1 rs2 (stands z.code p _ [] placed ok s at))
+        (ap₂ (product_shown z.code.profile) fit.0 fit.1) (factors_inside z.code.profile (left env) (right env))
+        (factors_shown z.code.profile p (left env) (right env) rest) (next_pc s.pc p _ at placed.1 (with_value-pc s rd v))
+        (subst (λ w. Moves rd w s (with_value s rd v)) (ap₂ (multiply_value operation) fit.0 fit.1) (moved s rd v nonzero));
   }

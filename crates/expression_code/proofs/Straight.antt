@@ -2,7 +2,7 @@
 -- that the observer sees, before any state is given: it reads what it puts there and hands on the rest. So a piece that
 -- follows another reads on where that one has ended, and nobody has to say where the path is cut. A branch and a loop look
 -- at the next mark and choose by it. Each piece may count on it that its part of the path is fine.
-use Rattle.std.proofs.Common.{◌≡◌, ℕ, suc, ◌+◌, ◌*◌, ◌%◌, ◌^◌, ◌<◌, ◌≤◌, List, [], ◌∷◌, ◌++◌, length, All, refl, sym, ap, ◌∙◌, subst, arith, length-append, append_assoc}
+use Rattle.std.proofs.Common.{◌≡◌, ℕ, zero, suc, ◌+◌, ◌*◌, ◌%◌, ◌^◌, ◌<◌, ◌≤◌, List, [], ◌∷◌, ◌++◌, length, All, Option, refl, sym, ap, ◌∙◌, subst, arith, length-append, append_assoc}
 use Rattle.std.proofs.lemmas.List.Elements.{All-append}
 use Rattle.inline.specs.Path.{Path, AreFine, seen as seen_of}
 use Rattle.inline.specs.declared.flat.FlatVariable.{FlatVariable}
@@ -12,6 +12,7 @@ pub use Rattle.expression_code.specs.Computed.{Placed}
 use Rattle.expression_code.specs.Inside.{IsInside}
 use Rattle.expression_code.specs.Layout.{temporaries_offset}
 use Rattle.rv_code.specs.declared.instructions.Instr.{Instr}
+use Rattle.rv_machine.specs.declared.observation.Event.{Event}
 use Rattle.rv_machine.specs.declared.observation.Observation.{Observation}
 use Rattle.rv_machine.specs.Leakage.{Leads, stays}
 use Rattle.rv_machine.specs.Machine as machine
@@ -130,6 +131,10 @@ pub record Then (Q R : After) (env : StraightState) (s u : machine.State) : Type
 All-none : {A : Type 0} (P : A → Type 0) → All P []
 All-none P k d below = absurd (omega (arith, below))
 
+pub All-one : {A : Type 0} (P : A → Type 0) (x : A) → P x → All P (x ∷ [])
+All-one P x h zero d below = h
+All-one P x h (suc k) d below = absurd (omega arith)
+
 pub append-none : (path : Path) → path ++ [] ≡ path
 append-none [] = refl
 append-none (x ∷ path) = ap (λ (rest : Path). x ∷ rest) (append-none path)
@@ -138,7 +143,7 @@ module _ (z : Setting) where
   -- Turns from one state.
 
   -- none
-  pub stop_here : {q : ℕ} {path : Path} {Q : machine.State → Type 0} (s : machine.State) → s.pc ≡ q → Q s → Ends z 0 q (always []) path path Q s
+  pub stop_here : {n q : ℕ} {path : Path} {Q : machine.State → Type 0} (s : machine.State) → s.pc ≡ q → Q s → Ends z n q (always []) path path Q s
   stop_here s at done = record {
     turns = 0;
     end = s;
@@ -148,6 +153,24 @@ module _ (z : Setting) where
     shown = refl;
     inside = All-none (λ (o : Observation). IsInside z.frame z.size o.event);
     at = at;
+    done = done;
+  }
+
+  -- one, which shows this event
+  pub turn_ends : {p q : ℕ} {leak : Leak} {path rest : Path} {Q : machine.State → Type 0} {s : machine.State} (shows known : Option Event) (t : machine.State)
+      → s.pc ≡ p → Leads z.code 1 s (record { pc = s.pc; event = shows } ∷ []) t → shows ≡ known → IsInside z.frame z.size known
+      → leak path ≡ (record { pc = p; event = known } ∷ [], rest) → t.pc ≡ q → Q t → Ends z 1 q leak path rest Q s
+  turn_ends {p = p} {s = s} shows known t at leads same inside shown there done = record {
+    turns = 1;
+    end = t;
+    seen = record { pc = p; event = known } ∷ [];
+    leads =
+        subst (λ e. Leads z.code 1 s (record { pc = p; event = e } ∷ []) t) same
+        (subst (λ x. Leads z.code 1 s (record { pc = x; event = shows } ∷ []) t) at leads);
+    within = omega arith;
+    shown = shown;
+    inside = All-one (λ (o : Observation). IsInside z.frame z.size o.event) (record { pc = p; event = known }) inside;
+    at = there;
     done = done;
   }
 
@@ -217,11 +240,8 @@ module _ (z : Setting) where
   -- Pieces.
 
   -- no instruction
-  pub idle : {P : Before} → Runs z 0 none [] P (λ env s t. t ≡ s)
-  idle p placed = record {
-    leak = always [];
-    runs = λ env s rest at fine fit. stop_here s (omega (arith, at)) refl;
-  }
+  pub idle : {n : ℕ} {P : Before} {Q : After} → ((env : StraightState) (s : machine.State) → P env s → Q env s s) → Runs z n none [] P Q
+  idle still p placed = record { leak = always []; runs = λ env s rest at fine fit. stop_here s (omega (arith, at)) (still env s fit) }
 
   -- two pieces of code, one after the other
   pub seq : {m n : ℕ} {a b : Steps} {xs ys : List Instr} {P P' : Before} {Q R : After}
