@@ -1,5 +1,5 @@
 -- The code that makes an array of zeros.
-use Rattle.std.proofs.Common.{◌≡◌, ◌≢◌, ℕ, zero, suc, ◌+◌, ◌-◌, ◌*◌, ◌/◌, ◌%◌, ◌^◌, ◌<◌, ◌≤◌, ◌==◌, ◌⊎◌, inl, inr, Bool, true, false, cond, nat_lt, [], ◌∷◌, ◌++◌, replicate, Some, slice_get, slice_index, refl, sym, ap, ◌∙◌, subst, arith}
+use Rattle.std.proofs.Common.{◌≡◌, ℕ, zero, suc, ◌+◌, ◌-◌, ◌*◌, ◌/◌, ◌%◌, ◌<◌, ◌≤◌, ◌==◌, ◌⊎◌, inl, inr, Bool, true, false, cond, nat_lt, List, [], ◌∷◌, ◌++◌, length, replicate, Some, slice_get, slice_index, refl, sym, ap, ◌∙◌, subst, arith, length-append}
 use Rattle.std.proofs.lemmas.Bool.Decides.{nat_tests}
 use Rattle.std.proofs.lemmas.Option.{same_Some}
 use Rattle.std.proofs.lemmas.Bool.{eqb-true, eqb-false}
@@ -14,32 +14,32 @@ use Rattle.branch_removal.specs.StraightTyping.{IsFilled}
 use Rattle.codegen.specs.private.Emitted.{clear_code, statement_code}
 use Rattle.codegen.specs.private.Jumps.{loop_code}
 use Rattle.expression_code.specs.Layout.{variable_offset, result_offset, control_offset}
-use Rattle.expression_code.specs.TermCode.{upper_part, lower_part, constant_code}
+use Rattle.expression_code.specs.TermCode.{constant_code}
 use Rattle.language.specs.declared.signature.Kind.{Kind}
 use Rattle.language.specs.declared.signature.Kind.TheVariants.{Boolean, Uint8, Uint16, Uint32}
 use Rattle.language.specs.Size.{array_words}
+use Rattle.rv_code.specs.declared.instructions.Instr.{Instr}
 use Rattle.rv_code.specs.declared.instructions.Instr.TheVariants as instr
-use Rattle.rv_code.specs.declared.operations.UpperOperation.TheVariants.{Lui}
 use Rattle.rv_code.specs.declared.operations.ImmediateOperation.TheVariants.{Addi}
 use Rattle.rv_code.specs.declared.operations.RegisterOperation.TheVariants.{Add, Sub}
 use Rattle.rv_code.specs.declared.operations.StoreOperation.TheVariants.{Sw}
 use Rattle.rv_machine.specs.Bytes.{ByteMap, number_at, with_number}
-use Rattle.rv_machine.specs.Effects.{sum_of, difference_of, sign_extended}
+use Rattle.rv_machine.specs.Effects.{sum_of, difference_of}
 use Rattle.rv_machine.specs.Machine as machine
-use Rattle.rv_machine.specs.Registers.{register}
+use Rattle.rv_machine.specs.Registers.{with_register}
 use Rattle.rv_machine.proofs.ByteLaws.{number_at_same, with_number-suc, with_byte_same, with_byte_other, with_number_below, with_number_above}
 use Rattle.codegen.proofs.Arguments.{zero_at, held_zeros}
-use Rattle.expression_code.proofs.Arithmetic.{near_field, parts, upper_fits, lower_fits}
-use Rattle.expression_code.proofs.Computing.{computing_runs}
+use Rattle.expression_code.proofs.Computing.{registers_after, only_computes, is_working, computing_runs}
+use Rattle.expression_code.proofs.Operations.{plain_append, after_append, constant_plain, constant_after}
+use Rattle.expression_code.proofs.TermLengths.{constant_length}
 use Rattle.expression_code.proofs.ExpressionRuns.{kind_known}
 use Rattle.expression_code.proofs.Held.{HeldAt, Held, held_regs, held_store, frame_there}
 use Rattle.codegen.proofs.Jumps.{Still, looping_for}
 use Rattle.codegen.proofs.Marks.{never}
 use Rattle.codegen.proofs.Numbers.{zero_number}
-use Rattle.expression_code.proofs.Pieces.{register-at}
 use Rattle.expression_code.proofs.Places.{bytes_of, place_of, place_within, ends_before_result, apart_from}
 use Rattle.codegen.proofs.Showing.{Shown}
-use Rattle.expression_code.proofs.Steps.{Always, Moves, computing, storing}
+use Rattle.expression_code.proofs.Steps.{computing, storing}
 use Rattle.expression_code.proofs.Straight.{Setting, none, Runs, seq, quiet, weaken, gives, cheaper, along, as_code}
 use Rattle.expression_code.proofs.Values.{Ready}
 
@@ -75,37 +75,6 @@ pub record Cleared (z : Setting) (offset count : ℕ) (o s : machine.State) : Ty
   pub others : (b : ℕ) → (b < offset) ⊎ (offset + 4 * count ≤ b) → s.bytes (z.frame + b) ≡ o.bytes (z.frame + b)
 
 module _ (z : Setting) (offset words : ℕ) (aligned : offset % 4 ≡ 0) (inside : offset + 4 * words ≤ z.size) where
-  -- a number into a working register
-  constant_by : (r n : ℕ) (small : r < 32) (nonzero : r ≢ 0) (near : Bool) → nat_lt n 2048 ≡ near → n < 2 ^ 32
-      → Runs z 2 none (cond near (instr.Immediate Addi r 0 n ∷ []) (instr.Upper Lui r (upper_part n) ∷ instr.Immediate Addi r r (lower_part n) ∷ [])) Always (λ env s t. Moves r n s t)
-  constant_by r n small nonzero true e fits =
-      let near : n < 2048 = grind (arith, nat_tests) in
-      let field = near_field n near in
-      cheaper z (omega arith)
-      (weaken z
-      (λ env s fine fit. tt)
-      (λ env s t fine fit moves. record { there = moves.there ∙ (ap (λ v. sum_of 0 v) field ∙ omega (arith, fits)); others = moves.others; same = moves.same })
-      (computing z (instr.Immediate Addi r 0 n) r (λ regs. sum_of 0 (sign_extended 12 n)) (small, omega arith, omega (arith, near)) nonzero (λ pc regs. refl)))
-  constant_by r n small nonzero false e fits =
-      weaken z {P = Always}
-      (λ env s fine fit. tt)
-      (λ env s t fine fit both.
-      let m = both.middle in
-      let one = both.first in
-      let two = both.second in
-      record {
-        there = two.there ∙ (ap (λ a. sum_of a (sign_extended 12 (lower_part n))) (register-at m.regs r nonzero ∙ one.there) ∙ parts n fits);
-        others = λ q h. two.others q h ∙ one.others q h;
-        same = two.same ∙ one.same;
-      })
-      (seq z
-      (computing z (instr.Upper Lui r (upper_part n)) r (λ regs. upper_part n * 2 ^ 12) (small, upper_fits n) nonzero (λ pc regs. refl))
-      (computing z (instr.Immediate Addi r r (lower_part n)) r (λ regs. sum_of (register regs r) (sign_extended 12 (lower_part n))) (small, small, lower_fits n) nonzero (λ pc regs. refl))
-      (λ env s t fit done. tt))
-
-  constant_runs : (r n : ℕ) → r < 32 → r ≢ 0 → n < 2 ^ 32 → Runs z 2 none (constant_code r n) Always (λ env s t. Moves r n s t)
-  constant_runs r n small nonzero fits = constant_by r n small nonzero (nat_lt n 2048) refl fits
-
   -- the array's first address, and the one behind it
   record Bounded (i : ℕ) (env : StraightState) (s : machine.State) : Type 0 where
     held : HeldAt z s
@@ -116,44 +85,51 @@ module _ (z : Setting) (offset words : ℕ) (aligned : offset % 4 ≡ 0) (inside
     bounds : Bounded 0 env t
     same : t.bytes ≡ s.bytes
 
-  begin_runs : Runs z 6 none (constant_code 6 offset ++ instr.Register Add 6 6 2 ∷ [] ++ constant_code 7 (4 * words) ++ instr.Register Add 7 7 6 ∷ []) (Held z) Begun
+  -- two numbers, to each of which a register is added
+  abbrev first_sum : List Instr
+  first_sum = instr.Register Add 6 6 2 ∷ []
+
+  abbrev last_sum : List Instr
+  last_sum = instr.Register Add 7 7 6 ∷ []
+
+  abbrev begin_code : List Instr
+  begin_code = constant_code 6 offset ++ first_sum ++ constant_code 7 (4 * words) ++ last_sum
+
+  begin_plain : only_computes is_working begin_code ≡ true
+  begin_plain =
+      let six = constant_plain is_working 6 offset refl (omega arith) in
+      let seven = constant_plain is_working 7 (4 * words) refl (omega arith) in
+      let front = plain_append is_working (constant_code 6 offset) first_sum six refl in
+      plain_append is_working (constant_code 6 offset ++ first_sum ++ constant_code 7 (4 * words)) last_sum (plain_append is_working (constant_code 6 offset ++ first_sum) (constant_code 7 (4 * words)) front seven) refl
+
+  begin_length : length begin_code ≤ 6
+  begin_length = simp length-append (omega (arith, constant_length 6 offset, constant_length 7 (4 * words)))
+
+  begin_after : (regs : ℕ → ℕ) → registers_after begin_code regs ≡ registers_after last_sum (with_register (registers_after first_sum (with_register regs 6 offset)) 7 (4 * words))
+  begin_after regs =
+      let ends = z.ends in
+      let six = after_append (constant_code 6 offset) first_sum regs ∙ ap (registers_after first_sum) (constant_after 6 offset (λ e. omega arith) (omega (arith, ends, inside)) regs) in
+      let seven = constant_after 7 (4 * words) (λ e. omega arith) (omega (arith, ends, inside)) (registers_after (constant_code 6 offset ++ first_sum) regs) in
+      after_append (constant_code 6 offset ++ first_sum ++ constant_code 7 (4 * words)) last_sum regs
+      ∙ ap (registers_after last_sum) (after_append (constant_code 6 offset ++ first_sum) (constant_code 7 (4 * words)) regs ∙ (seven ∙ ap (λ (all : ℕ → ℕ). with_register all 7 (4 * words)) six))
+
+  begin_runs : Runs z 6 none (begin_code) (Held z) Begun
   begin_runs =
       let ends = z.ends in
-      cheaper z (omega arith)
+      cheaper z begin_length
       (gives z
       (λ env s t fine held done.
-      let m3 = done.middle in
-      let m2 = done.first.middle in
-      let m1 = done.first.first.middle in
-      let one = done.first.first.first in
-      let two = done.first.first.second in
-      let three = done.first.second in
-      let four = done.second in
-      let base : m1.regs 2 ≡ z.frame = one.others 2 (λ e. omega arith) ∙ held.base in
-      let six : m2.regs 6 ≡ z.frame + offset = two.there ∙ (ap (λ a. sum_of a (m1.regs 2)) one.there ∙ (ap (λ b. sum_of offset b) base ∙ omega (arith, ends, inside))) in
-      let six' : m3.regs 6 ≡ z.frame + offset = three.others 6 (λ e. omega arith) ∙ six in
-      let same : t.bytes ≡ s.bytes = four.same ∙ (three.same ∙ (two.same ∙ one.same)) in
+      let all = done.registers ∙ begin_after s.regs in
+      let to = λ (n : ℕ). ap (λ base. sum_of n base) held.base in
       record {
         bounds = record {
-          held = held_regs z s t (four.others 2 (λ e. omega arith) ∙ (three.others 2 (λ e. omega arith) ∙ (two.others 2 (λ e. omega arith) ∙ one.others 2 (λ e. omega arith)))) same held;
-          six = four.others 6 (λ e. omega arith) ∙ (six' ∙ omega arith);
-          seven = four.there ∙ (ap (λ a. sum_of a (m3.regs 6)) three.there ∙ (ap (λ b. sum_of (4 * words) b) six' ∙ omega (arith, ends, inside)));
+          held = done.held;
+          six = ap (λ (regs : ℕ → ℕ). regs 6) all ∙ (to offset ∙ omega (arith, ends, inside));
+          seven = ap (λ (regs : ℕ → ℕ). regs 7) all ∙ (ap (λ a. sum_of (4 * words) a) (to offset) ∙ omega (arith, ends, inside));
         };
-        same = same;
+        same = done.same;
       })
-      (quiet z
-      (quiet z
-      (quiet z
-      (weaken z {P' = Held z}
-      (λ env s fine held. tt)
-      (λ env s t fine held done. done)
-      (constant_runs 6 offset (omega arith) (λ e. omega arith) (omega (arith, ends, inside))))
-      (computing z (instr.Register Add 6 6 2) 6 (λ regs. sum_of (regs 6) (regs 2)) (omega arith, omega arith, omega arith) (λ e. omega arith) (λ pc regs. refl))
-      (λ env s t held done. tt))
-      (constant_runs 7 (4 * words) (omega arith) (λ e. omega arith) (omega (arith, ends, inside)))
-      (λ env s t held done. tt))
-      (computing z (instr.Register Add 7 7 6) 7 (λ regs. sum_of (regs 7) (regs 6)) (omega arith, omega arith, omega arith) (λ e. omega arith) (λ pc regs. refl))
-      (λ env s t held done. tt)))
+      (computing_runs z (begin_code) begin_plain))
 
   -- The loop.
 

@@ -35,7 +35,7 @@ use Rattle.expression_code.proofs.Computing.{computing_runs}
 use Rattle.expression_code.proofs.Elements.{Addressed, address_runs}
 use Rattle.expression_code.proofs.ExpressionRuns.{steps_of, expr_runs, kind_known, load_bytes, load_plain}
 use Rattle.expression_code.proofs.Held.{HeldAt, held_regs, held_store, frame_there}
-use Rattle.expression_code.proofs.Homes.{IsFree}
+use Rattle.expression_code.proofs.Homes.{free_from}
 use Rattle.codegen.proofs.Marks.{Indexed, by_index}
 use Rattle.expression_code.proofs.Masks.{mask_of, merged, merge}
 use Rattle.expression_code.proofs.Pieces.{load_runs}
@@ -88,9 +88,6 @@ module _ (z : Setting) (x size : ℕ) (word : WordType) (mutable : Bool) (known 
       let even : (z.frame + at i) % element_bytes word.kind ≡ 0 = place_aligned z.declared x d i z.frame z.even in
       record { even = ap (λ m. (z.frame + at i) % m) is ∙ even; low = omega arith; high = omega (arith, h, is) }
 
-  index_free : IsFree 5
-  index_free = record { small = omega arith; nonzero = λ e. omega arith; not_base = λ e. omega arith; not_scratch = λ e. omega arith }
-
   addressed_at : (i : ℕ) (value : StraightState → ℕ) → i < size → Runs z 4 none (address_code 5 word.kind offset) (Aimed z i value) (λ env s t. Addressed z 5 offset (at i) env s t)
   addressed_at i value below =
       let h = element_inside i below in
@@ -98,7 +95,7 @@ module _ (z : Setting) (x size : ℕ) (word : WordType) (mutable : Bool) (known 
       weaken z
       (λ env s fine aimed. (aimed.ready.held, aimed.five, omega (arith, h, ends)))
       (λ env s t fine aimed done. done)
-      (address_runs z 5 index_free word.kind offset (λ env. i))
+      (address_runs z 5 (free_from 5 (omega arith) (omega arith)) (λ e. omega arith) word.kind offset (λ env. i))
 
   there_at : (i n : ℕ) (s : machine.State) → n ≡ element_bytes word.kind → i < size → HeldAt z s → is_some (number_at s.bytes n (z.frame + at i)) ≡ true
   there_at i n s is below held =

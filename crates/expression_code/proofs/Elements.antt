@@ -1,30 +1,26 @@
 -- The address of an element, from its index in a register.
-use Rattle.std.proofs.Common.{◌≡◌, ◌≢◌, ℕ, ◌+◌, ◌*◌, ◌^◌, ◌<◌, Bool, true, false, cond, nat_lt, [], ◌∷◌, refl, sym, ap, ◌∙◌, arith}
+use Rattle.std.proofs.Common.{◌≡◌, ◌≢◌, ℕ, ◌+◌, ◌*◌, ◌^◌, ◌<◌, ◌==◌, Bool, true, false, cond, nat_lt, List, [], ◌∷◌, ◌++◌, refl, sym, ap, ap₂, ◌∙◌, arith}
 use Rattle.std.proofs.lemmas.Bool.Decides.{nat_tests}
 use Rattle.rv_code.specs.declared.instructions.Instr.TheVariants as instr
 use Rattle.rv_code.specs.declared.operations.UpperOperation.TheVariants.{Lui}
 use Rattle.rv_code.specs.declared.operations.RegisterOperation.TheVariants.{Add}
-use Rattle.rv_code.specs.declared.operations.ShiftOperation.TheVariants.{Slli}
-use Rattle.rv_machine.specs.Effects.{address_of, sum_of, sign_extended, shift_value}
+use Rattle.rv_machine.specs.Effects.{address_of, sum_of, sign_extended}
 use Rattle.rv_machine.specs.Machine.{State}
-use Rattle.rv_machine.specs.Registers.{register}
 use Rattle.branch_removal.specs.StraightMeaning.{StraightState}
 use Rattle.expression_code.specs.TermCode.{upper_part, lower_part, scale_code, address_code}
 use Rattle.language.specs.declared.signature.Kind.{Kind}
 use Rattle.language.specs.declared.signature.Kind.TheVariants.{Boolean, Uint8, Uint16, Uint32}
 use Rattle.language.specs.Size.{element_bytes}
 use Rattle.expression_code.proofs.Arithmetic.{near_field, parts, upper_fits}
-use Rattle.expression_code.proofs.Held.{HeldAt, Held, held_regs}
-use Rattle.expression_code.proofs.Homes.{IsFree}
+use Rattle.expression_code.proofs.Computing.{registers_after, only_computes, computing_within}
+use Rattle.expression_code.proofs.Operations.{plain_append, after_append, either_of, ll, lr, rl, l0, l32, allowed, kept_beside}
+use Rattle.expression_code.proofs.TermLengths.{address_length}
+use Rattle.rv_code.specs.declared.instructions.Instr.{Instr}
+use Rattle.std.proofs.lemmas.Bool.{lt-ltb}
+use Rattle.expression_code.proofs.Held.{HeldAt, Held}
+use Rattle.expression_code.proofs.Homes.{IsFree, free_from}
 use Rattle.expression_code.proofs.Pieces.{register-at}
-use Rattle.expression_code.proofs.Steps.{Always, Moves, computing}
-use Rattle.expression_code.proofs.Straight.{Setting, Before, none, Runs, seq, weaken, gives, idle}
-
--- only this register and the one for addresses are written
-pub record Rewrites (r value : ℕ) (s t : State) : Type 0 where
-  pub there : t.regs r ≡ value
-  pub others : (q : ℕ) → q ≢ r → q ≢ 28 → t.regs q ≡ s.regs q
-  pub same : t.bytes ≡ s.bytes
+use Rattle.expression_code.proofs.Straight.{Setting, none, Runs, weaken, cheaper}
 
 -- with the lower part of the offset it is the address of an element
 pub record Addressed (z : Setting) (r o a : ℕ) (env : StraightState) (s t : State) : Type 0 where
@@ -49,51 +45,39 @@ element_address : (frame o i : ℕ) (near : Bool) → nat_lt o 2048 ≡ near →
 element_address frame o i true h below = near_sum frame o i (grind (arith, nat_tests)) below
 element_address frame o i false h below = far_sums frame o i (upper_part o * 2 ^ 12) (sign_extended 12 (lower_part o)) (parts o (omega (arith, below))) below
 
-module _ (z : Setting) (r : ℕ) (free : IsFree r) where
-  shifts : (n times : ℕ) → n < 32 → ((v : ℕ) → times * v < 2 ^ 32 → shift_value Slli v n ≡ times * v)
-      → Runs z 1 none (instr.Shift Slli r r n ∷ []) (λ env s. times * s.regs r < 2 ^ 32) (λ env s t. Moves r (times * s.regs r) s t)
-  shifts n times small is =
-      weaken z {P = Always}
-      (λ env s fine fit. tt)
-      (λ env s t fine fit moves. record {
-        there = moves.there ∙ (ap (λ v. shift_value Slli v n) (register-at s.regs r free.nonzero) ∙ is (s.regs r) fit);
-        others = moves.others;
-        same = moves.same;
-      })
-      (computing z (instr.Shift Slli r r n) r (λ regs. shift_value Slli (register regs r) n) (free.small, free.small, small) free.nonzero (λ pc regs. refl))
+module _ (z : Setting) (r : ℕ) (free : IsFree r) (apart : r ≢ 28) where
+  scratch : IsFree 28
+  scratch = free_from 28 (omega arith) (omega arith)
 
-  unshifted : Runs z 1 none [] (λ env s. 1 * s.regs r < 2 ^ 32) (λ env s t. Moves r (1 * s.regs r) s t)
-  unshifted =
-      idle z (λ env s fit. let one : s.regs r ≡ 1 * s.regs r = omega arith in record { there = one; others = λ q other. refl; same = refl })
+  rr : (r == r) ≡ true
+  rr = ll r 28 free scratch apart
 
-  -- times the bytes of an element
-  scale_runs : (kind : Kind) → Runs z 1 none (scale_code r kind) (λ env s. element_bytes kind * s.regs r < 2 ^ 32) (λ env s t. Moves r (element_bytes kind * s.regs r) s t)
-  scale_runs Boolean = unshifted
-  scale_runs Uint8 = unshifted
-  scale_runs Uint16 = shifts 1 2 (omega arith) (λ v below. omega (arith, below))
-  scale_runs Uint32 = shifts 2 4 (omega arith) (λ v below. omega (arith, below))
+  -- an index times the bytes of an element
 
-  raise_by : (o : ℕ) (near : Bool) → Runs z 2 none (cond near [] (instr.Upper Lui 28 (upper_part o) ∷ instr.Register Add r r 28 ∷ [])) Always (λ env s t. Rewrites r (raised near o (s.regs r)) s t)
-  raise_by o true = idle z (λ env s fit. record { there = refl; others = λ q other another. refl; same = refl })
-  raise_by o false =
-      weaken z {P = Always}
-      (λ env s fine fit. tt)
-      (λ env s t fine fit both.
-      let m = both.middle in
-      let one = both.first in
-      let two = both.second in
-      record {
-        there = two.there ∙ (ap (λ x. sum_of x (m.regs 28)) (register-at m.regs r free.nonzero ∙ one.others r free.not_scratch) ∙ ap (λ x. sum_of (s.regs r) x) one.there);
-        others = λ q other another. two.others q other ∙ one.others q another;
-        same = two.same ∙ one.same;
-      })
-      (seq z
-      (computing z (instr.Upper Lui 28 (upper_part o)) 28 (λ regs. upper_part o * 2 ^ 12) (omega arith, upper_fits o) (λ e. omega arith) (λ pc regs. refl))
-      (computing z (instr.Register Add r r 28) r (λ regs. sum_of (register regs r) (regs 28)) (free.small, free.small, omega arith) free.nonzero (λ pc regs. refl))
-      (λ env s t fit done. tt))
+  scale_plain : (kind : Kind) → only_computes (either_of r 28) (scale_code r kind) ≡ true
+  scale_plain Boolean = refl
+  scale_plain Uint8 = refl
+  scale_plain Uint16 = simp (rr, l32 r 28 free scratch apart)
+  scale_plain Uint32 = simp (rr, l32 r 28 free scratch apart)
 
-  abbrev Asks : Kind → ℕ → (StraightState → ℕ) → Before
-  Asks kind o index env s = HeldAt z s × (s.regs r ≡ index env) × (z.frame + (o + element_bytes kind * index env) < 2 ^ 32)
+  scaled : (kind : Kind) (regs : ℕ → ℕ) → element_bytes kind * regs r < 2 ^ 32 → registers_after (scale_code r kind) regs r ≡ element_bytes kind * regs r
+  scaled Boolean regs below = omega arith
+  scaled Uint8 regs below = omega arith
+  scaled Uint16 regs below = simp (rr, l0 r 28 free scratch apart) (omega (arith, below))
+  scaled Uint32 regs below = simp (rr, l0 r 28 free scratch apart) (omega (arith, below))
+
+  -- the base, and the upper part of an offset
+
+  abbrev sum_code : Bool → ℕ → List Instr
+  sum_code near o = instr.Register Add r r 2 ∷ cond near [] (instr.Upper Lui 28 (upper_part o) ∷ instr.Register Add r r 28 ∷ [])
+
+  sum_plain : (near : Bool) (o : ℕ) → only_computes (either_of r 28) (sum_code near o) ≡ true
+  sum_plain true o = simp (rr, l32 r 28 free scratch apart)
+  sum_plain false o = simp (rr, l32 r 28 free scratch apart, rl r 28 free scratch apart, lt-ltb (upper_part o) 1048576 (upper_fits o))
+
+  summed : (near : Bool) (o : ℕ) (regs : ℕ → ℕ) → registers_after (sum_code near o) regs r ≡ raised near o (sum_of (regs r) (regs 2))
+  summed true o regs = simp (rr, l0 r 28 free scratch apart)
+  summed false o regs = simp (rr, l0 r 28 free scratch apart, lr r 28 free scratch apart)
 
   -- An index in the register becomes its element's address.
   pub address_runs : (kind : Kind) (o : ℕ) (index : StraightState → ℕ)
@@ -101,33 +85,24 @@ module _ (z : Setting) (r : ℕ) (free : IsFree r) where
       (λ env s. HeldAt z s × (s.regs r ≡ index env) × (z.frame + (o + element_bytes kind * index env) < 2 ^ 32))
       (λ env s t. Addressed z r o (o + element_bytes kind * index env) env s t)
   address_runs kind o index =
-      gives z
-      (λ env s t fine fit done.
-      let m = done.middle in
-      let n = done.second.middle in
-      let one = done.first in
-      let two = done.second.first in
-      let three = done.second.second in
-      let i = element_bytes kind * index env in
-      let base : n.regs 2 ≡ z.frame = two.others 2 (λ e. free.not_base (sym e)) ∙ (one.others 2 (λ e. free.not_base (sym e)) ∙ fit.0.base) in
-      let index_there : m.regs r ≡ i = one.there ∙ ap (λ x. element_bytes kind * x) fit.1 in
-      let base_first : m.regs 2 ≡ z.frame = one.others 2 (λ e. free.not_base (sym e)) ∙ fit.0.base in
-      let sum_there : n.regs r ≡ sum_of i z.frame = two.there ∙ (ap (λ x. sum_of x (m.regs 2)) (register-at m.regs r free.nonzero ∙ index_there) ∙ ap (λ x. sum_of i x) base_first) in
-      let all : t.regs r ≡ raised (nat_lt o 2048) o (sum_of i z.frame) = three.there ∙ ap (λ x. raised (nat_lt o 2048) o x) sum_there in
-      let same = three.same ∙ (two.same ∙ one.same) in
-      record {
-        held = held_regs z s t (three.others 2 (λ e. free.not_base (sym e)) (λ e. omega arith) ∙ (two.others 2 (λ e. free.not_base (sym e)) ∙ one.others 2 (λ e. free.not_base (sym e)))) same fit.0;
-        address = ap (λ x. sum_of x (sign_extended 12 (lower_part o))) (register-at t.regs r free.nonzero ∙ all) ∙ element_address z.frame o i (nat_lt o 2048) refl fit.2;
-        others = λ q other another. three.others q other another ∙ (two.others q other ∙ one.others q other);
-        same = same;
-      })
-      (seq z
+      let near = nat_lt o 2048 in
+      let scale = scale_code r kind in
+      let plain = plain_append (either_of r 28) scale (sum_code near o) (scale_plain kind) (sum_plain near o) in
+      cheaper z (address_length r kind o)
       (weaken z
-      (λ env s fine fit. let below = fit.2 in let is = ap (λ x. element_bytes kind * x) fit.1 in omega (arith, below, is))
-      (λ env s t fine fit done. done)
-      (scale_runs kind))
-      (seq z
-      (computing z (instr.Register Add r r 2) r (λ regs. sum_of (register regs r) (regs 2)) (free.small, free.small, omega arith) free.nonzero (λ pc regs. refl))
-      (raise_by o (nat_lt o 2048))
-      (λ env s t fit done. tt))
-      (λ env s t fit done. tt))
+      (λ env s fine fit. fit.0)
+      (λ env s t fine fit done.
+      let i = element_bytes kind * index env in
+      let below = fit.2 in
+      let is : element_bytes kind * s.regs r ≡ i = ap (λ x. element_bytes kind * x) fit.1 in
+      let base = kept_beside r 28 free scratch apart scale (scale_plain kind) s.regs 2 (λ e. free.not_base (sym e)) (λ e. omega arith) ∙ fit.0.base in
+      let all : t.regs r ≡ raised near o (sum_of i z.frame) =
+      ap (λ (regs : ℕ → ℕ). regs r) (done.registers ∙ after_append scale (sum_code near o) s.regs)
+      ∙ (summed near o (registers_after scale s.regs) ∙ ap₂ (λ x y. raised near o (sum_of x y)) (scaled kind s.regs (omega (arith, below, is)) ∙ is) base) in
+      record {
+        held = done.held;
+        address = ap (λ x. sum_of x (sign_extended 12 (lower_part o))) (register-at t.regs r free.nonzero ∙ all) ∙ element_address z.frame o i near refl below;
+        others = λ q other another. ap (λ (regs : ℕ → ℕ). regs q) done.registers ∙ kept_beside r 28 free scratch apart (scale ++ sum_code near o) plain s.regs q other another;
+        same = done.same;
+      })
+      (computing_within z (either_of r 28) (allowed r 28 free scratch apart) (scale ++ sum_code near o) plain))

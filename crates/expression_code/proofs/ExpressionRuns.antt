@@ -37,11 +37,11 @@ use Rattle.expression_code.proofs.Elements.{address_runs}
 use Rattle.expression_code.proofs.Held.{HeldAt, held_regs, frame_there}
 use Rattle.expression_code.proofs.Homes.{home_free, homes_apart, home_apart, lower_apart}
 use Rattle.expression_code.proofs.Masks.{chosen, choice}
-use Rattle.expression_code.proofs.Operations.{either_of, constant_plain, constant_value, cut_plain, cut_made, prefix_plain, prefix_made, rotate_plain, rotate_made, choice_plain, choice_made}
+use Rattle.expression_code.proofs.Operations.{either_of, ll, constant_plain, constant_after, cut_plain, cut_made, prefix_plain, prefix_made, rotate_plain, rotate_made, choice_plain, choice_made}
 use Rattle.expression_code.proofs.OperatorRuns.{truth_fits}
 use Rattle.expression_code.proofs.Pieces.{load_runs}
 use Rattle.expression_code.proofs.Places.{place_of, place_aligned}
-use Rattle.expression_code.proofs.Steps.{Inside, loading_at}
+use Rattle.expression_code.proofs.Steps.{Inside, written, loading_at}
 use Rattle.expression_code.proofs.Straight.{Setting, base_of, fine_right, none, Steps, Runs, seq, quiet, quietly, weaken, gives, cheaper, as_code}
 use Rattle.expression_code.proofs.TermLengths.{constant_length, cut_length, prefix_length, rotate_length}
 use Rattle.expression_code.proofs.Fetching.{lower_spare, fetch_runs, keeps}
@@ -103,17 +103,18 @@ module _ (z : Setting) (free : ℕ) (aligned : free % 4 ≡ 0) (above : base_of 
       → Runs z 16 none (constant_code (home place 29) n ++ keep_code free place) (Ready z) (Valued z e free place)
   constant e place n room is below =
       let l = home place 29 in
+      let one = home_one z place in
       cheaper z (let h = constant_length l n in omega (arith, h))
       (keeps z free aligned place room e (λ env s ready. word_there (value_in env.variables e) n (is env) below)
       (weaken z
       (λ env s fine ready. ready.held)
       (λ env s t fine ready done. record {
         held = done.held;
-        there = ap (λ (regs : ℕ → ℕ). regs l) done.registers ∙ (constant_value l 30 (home_one z place) (beside_free z) (beside_apart z place) n below s.regs ∙ sym (is env));
+        there = ap (λ (regs : ℕ → ℕ). regs l) (done.registers ∙ constant_after l n one.nonzero below s.regs) ∙ (written s.regs l n one.nonzero ∙ sym (is env));
         kept = kept_by z (slot_of free place) s t done.same;
         lower = done.lower;
       })
-      (works_home z place (constant_code l n) (constant_plain l 30 (home_one z place) (beside_free z) (beside_apart z place) n below))))
+      (works_home z place (constant_code l n) (constant_plain (either_of l 30) l n (simp (ll l 30 one (beside_free z) (beside_apart z place))) one.small))))
 
   -- A variable.
   slot : (x place : ℕ) (word : WordType) (mutable : Bool) → HasSlot place → slice_get z.declared x ≡ Some (word_as word mutable)
@@ -391,7 +392,7 @@ module _ (z : Setting) (free : ℕ) (aligned : free % 4 ≡ 0) (above : base_of 
         (weaken z
         (λ env s fine given. (given.0, given.1, let h = element_below (i env) given.2 in let ends = z.ends in omega (arith, h, ends)))
         (λ env s t fine given done. done)
-        (address_runs z r one' word.kind o i))
+        (address_runs z r one' (home_apart place 29 28 (omega arith) (λ e. omega arith)) word.kind o i))
         (loading_at z source size i (λ j. z.frame + element_at j) load r r (lower_part o) (one'.small, one'.small, lower_fits o) one'.nonzero
         (λ j below. subst (λ m. Inside z m (z.frame + element_at j)) (sym (load_bytes word.kind)) (element_inside j below)))
         (λ env s t given done. record {

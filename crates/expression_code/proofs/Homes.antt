@@ -3,23 +3,14 @@ use Rattle.std.proofs.Common.{◌≡◌, ◌≢◌, ℕ, ◌+◌, ◌<◌, ◌�
 use Rattle.std.proofs.lemmas.Bool.Decides.{nat_tests}
 use Rattle.expression_code.specs.Registers.{register_count, home}
 
--- a register that an operator may work on
+-- a register that code may work on
 pub record IsFree (r : ℕ) : Type 0 where
   pub small : r < 32
   pub nonzero : r ≢ 0
   pub not_base : r ≢ 2
-  pub not_scratch : r ≢ 28
 
-free_as : (r n : ℕ) → r ≡ n → 4 < n → n < 32 → n ≢ 28 → IsFree r
-free_as r n is low high other = record {
-  small = omega (arith, is, high);
-  nonzero = λ e. omega (arith, is, low, e);
-  not_base = λ e. omega (arith, is, low, e);
-  not_scratch = λ e. other (sym is ∙ e);
-}
-
-pub spare_free : (spare : ℕ) → 28 < spare → spare < 32 → IsFree spare
-spare_free spare low high = free_as spare spare refl (omega (arith, low)) high (λ e. omega (arith, low, e))
+pub free_from : (r : ℕ) → 4 < r → r < 32 → IsFree r
+free_from r low high = record { small = high; nonzero = λ e. omega (arith, low, e); not_base = λ e. omega (arith, low, e) }
 
 -- a temporary's register, or the spare one
 abbrev pub Homed : ℕ → ℕ → Type 0
@@ -42,8 +33,8 @@ home_free place spare low high = by_home (home_is place spare)
     by_home : Homed place spare → IsFree (home place spare)
     by_home (inl h) =
         let less = h.0 in
-        free_as (home place spare) (5 + place) h.1 (omega arith) (omega (arith, less)) (λ e. omega (arith, less, e))
-    by_home (inr h) = free_as (home place spare) spare h.1 (omega (arith, low)) high (λ e. omega (arith, low, e))
+        free_from (home place spare) (omega (arith, h.1)) (omega (arith, h.1, less))
+    by_home (inr h) = free_from (home place spare) (omega (arith, h.1, low)) (omega (arith, h.1, high))
 
 -- two temporaries are found in two registers
 pub homes_apart : (p q s t : ℕ) → p < q → 28 < s → s < t → home p s ≢ home q t
@@ -56,7 +47,7 @@ homes_apart p q s t less low more e = by_homes (home_is p s) (home_is q t)
     by_homes (inr h) (inr k) = omega (arith, h.1, k.1, e, more)
 
 -- none in a spare register of another
-pub home_apart : (place spare other : ℕ) → 28 < other → spare ≢ other → home place spare ≢ other
+pub home_apart : (place spare other : ℕ) → 20 < other → spare ≢ other → home place spare ≢ other
 home_apart place spare other low apart e = by_home (home_is place spare)
   where
     by_home : Homed place spare → ⊥

@@ -1,8 +1,9 @@
 -- Of each piece of emitted code that only computes: that it does (`plain`), what its instructions give one after the
 -- other (`composed`), and what it makes in the register of the first operand, which is what its node means (`made`).
-use Rattle.std.proofs.Common.{◌≡◌, ◌≢◌, ℕ, ◌-◌, ◌%◌, ◌^◌, ◌<◌, ◌==◌, ◌⊎◌, inl, inr, Bool, true, false, ◌&&◌, ◌||◌, cond, if◌then◌else◌, nat_lt, List, [], ◌∷◌, ◌++◌, refl, sym, ap, ap₂, ◌∙◌, arith, eq-eqb, ne_eqb}
+use Rattle.std.proofs.Common.{◌≡◌, ◌≢◌, ℕ, ◌-◌, ◌*◌, ◌%◌, ◌^◌, ◌<◌, ◌==◌, ◌⊎◌, inl, inr, Bool, true, false, ◌&&◌, ◌||◌, cond, if◌then◌else◌, nat_lt, List, [], ◌∷◌, ◌++◌, refl, sym, ap, ap₂, ◌∙◌, arith, eq-eqb, ne_eqb}
 use Rattle.std.proofs.lemmas.Bool.{true≢false, lt-ltb, eqb-true}
 use Rattle.std.proofs.lemmas.Bool.Decides.{nat_tests}
+use Rattle.std.proofs.Math.Path.{fun_ext}
 use Rattle.rv_code.specs.declared.instructions.Instr.{Instr}
 use Rattle.rv_code.specs.declared.instructions.Instr.TheVariants as instr
 use Rattle.rv_code.specs.declared.operations.UpperOperation.TheVariants.{Lui}
@@ -10,6 +11,7 @@ use Rattle.rv_code.specs.declared.operations.ImmediateOperation.TheVariants.{Add
 use Rattle.rv_code.specs.declared.operations.ShiftOperation.TheVariants.{Slli, Srli}
 use Rattle.rv_code.specs.declared.operations.RegisterOperation.TheVariants as register
 use Rattle.rv_code.specs.declared.operations.MultiplyOperation.TheVariants.{Mul}
+use Rattle.rv_machine.specs.Registers.{with_register}
 use Rattle.rv_machine.specs.Effects.{sum_of, sign_extended, register_value, shift_value, multiply_value}
 use Rattle.expression_code.specs.TermCode.{upper_part, lower_part, constant_code, cut_code, operator_code, prefix_code, choice_code}
 use Rattle.language.specs.declared.tree.BinaryOperator.{BinaryOperator}
@@ -22,19 +24,56 @@ use Rattle.word.specs.declared.width.Width.TheVariants.{W8, W16, W32}
 use Rattle.word.specs.Operators.{converted, rotated_left}
 use Rattle.word.specs.Widths.{bits}
 use Rattle.expression_code.proofs.Arithmetic.{near_field, parts, upper_fits, lower_fits}
-use Rattle.expression_code.proofs.Computing.{registers_after, computes, only_computes, AreWorking, both_left, both_right}
+use Rattle.expression_code.proofs.Computing.{registers_after, computes, only_computes, AreWorking, both_left, both_right, register_kept}
 use Rattle.expression_code.proofs.Homes.{IsFree}
 use Rattle.expression_code.proofs.Masks.{chosen}
+use Rattle.expression_code.proofs.Pieces.{register-at}
+use Rattle.expression_code.proofs.Steps.{written}
 use Rattle.expression_code.proofs.OperatorRuns.{cut_value, composed, composed_prefix, around_value, cut_computes, operator_computes, prefix_computes, rotate_computes}
 
-plain_append : (works : ℕ → Bool) (xs ys : List Instr) → only_computes works xs ≡ true → only_computes works ys ≡ true → only_computes works (xs ++ ys) ≡ true
+pub plain_append : (works : ℕ → Bool) (xs ys : List Instr) → only_computes works xs ≡ true → only_computes works ys ≡ true → only_computes works (xs ++ ys) ≡ true
 plain_append works [] ys one two = two
 plain_append works (x ∷ xs) ys one two =
     ap₂ (λ a b. a && b) (both_left (computes works x) (only_computes works xs) one) (plain_append works xs ys (both_right (computes works x) (only_computes works xs) one) two)
 
-after_append : (xs ys : List Instr) (regs : ℕ → ℕ) → registers_after (xs ++ ys) regs ≡ registers_after ys (registers_after xs regs)
+pub after_append : (xs ys : List Instr) (regs : ℕ → ℕ) → registers_after (xs ++ ys) regs ≡ registers_after ys (registers_after xs regs)
 after_append [] ys regs = refl
 after_append (x ∷ xs) ys regs = after_append xs ys (registers_after (x ∷ []) regs)
+
+-- Numbers, into any register that works.
+
+pub constant_plain : (works : ℕ → Bool) (r n : ℕ) → works r ≡ true → r < 32 → only_computes works (constant_code r n) ≡ true
+constant_plain works r n ok small = by_test (nat_lt n 2048) refl
+  where
+    by_test : (b : Bool) → nat_lt n 2048 ≡ b
+        → only_computes works (cond b (instr.Immediate Addi r 0 n ∷ []) (instr.Upper Lui r (upper_part n) ∷ instr.Immediate Addi r r (lower_part n) ∷ [])) ≡ true
+    by_test true h =
+        let near : n < 2048 = grind (arith, nat_tests) in
+        simp (ok, lt-ltb n 4096 (omega (arith, near)))
+    by_test false h = simp (ok, lt-ltb r 32 small, lt-ltb (upper_part n) 1048576 (upper_fits n), lt-ltb (lower_part n) 4096 (lower_fits n))
+
+-- a register that is written twice
+twice : (regs : ℕ → ℕ) (r u v : ℕ) → with_register (with_register regs r u) r v ≡ with_register regs r v
+twice regs r u v = fun_ext (λ q. by_register q (q == 0) (q == r))
+  where
+    by_register : (q : ℕ) (z e : Bool) → cond z (cond z (regs q) (cond e u (regs q))) (cond e v (cond z (regs q) (cond e u (regs q)))) ≡ cond z (regs q) (cond e v (regs q))
+    by_register q true e = refl
+    by_register q false true = refl
+    by_register q false false = refl
+
+pub constant_after : (r n : ℕ) → r ≢ 0 → n < 2 ^ 32 → (regs : ℕ → ℕ) → registers_after (constant_code r n) regs ≡ with_register regs r n
+constant_after r n nonzero fits regs = by_test (nat_lt n 2048) refl
+  where
+    by_test : (b : Bool) → nat_lt n 2048 ≡ b
+        → registers_after (cond b (instr.Immediate Addi r 0 n ∷ []) (instr.Upper Lui r (upper_part n) ∷ instr.Immediate Addi r r (lower_part n) ∷ [])) regs ≡ with_register regs r n
+    by_test true h =
+        let near : n < 2048 = grind (arith, nat_tests) in
+        ap (with_register regs r) (ap (λ x. sum_of 0 x) (near_field n near) ∙ omega (arith, fits))
+    by_test false h =
+        let up = with_register regs r (upper_part n * 2 ^ 12) in
+        ap (with_register up r)
+        (ap (λ x. sum_of x (sign_extended 12 (lower_part n))) (register-at up r nonzero ∙ written regs r (upper_part n * 2 ^ 12) nonzero) ∙ parts n fits)
+        ∙ twice regs r (upper_part n * 2 ^ 12) n
 
 amount_within : (w : Width) (amount : ℕ) → amount % bits w < bits w
 amount_within W8 amount = omega arith
@@ -58,25 +97,25 @@ either_of l r q = (q == l) || (q == r)
 -- On the registers l and r of two operands, or on l alone, of which r is another.
 module _ (l r : ℕ) (one : IsFree l) (other : IsFree r) (apart : l ≢ r) where
   -- the tests that are met
-  ll : (l == l) ≡ true
+  pub ll : (l == l) ≡ true
   ll = eq-eqb l l refl
 
   rr : (r == r) ≡ true
   rr = eq-eqb r r refl
 
-  lr : (l == r) ≡ false
+  pub lr : (l == r) ≡ false
   lr = ne_eqb l r apart
 
-  rl : (r == l) ≡ false
+  pub rl : (r == l) ≡ false
   rl = ne_eqb r l (λ e. apart (sym e))
 
-  l0 : (l == 0) ≡ false
+  pub l0 : (l == 0) ≡ false
   l0 = ne_eqb l 0 one.nonzero
 
   r0 : (r == 0) ≡ false
   r0 = ne_eqb r 0 other.nonzero
 
-  l32 : nat_lt l 32 ≡ true
+  pub l32 : nat_lt l 32 ≡ true
   l32 = lt-ltb l 32 one.small
 
   r32 : nat_lt r 32 ≡ true
@@ -96,40 +135,13 @@ module _ (l r : ℕ) (one : IsFree l) (other : IsFree r) (apart : l ≢ r) where
       by_register (inl is) = (λ e. one.nonzero (sym is ∙ e), λ e. one.not_base (sym is ∙ e), let small = one.small in omega (arith, is, small))
       by_register (inr is) = (λ e. other.nonzero (sym is ∙ e), λ e. other.not_base (sym is ∙ e), let small = other.small in omega (arith, is, small))
 
-  -- Numbers.
-
-  module _ (n : ℕ) (fits : n < 2 ^ 32) where
-    near_plain : nat_lt n 2048 ≡ true → only_computes (either_of l r) (instr.Immediate Addi l 0 n ∷ []) ≡ true
-    near_plain h =
-        let near : n < 2048 = grind (arith, nat_tests) in
-        let small = lt-ltb n 4096 (omega (arith, near)) in
-        simp (ll, small)
-
-    far_plain : only_computes (either_of l r) (instr.Upper Lui l (upper_part n) ∷ instr.Immediate Addi l l (lower_part n) ∷ []) ≡ true
-    far_plain =
-        let upper = lt-ltb (upper_part n) 1048576 (upper_fits n) in
-        let lower = lt-ltb (lower_part n) 4096 (lower_fits n) in
-        simp (ll, l32, upper, lower)
-
-    plain_by : (b : Bool) → nat_lt n 2048 ≡ b → only_computes (either_of l r) (cond b (instr.Immediate Addi l 0 n ∷ []) (instr.Upper Lui l (upper_part n) ∷ instr.Immediate Addi l l (lower_part n) ∷ [])) ≡ true
-    plain_by true h = near_plain h
-    plain_by false h = far_plain
-
-    pub constant_plain : only_computes (either_of l r) (constant_code l n) ≡ true
-    constant_plain = plain_by (nat_lt n 2048) refl
-
-    near_value : nat_lt n 2048 ≡ true → sum_of 0 (sign_extended 12 n) ≡ n
-    near_value h =
-        let near : n < 2048 = grind (arith, nat_tests) in
-        let same : sum_of 0 n ≡ n = omega (arith, fits) in
-        ap (λ x. sum_of 0 x) (near_field n near) ∙ same
-
-    value_by : (b : Bool) → nat_lt n 2048 ≡ b → (regs : ℕ → ℕ) → registers_after (cond b (instr.Immediate Addi l 0 n ∷ []) (instr.Upper Lui l (upper_part n) ∷ instr.Immediate Addi l l (lower_part n) ∷ [])) regs l ≡ n
-    value_by true h regs = simp (ll, l0) (near_value h)
-    value_by false h regs = simp (ll, l0) (parts n fits)
-
-    pub constant_value : (regs : ℕ → ℕ) → registers_after (constant_code l n) regs l ≡ n
-    constant_value = value_by (nat_lt n 2048) refl
+  -- any other register is as it was
+  pub kept_beside : (is : List Instr) → only_computes (either_of l r) is ≡ true → (regs : ℕ → ℕ) (q : ℕ) → q ≢ l → q ≢ r → registers_after is regs q ≡ regs q
+  kept_beside is plain regs q first second = register_kept (either_of l r) allowed is plain regs q (λ rd w e. by_register rd e (written_either rd w))
+    where
+      by_register : (rd : ℕ) → q ≡ rd → (rd ≡ l) ⊎ (rd ≡ r) → ⊥
+      by_register rd e (inl is) = first (e ∙ is)
+      by_register rd e (inr is) = second (e ∙ is)
 
   -- Cuts.
 

@@ -37,7 +37,7 @@ pub record Moves (rd value : ℕ) (s t : State) : Type 0 where
   pub others : (q : ℕ) → q ≢ rd → t.regs q ≡ s.regs q
   pub same : t.bytes ≡ s.bytes
 
-written : (regs : ℕ → ℕ) (rd value : ℕ) → rd ≢ 0 → with_register regs rd value rd ≡ value
+pub written : (regs : ℕ → ℕ) (rd value : ℕ) → rd ≢ 0 → with_register regs rd value rd ≡ value
 written regs rd value h = rw (ne_eqb rd 0 h, eq-eqb rd rd refl)
 
 either : (b : Bool) (x y : ℕ) → x ≡ y → cond b y x ≡ y

@@ -1,5 +1,5 @@
 -- Code that only computes in the registers of temporaries, and the code of operators.
-use Rattle.std.proofs.Common.{◌≡◌, ◌≢◌, ◌⊎◌, inl, inr, ℕ, ◌+◌, ◌-◌, ◌/◌, ◌%◌, ◌^◌, ◌<◌, ◌==◌, true, false, cond, List, [], ◌∷◌, length, refl, sym, ap, ap₂, ◌∙◌, subst, arith, ne_eqb}
+use Rattle.std.proofs.Common.{◌≡◌, ◌≢◌, ℕ, ◌+◌, ◌-◌, ◌/◌, ◌%◌, ◌^◌, ◌<◌, ◌==◌, true, false, cond, List, [], ◌∷◌, length, refl, sym, ap, ap₂, ◌∙◌, subst, arith, ne_eqb}
 use Rattle.branch_removal.specs.StraightMeaning.{StraightState}
 use Rattle.expression_code.specs.Registers.{register_count, home}
 use Rattle.expression_code.specs.TermCode.{cut_code, operator_code}
@@ -17,10 +17,10 @@ use Rattle.language.specs.declared.tree.BinaryOperator.TheVariants.{Either, Both
 use Rattle.language.specs.Operators.{divides, multiplies, operated}
 use Rattle.word.specs.declared.place.Place.{Place}
 use Rattle.word.specs.declared.width.Width.{Width}
-use Rattle.expression_code.proofs.Computing.{registers_after, only_computes, register_kept, computing_within}
+use Rattle.expression_code.proofs.Computing.{registers_after, only_computes, computing_within}
 use Rattle.expression_code.proofs.Held.{HeldAt, Held, held_regs}
-use Rattle.expression_code.proofs.Homes.{IsFree, spare_free, home_free, home_apart, lower_apart}
-use Rattle.expression_code.proofs.Operations.{either_of, written_either, allowed, cut_plain, operator_plain, operator_made, product_made}
+use Rattle.expression_code.proofs.Homes.{IsFree, free_from, home_free, home_apart, lower_apart}
+use Rattle.expression_code.proofs.Operations.{either_of, allowed, kept_beside, cut_plain, operator_plain, operator_made, product_made}
 use Rattle.expression_code.proofs.Pieces.{register-at}
 use Rattle.expression_code.proofs.Steps.{Moves, multiplying, dividing}
 use Rattle.expression_code.proofs.Straight.{Setting, none, Runs, quiet, weaken, gives, cheaper}
@@ -40,14 +40,9 @@ module _ (z : Setting) where
     pub same : t.bytes ≡ s.bytes
     pub lower : Lower place s t
 
-  neither : (q l r rd : ℕ) → q ≢ l → q ≢ r → q ≡ rd → (rd ≡ l) ⊎ (rd ≡ r) → ⊥
-  neither q l r rd a b e (inl is) = a (e ∙ is)
-  neither q l r rd a b e (inr is) = b (e ∙ is)
-
   pub works : (place l r : ℕ) (one : IsFree l) (other : IsFree r) (apart : l ≢ r) → ((q : ℕ) → q < place → q < register_count → (5 + q ≢ l) × (5 + q ≢ r))
       → (is : List Instr) → only_computes (either_of l r) is ≡ true → Runs z (length is) none is (Held z) (λ env s t. Worked place is s t)
   works place l r one other apart beside is plain =
-      let fine' = allowed l r one other apart in
       gives z
       (λ env s t fine held done. record {
         held = done.held;
@@ -55,10 +50,9 @@ module _ (z : Setting) where
         same = done.same;
         lower = λ q less small.
             let b = beside q less small in
-            ap (λ (regs : ℕ → ℕ). regs (5 + q)) done.registers
-            ∙ register_kept (either_of l r) fine' is plain s.regs (5 + q) (λ rd w e. neither (5 + q) l r rd b.0 b.1 e (written_either l r one other apart rd w));
+            ap (λ (regs : ℕ → ℕ). regs (5 + q)) done.registers ∙ kept_beside l r one other apart is plain s.regs (5 + q) b.0 b.1;
       })
-      (computing_within z (either_of l r) fine' is plain)
+      (computing_within z (either_of l r) (allowed l r one other apart) is plain)
 
   -- in the home of a place, with a spare register beside
   abbrev first_home : ℕ → ℕ
@@ -68,7 +62,7 @@ module _ (z : Setting) where
   home_one place = home_free place 29 (omega arith) (omega arith)
 
   pub beside_free : IsFree 30
-  beside_free = spare_free 30 (omega arith) (omega arith)
+  beside_free = free_from 30 (omega arith) (omega arith)
 
   pub beside_apart : (place : ℕ) → first_home place ≢ 30
   beside_apart place = home_apart place 29 30 (omega arith) (λ e. omega arith)
@@ -97,7 +91,6 @@ module _ (z : Setting) where
   module _ (source : Place) (width : Width) (a b : StraightState → ℕ) (l r : ℕ) (one : IsFree l) (other : IsFree r) (apart : l ≢ r) where
     plainly : (operator : BinaryOperator) → divides operator ≡ false → multiplies operator ≡ false → Runs z 3 none (operator_code l r operator width) (Operands l r a b) (Operated l r operator width a b)
     plainly operator whole alone =
-        let fine' = allowed l r one other apart in
         let plain = operator_plain l r one other apart operator width whole alone in
         cheaper z (operator_length l r operator width)
         (weaken z
@@ -108,12 +101,10 @@ module _ (z : Setting) where
               ap (λ (regs : ℕ → ℕ). regs l) done.registers
               ∙ (operator_made l r one other apart operator width whole alone s.regs (word_there (s.regs l) (a env) given.left given.left_fits) (word_there (s.regs r) (b env) given.right given.right_fits)
               ∙ ap₂ (operated operator width) given.left given.right);
-          others = λ q m n.
-              ap (λ (regs : ℕ → ℕ). regs q) done.registers
-              ∙ register_kept (either_of l r) fine' (operator_code l r operator width) plain s.regs q (λ rd w e. neither q l r rd m n e (written_either l r one other apart rd w));
+          others = λ q m n. ap (λ (regs : ℕ → ℕ). regs q) done.registers ∙ kept_beside l r one other apart (operator_code l r operator width) plain s.regs q m n;
           same = done.same;
         })
-        (computing_within z (either_of l r) fine' (operator_code l r operator width) plain))
+        (computing_within z (either_of l r) (allowed l r one other apart) (operator_code l r operator width) plain))
 
     divided_by : (n : ℕ) (some : 0 < n) (x y : ℕ) → cond (n == 0) x y ≡ y
     divided_by n some x y = rw (ne_eqb n 0 (λ e. omega (arith, some, e)))
@@ -135,7 +126,6 @@ module _ (z : Setting) where
     -- the product, and what is cut of it
     product_runs : Runs z 3 (λ env. multiplied (a env) (b env) ∷ []) (operator_code l r Multiply width) (Operands l r a b) (Operated l r Multiply width a b)
     product_runs =
-        let fine' = allowed l r one other apart in
         let plain = cut_plain l r one other apart width in
         let short = cut_length l width in
         cheaper z (omega (arith, short))
@@ -147,13 +137,11 @@ module _ (z : Setting) where
         record {
           held = cut.held;
           there = ap (λ (regs : ℕ → ℕ). regs l) cut.registers ∙ product_made l r one other apart width m.regs (a env) (b env) given.left_fits given.right_fits moves.there;
-          others = λ q k n.
-              ap (λ (regs : ℕ → ℕ). regs q) cut.registers
-              ∙ (register_kept (either_of l r) fine' (cut_code l width) plain m.regs q (λ rd w e. neither q l r rd k n e (written_either l r one other apart rd w)) ∙ moves.others q k);
+          others = λ q k n. ap (λ (regs : ℕ → ℕ). regs q) cut.registers ∙ (kept_beside l r one other apart (cut_code l width) plain m.regs q k n ∙ moves.others q k);
           same = cut.same ∙ moves.same;
         })
         (quiet z multiplies_runs
-        (computing_within z (either_of l r) fine' (cut_code l width) plain)
+        (computing_within z (either_of l r) (allowed l r one other apart) (cut_code l width) plain)
         (λ env s t given moves. held_regs z s t (moves.others 2 (λ e. one.not_base (sym e))) moves.same given.held)))
 
     pub operator_runs : (operator : BinaryOperator) → Runs z 3 (λ env. marks_of source operator (a env) (b env)) (operator_code l r operator width) (Operands l r a b) (Operated l r operator width a b)
