@@ -186,11 +186,7 @@ module _ (frame size : ℕ) where
   IsBlank low bytes = (o : ℕ) → low ≤ o → o < size → bytes (frame + o) ≡ Some 0
 
   blank_number : (low : ℕ) (bytes : ByteMap) (n o : ℕ) → IsBlank low bytes → low ≤ o → o + n ≤ size → number_at bytes n (frame + o) ≡ Some 0
-  blank_number low bytes n o blank above inside =
-      zero_number bytes n (frame + o)
-      (λ x from to.
-      let e : frame + (x - frame) ≡ x = omega (arith, from) in
-      ap bytes (sym e) ∙ blank (x - frame) (omega (arith, from, above)) (omega (arith, from, to, inside)))
+  blank_number low bytes n o blank above inside = zero_number bytes frame n o (λ b from to. blank b (omega (arith, from, above)) (omega (arith, to, inside)))
 
   -- the arguments lie in their order, and zeros after them
   laid : (bytes : ByteMap) (low : ℕ) (ps : List Param) (args : List Arg) (declared : List FlatVariable) (x : ℕ) (d : FlatVariable) (i : ℕ)
@@ -296,10 +292,7 @@ module _ (z : Setting) (ps : List Param) (args : List Arg) (first : take (length
         ∙ laid z.frame z.size (zeros z.frame z.size) 0 ps args z.declared x d i within first blank is below (omega (arith, w, e, room));
     controls_there = λ c below.
         let room = z.room in
-        zero_number s.bytes 4 (z.frame + control_offset z.declared c)
-        (λ x from to.
-        let e : z.frame + (x - z.frame) ≡ x = omega (arith, from) in
-        ap s.bytes (sym e) ∙ behind (x - z.frame) (omega (arith, from)) (omega (arith, from, to, below, room)));
+        zero_number s.bytes z.frame 4 (control_offset z.declared c) (λ b from to. behind b (omega (arith, from)) (omega (arith, to, below, room)));
   }
     where
       all_data : (o : ℕ) → o < z.size → is_some (with_arguments z.frame (zeros z.frame z.size) (slots_from 0 ps) args (z.frame + o)) ≡ true

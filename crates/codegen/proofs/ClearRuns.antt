@@ -1,11 +1,9 @@
 -- The code that makes an array of zeros.
-use Rattle.std.proofs.Common.{◌≡◌, ℕ, zero, suc, ◌+◌, ◌-◌, ◌*◌, ◌/◌, ◌%◌, ◌<◌, ◌≤◌, ◌==◌, ◌⊎◌, inl, inr, Bool, true, false, cond, nat_lt, List, [], ◌∷◌, ◌++◌, length, replicate, Some, slice_get, slice_index, refl, sym, ap, ◌∙◌, subst, arith, length-append}
+use Rattle.std.proofs.Common.{◌≡◌, ℕ, zero, suc, ◌+◌, ◌-◌, ◌*◌, ◌/◌, ◌%◌, ◌<◌, ◌≤◌, ◌==◌, ◌⊎◌, inl, inr, Bool, true, false, nat_lt, List, [], ◌∷◌, ◌++◌, length, replicate, Some, slice_index, refl, sym, ap, ◌∙◌, subst, arith, length-append}
 use Rattle.std.proofs.lemmas.Bool.Decides.{nat_tests}
-use Rattle.std.proofs.lemmas.Option.{same_Some}
 use Rattle.std.proofs.lemmas.Bool.{eqb-true, eqb-false}
 use Rattle.inline.specs.declared.flat.FlatVariable.{FlatVariable}
-use Rattle.inline.specs.Fitting.{IsHeld}
-use Rattle.inline.specs.Flat.{array_as, numbers_in}
+use Rattle.inline.specs.Flat.{array_as}
 use Rattle.inline.specs.FlatMeaning.{path_of_turns}
 use Rattle.inline.specs.Path.{Path}
 use Rattle.branch_removal.specs.Straight.{clear}
@@ -13,7 +11,7 @@ use Rattle.branch_removal.specs.StraightMeaning.{StraightState, with_variable, a
 use Rattle.branch_removal.specs.StraightTyping.{IsFilled}
 use Rattle.codegen.specs.private.Emitted.{clear_code, statement_code}
 use Rattle.codegen.specs.private.Jumps.{loop_code}
-use Rattle.expression_code.specs.Layout.{variable_offset, result_offset, control_offset}
+use Rattle.expression_code.specs.Layout.{variable_offset, result_offset}
 use Rattle.expression_code.specs.TermCode.{constant_code}
 use Rattle.language.specs.declared.signature.Kind.{Kind}
 use Rattle.language.specs.declared.signature.Kind.TheVariants.{Boolean, Uint8, Uint16, Uint32}
@@ -27,7 +25,7 @@ use Rattle.rv_machine.specs.Bytes.{ByteMap, number_at, with_number}
 use Rattle.rv_machine.specs.Effects.{sum_of, difference_of}
 use Rattle.rv_machine.specs.Machine as machine
 use Rattle.rv_machine.specs.Registers.{with_register}
-use Rattle.rv_machine.proofs.ByteLaws.{number_at_same, with_number-suc, with_byte_same, with_byte_other, with_number_below, with_number_above}
+use Rattle.rv_machine.proofs.ByteLaws.{with_number-suc, with_byte_same, with_byte_other, with_number_below, with_number_above}
 use Rattle.codegen.proofs.Arguments.{zero_at, held_zeros}
 use Rattle.expression_code.proofs.Computing.{registers_after, only_computes, is_working, computing_runs}
 use Rattle.expression_code.proofs.Operations.{plain_append, after_append, constant_plain, constant_after}
@@ -37,11 +35,12 @@ use Rattle.expression_code.proofs.Held.{HeldAt, Held, held_regs, held_store, fra
 use Rattle.codegen.proofs.Jumps.{Still, looping_for}
 use Rattle.codegen.proofs.Marks.{never}
 use Rattle.codegen.proofs.Numbers.{zero_number}
-use Rattle.expression_code.proofs.Places.{bytes_of, place_of, place_within, ends_before_result, apart_from}
+use Rattle.expression_code.proofs.Places.{bytes_of, place_of, place_within, ends_before_result}
 use Rattle.codegen.proofs.Showing.{Shown}
 use Rattle.expression_code.proofs.Steps.{computing, storing}
 use Rattle.expression_code.proofs.Straight.{Setting, none, Runs, seq, quiet, weaken, gives, cheaper, along, as_code}
-use Rattle.expression_code.proofs.Values.{Ready}
+use Rattle.expression_code.proofs.Values.{Ready, number_same}
+use Rattle.codegen.proofs.Slots.{ready_changed}
 
 -- No turn changes the state of straight code, or puts anything on the path.
 
@@ -298,53 +297,18 @@ module _ (z : Setting) (depth x size : ℕ) (typed : IsFilled z.code.profile z.d
 
   -- all zeros are shown, and all else as it was
   module _ (env : StraightState) (s t : machine.State) (ready : Ready z env s) (held : HeldAt z t) (cleared : Cleared z offset words s t) where
-    same_number_at : (n o : ℕ) → (o + n ≤ offset) ⊎ (offset + 4 * words ≤ o) → number_at t.bytes n (z.frame + o) ≡ number_at s.bytes n (z.frame + o)
-    same_number_at n o (inl h) =
-        number_at_same s.bytes t.bytes n (z.frame + o)
-        (λ a low high.
-        let e : z.frame + (a - z.frame) ≡ a = omega (arith, low) in
-        ap t.bytes (sym e) ∙ (cleared.others (a - z.frame) (inl (omega (arith, low, high, h))) ∙ ap s.bytes e))
-    same_number_at n o (inr h) =
-        number_at_same s.bytes t.bytes n (z.frame + o)
-        (λ a low high.
-        let e : z.frame + (a - z.frame) ≡ a = omega (arith, low) in
-        ap t.bytes (sym e) ∙ (cleared.others (a - z.frame) (inr (omega (arith, low, high, h))) ∙ ap s.bytes e))
-
-    fits_at : (y : ℕ) (e : FlatVariable) → slice_get z.declared y ≡ Some e → (b : Bool) → (y == x) ≡ b → IsHeld e (cond b (replicate size 0) (env.variables y))
-    fits_at y e is true q =
-        let kind : d ≡ e = same_Some d e (sym typed.known ∙ (ap (λ n. slice_get z.declared n) (sym (eqb-true y x q)) ∙ is)) in
-        subst (λ (f : FlatVariable). IsHeld f (replicate size 0)) kind (held_zeros d)
-    fits_at y e is false q = ready.fits y e is
+    outside : (n o : ℕ) → (o + n ≤ offset) ⊎ (offset + 4 * words ≤ o) → number_at t.bytes n (z.frame + o) ≡ number_at s.bytes n (z.frame + o)
+    outside n o (inl h) = number_same z s t n o (λ b low high. cleared.others b (inl (omega (arith, high, h))))
+    outside n o (inr h) = number_same z s t n o (λ b low high. cleared.others b (inr (omega (arith, low, h))))
 
     zero_there : (j : ℕ) → j < size → number_at t.bytes (bytes_of d) (z.frame + place_of z.declared x d j) ≡ Some (slice_index (replicate size 0) j)
     zero_there j less =
         let w = place_within z.declared x d j less in
-        zero_number t.bytes (bytes_of d) (z.frame + place_of z.declared x d j)
-        (λ a low high.
-        let e : z.frame + (a - z.frame) ≡ a = omega (arith, low) in
-        ap t.bytes (sym e) ∙ cleared.zeros_there (a - z.frame) (omega (arith, low)) (omega (arith, low, high, w)))
+        zero_number t.bytes z.frame (bytes_of d) (place_of z.declared x d j) (λ b low high. cleared.zeros_there b (omega (arith, low)) (omega (arith, high, w)))
         ∙ ap Some (sym (zero_at size j))
 
-    there_at : (y : ℕ) (e : FlatVariable) (j : ℕ) → slice_get z.declared y ≡ Some e → j < numbers_in e.elements → (b : Bool) → (y == x) ≡ b
-        → number_at t.bytes (bytes_of e) (z.frame + place_of z.declared y e j) ≡ Some (slice_index (cond b (replicate size 0) (env.variables y)) j)
-    there_at y e j is less true q =
-        let at = eqb-true y x q in
-        let kind : d ≡ e = same_Some d e (sym typed.known ∙ (ap (λ n. slice_get z.declared n) (sym at) ∙ is)) in
-        ap (λ n. number_at t.bytes (bytes_of e) (z.frame + place_of z.declared n e j)) at
-        ∙ subst (λ (f : FlatVariable). number_at t.bytes (bytes_of f) (z.frame + place_of z.declared x f j) ≡ Some (slice_index (replicate size 0) j)) kind
-        (zero_there j (subst (λ (f : FlatVariable). j < numbers_in f.elements) (sym kind) less))
-    there_at y e j is less false q =
-        same_number_at (bytes_of e) (place_of z.declared y e j) (apart_from z.declared x y d e j typed.known is less q) ∙ ready.variables_there y e j is less
-
     ready_cleared : Ready z (with_variable env x (replicate size 0)) t
-    ready_cleared =
-        let first = ends_first in
-        record {
-          held = held;
-          fits = λ y e is. fits_at y e is (y == x) refl;
-          variables_there = λ y e j is less. there_at y e j is less (y == x) refl;
-          controls_there = λ c among. same_number_at 4 (control_offset z.declared c) (inr (omega (arith, first))) ∙ ready.controls_there c among;
-        }
+    ready_cleared = ready_changed z x d typed.known (replicate size 0) (held_zeros d) env s t ready held zero_there outside
 
   pub clear_runs : Runs z (32 * (1 + size)) none (statement_code z.declared z.controls z.depths depth (clear x size)) (Ready z) (Shown z depth (λ env. after env (clear x size)))
   clear_runs =

@@ -39,8 +39,10 @@ within_zeros base n a low high = grind (arith, nat_tests)
 pub zero_byte : (base n a : ℕ) → base ≤ a → a < base + n → zeros base n a ≡ Some 0
 zero_byte base n a low high = ap (λ b. cond b (Some 0) None) (within_zeros base n a low high)
 
--- and a number is 0 where its bytes are
-pub zero_number : (bytes : ByteMap) (n a : ℕ) → ((x : ℕ) → a ≤ x → x < a + n → bytes x ≡ Some 0) → number_at bytes n a ≡ Some 0
-zero_number bytes zero a blank = number_at-zero bytes a
-zero_number bytes (suc n) a blank =
-    number_at-suc bytes n a ∙ ap₂ joined (blank a (omega arith) (omega arith)) (zero_number bytes n (a + 1) (λ x low high. blank x (omega (arith, low)) (omega (arith, high))))
+-- and a number is 0 where its bytes are, off a base
+pub zero_number : (bytes : ByteMap) (base n o : ℕ) → ((b : ℕ) → o ≤ b → b < o + n → bytes (base + b) ≡ Some 0) → number_at bytes n (base + o) ≡ Some 0
+zero_number bytes base zero o blank = number_at-zero bytes (base + o)
+zero_number bytes base (suc n) o blank =
+    let next : base + o + 1 ≡ base + (o + 1) = omega arith in
+    number_at-suc bytes n (base + o)
+    ∙ ap₂ joined (blank o (omega arith) (omega arith)) (ap (number_at bytes n) next ∙ zero_number bytes base n (o + 1) (λ b low high. blank b (omega (arith, low)) (omega (arith, high))))

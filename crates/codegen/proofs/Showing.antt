@@ -1,5 +1,5 @@
 -- What is shown after a piece of a statement's code.
-use Rattle.std.proofs.Common.{◌≡◌, ℕ, ◌+◌, ◌*◌, ◌^◌, ◌<◌, ◌≤◌, Bool, List, Some, slice_get, ap, ◌∙◌, subst, arith, inl, inr}
+use Rattle.std.proofs.Common.{◌≡◌, ℕ, ◌+◌, ◌*◌, ◌^◌, ◌<◌, ◌≤◌, Bool, List, Some, slice_get, ap, ◌∙◌, subst, arith, inr}
 use Rattle.inline.proofs.Fitting.{value_fits}
 use Rattle.inline.specs.declared.flat.FlatVariable.{FlatVariable}
 use Rattle.inline.specs.Fitting.{Fits}
@@ -19,10 +19,10 @@ use Rattle.rv_machine.specs.Machine as machine
 use Rattle.expression_code.proofs.ExpressionRuns.{steps_of, expr_runs}
 use Rattle.expression_code.proofs.Held.{HeldAt, held_regs}
 use Rattle.codegen.proofs.Jumps.{Still}
-use Rattle.expression_code.proofs.Places.{bytes_of, place_of, place_within, ends_before_result}
-use Rattle.codegen.proofs.Slots.{Wrote, Hidden, other_number}
+use Rattle.expression_code.proofs.Places.{ends_before_result}
+use Rattle.codegen.proofs.Slots.{Wrote, Hidden, wrote_kept, other_number}
 use Rattle.expression_code.proofs.Straight.{Setting, base_of, Runs, gives}
-use Rattle.expression_code.proofs.Values.{Kept, Ready, kept_number, kept_less, kept_by, ready_after}
+use Rattle.expression_code.proofs.Values.{Kept, Ready, kept_less, kept_by, variables_kept, ready_below, ready_after}
 
 -- the state that is made of the one before is shown, and the words of the loops around are as they were
 pub record Shown (z : Setting) (depth : ℕ) (change : StraightState → StraightState) (env : StraightState) (s t : machine.State) : Type 0 where
@@ -62,39 +62,16 @@ module _ (z : Setting) where
   pub ready_still : (env : StraightState) (s t : machine.State) → Ready z env s → Still s t → Ready z env t
   ready_still env s t ready still = ready_with env s t ready (held_regs z s t (ap (λ (regs : ℕ → ℕ). regs 2) still.regs) still.bytes ready.held) still.bytes
 
-  -- or nothing below the words of the loops
-  pub ready_below : (free : ℕ) → next_offset z.declared z.controls 0 ≤ free → (env : StraightState) (s t : machine.State) → Ready z env s → HeldAt z t → Kept z free s t → Ready z env t
-  ready_below free above env s t ready held kept = record {
-    held = held;
-    fits = ready.fits;
-    variables_there = λ x d i is below.
-        let w = place_within z.declared x d i below in
-        let e = ends_before_result z.declared x d is in
-        kept_number z free s t kept (bytes_of d) (place_of z.declared x d i) (omega (arith, w, e, above)) ∙ ready.variables_there x d i is below;
-    controls_there = λ c below. kept_number z free s t kept 4 (control_offset z.declared c) (omega (arith, below, above)) ∙ ready.controls_there c below;
-  }
-
-  -- or only a number that lies behind
+  -- or only a number that lies behind the control values
   pub ready_behind : (n o w : ℕ) → next_offset z.declared z.controls 0 ≤ o → (env : StraightState) (s t : machine.State) → Ready z env s → Wrote z n o w s t → Ready z env t
-  ready_behind n o w above env s t ready wrote = record {
-    held = wrote.held;
-    fits = ready.fits;
-    variables_there = λ x d i is below.
-        let p = place_within z.declared x d i below in
-        let e = ends_before_result z.declared x d is in
-        other_number z n o w (bytes_of d) (place_of z.declared x d i) s t wrote (inl (omega (arith, p, e, above))) ∙ ready.variables_there x d i is below;
-    controls_there = λ c below. other_number z n o w 4 (control_offset z.declared c) s t wrote (inl (omega (arith, below, above))) ∙ ready.controls_there c below;
-  }
+  ready_behind n o w above env s t ready wrote = ready_below z o above env s t ready wrote.held (wrote_kept z n o w s t wrote)
 
   -- or only the result's slot
   pub ready_result : (env : StraightState) (s t : machine.State) (w : ℕ) → Ready z env s → Wrote z 4 (result_offset z.declared) w s t → Ready z env t
   ready_result env s t w ready wrote = record {
     held = wrote.held;
     fits = ready.fits;
-    variables_there = λ x d i is below.
-        let p = place_within z.declared x d i below in
-        let e = ends_before_result z.declared x d is in
-        other_number z 4 (result_offset z.declared) w (bytes_of d) (place_of z.declared x d i) s t wrote (inl (omega (arith, p, e))) ∙ ready.variables_there x d i is below;
+    variables_there = variables_kept z (result_offset z.declared) env s t (omega arith) ready (wrote_kept z 4 (result_offset z.declared) w s t wrote);
     controls_there = λ c below. other_number z 4 (result_offset z.declared) w 4 (control_offset z.declared c) s t wrote (inr (omega arith)) ∙ ready.controls_there c below;
   }
 

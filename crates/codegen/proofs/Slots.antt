@@ -7,7 +7,7 @@ use Rattle.std.proofs.lemmas.List.Elements.{All-set}
 use Rattle.std.proofs.lemmas.Option.{same_Some}
 use Rattle.std.proofs.lemmas.Bool.{eqb-true, eqb-false}
 use Rattle.branch_removal.specs.StraightMeaning.{StraightState, with_variable, with_element, with_controls}
-use Rattle.expression_code.specs.Layout.{variable_offset, result_offset, control_offset, next_offset}
+use Rattle.expression_code.specs.Layout.{variable_offset, control_offset, next_offset}
 use Rattle.inline.specs.declared.flat.FlatVariable.{FlatVariable}
 use Rattle.inline.specs.Fitting.{IsWithinKind, IsHeld}
 use Rattle.inline.specs.Flat.{numbers_in, word_as}
@@ -17,14 +17,14 @@ use Rattle.language.specs.declared.signature.Kind.TheVariants.{Boolean, Uint8, U
 use Rattle.language.specs.declared.typing.WordType.{WordType}
 use Rattle.language.specs.Types.{bits_of}
 use Rattle.rv_machine.specs.Bytes.{ByteMap, number_at, with_number}
-use Rattle.rv_machine.proofs.ByteLaws.{number_at_apart, number_at_same, number_at-with_number, with_number_below, with_number_above}
+use Rattle.rv_machine.proofs.ByteLaws.{number_at_apart, number_at-with_number, with_number_below, with_number_above}
 use Rattle.rv_machine.specs.Machine as machine
 use Rattle.expression_code.proofs.Held.{HeldAt}
 use Rattle.expression_code.proofs.Masks.{mask_of, mask_fits}
 use Rattle.expression_code.proofs.Pieces.{Put}
 use Rattle.expression_code.proofs.Places.{bytes_by, bytes_of, place_of, place_within, ends_before_result, apart_from, elements_apart}
 use Rattle.expression_code.proofs.Straight.{Setting, base_of}
-use Rattle.expression_code.proofs.Values.{Kept, Ready, put_there}
+use Rattle.expression_code.proofs.Values.{Kept, Ready, number_same, put_kept, put_there, variables_kept}
 
 -- a number of so many bytes is written into the frame
 pub record Wrote (z : Setting) (n o w : ℕ) (s t : machine.State) : Type 0 where
@@ -53,17 +53,16 @@ hidden_wrote z depth n o w s t before wrote x low high =
     ap (λ (b : ByteMap). b (z.frame + x)) wrote.written ∙ with_number_above s.bytes n (z.frame + o) w (z.frame + x) (omega (arith, before, low))
 
 -- or behind them
+pub wrote_kept : (z : Setting) (n o w : ℕ) (s t : machine.State) → Wrote z n o w s t → Kept z o s t
+wrote_kept z n o w s t wrote x below =
+    ap (λ (b : ByteMap). b (z.frame + x)) wrote.written ∙ with_number_below s.bytes n (z.frame + o) w (z.frame + x) (omega (arith, below))
+
 pub hidden_beyond : (z : Setting) (depth n o w : ℕ) (s t : machine.State) → next_offset z.declared z.controls depth ≤ o → Wrote z n o w s t → Hidden z depth s t
-hidden_beyond z depth n o w s t behind wrote x low high =
-    ap (λ (b : ByteMap). b (z.frame + x)) wrote.written ∙ with_number_below s.bytes n (z.frame + o) w (z.frame + x) (omega (arith, behind, high))
+hidden_beyond z depth n o w s t behind wrote x low high = wrote_kept z n o w s t wrote x (omega (arith, behind, high))
 
 -- a loop's word is the number that it was
 pub hidden_number : (z : Setting) (depth : ℕ) (s t : machine.State) → Hidden z depth s t → (o : ℕ) → next_offset z.declared z.controls 0 ≤ o → o + 4 ≤ next_offset z.declared z.controls depth → number_at t.bytes 4 (z.frame + o) ≡ number_at s.bytes 4 (z.frame + o)
-hidden_number z depth s t hidden o low high =
-    number_at_same s.bytes t.bytes 4 (z.frame + o)
-    (λ x above below.
-    let e : z.frame + (x - z.frame) ≡ x = omega (arith, above) in
-    ap t.bytes (sym e) ∙ (hidden (x - z.frame) (omega (arith, above, low)) (omega (arith, above, below, high)) ∙ ap s.bytes e))
+hidden_number z depth s t hidden o low high = number_same z s t 4 o (λ b above below. hidden b (omega (arith, above, low)) (omega (arith, below, high)))
 
 pub put_wrote : (z : Setting) (n r o : ℕ) (env : StraightState) (s t : machine.State) → Put z n r o env s t → Wrote z n o (s.regs r) s t
 put_wrote z n r o env s t put = record { held = put.held; written = put.written }
@@ -103,71 +102,66 @@ module _ (z : Setting) where
     controls_there = λ c below. ready.controls_there c below ∙ ap (λ b. Some (mask_of b)) (same_controls c);
   }
 
+  -- a variable's numbers are others, and all that lies outside its words is as it was
+  module _ (x : ℕ) (d : FlatVariable) (known : slice_get z.declared x ≡ Some d) (l : List ℕ) (holds : IsHeld d l) (env : StraightState) (s t : machine.State) (ready : Ready z env s) (held : HeldAt z t)
+      (there : (j : ℕ) → j < numbers_in d.elements → number_at t.bytes (bytes_of d) (z.frame + place_of z.declared x d j) ≡ Some (slice_index l j))
+      (apart : (n o : ℕ) → (o + n ≤ variable_offset z.declared x) ⊎ (variable_offset z.declared x + 4 * words_of d ≤ o) → number_at t.bytes n (z.frame + o) ≡ number_at s.bytes n (z.frame + o)) where
+    same_variable : (y : ℕ) (e : FlatVariable) → slice_get z.declared y ≡ Some e → (y == x) ≡ true → d ≡ e
+    same_variable y e is q = same_Some d e (sym known ∙ (ap (λ n. slice_get z.declared n) (sym (eqb-true y x q)) ∙ is))
+
+    fits_at : (y : ℕ) (e : FlatVariable) → slice_get z.declared y ≡ Some e → (b : Bool) → (y == x) ≡ b → IsHeld e (cond b l (env.variables y))
+    fits_at y e is true q = subst (λ (f : FlatVariable). IsHeld f l) (same_variable y e is q) holds
+    fits_at y e is false q = ready.fits y e is
+
+    there_at : (y : ℕ) (e : FlatVariable) (j : ℕ) → slice_get z.declared y ≡ Some e → j < numbers_in e.elements → (b : Bool) → (y == x) ≡ b
+        → number_at t.bytes (bytes_of e) (z.frame + place_of z.declared y e j) ≡ Some (slice_index (cond b l (env.variables y)) j)
+    there_at y e j is more true q =
+        let kind = same_variable y e is q in
+        ap (λ n. number_at t.bytes (bytes_of e) (z.frame + place_of z.declared n e j)) (eqb-true y x q)
+        ∙ subst (λ (f : FlatVariable). number_at t.bytes (bytes_of f) (z.frame + place_of z.declared x f j) ≡ Some (slice_index l j)) kind
+        (there j (subst (λ (f : FlatVariable). j < numbers_in f.elements) (sym kind) more))
+    there_at y e j is more false q = apart (bytes_of e) (place_of z.declared y e j) (apart_from z.declared x y d e j known is more q) ∙ ready.variables_there y e j is more
+
+    pub ready_changed : Ready z (with_variable env x l) t
+    ready_changed =
+        let first = ends_before_result z.declared x d known in
+        record {
+          held = held;
+          fits = λ y e is. fits_at y e is (y == x) refl;
+          variables_there = λ y e j is more. there_at y e j is more (y == x) refl;
+          controls_there = λ c among. apart 4 (control_offset z.declared c) (inr (omega (arith, first))) ∙ ready.controls_there c among;
+        }
+
   module _ (x i v w : ℕ) (d : FlatVariable) (known : slice_get z.declared x ≡ Some d) (below : i < numbers_in d.elements) (fits : v < 2 ^ bits_of d.word.kind)
       (env : StraightState) (s t : machine.State) (ready : Ready z env s) (wrote : Wrote z (bytes_of d) (place_of z.declared x d i) w s t) (cut : w % 256 ^ bytes_of d ≡ v) where
     abbrev old : List ℕ
     old = env.variables x
 
-    inside : i < length old
-    inside = let e = (ready.fits x d known).count in omega (arith, e, below)
-
-    fits_at : (y : ℕ) (e : FlatVariable) → slice_get z.declared y ≡ Some e → (b : Bool) → (y == x) ≡ b → IsHeld e (cond b (slice_set old i v) (env.variables y))
-    fits_at y e is true q =
-        let same : slice_get z.declared x ≡ Some e = ap (λ n. slice_get z.declared n) (sym (eqb-true y x q)) ∙ is in
-        let kind : d ≡ e = same_Some d e (sym known ∙ same) in
-        let before = ready.fits x e same in
-        record {
-          count = length-set old i v ∙ before.count;
-          within = All-set (IsWithinKind e.word.kind) old i v (subst (λ (f : FlatVariable). v < 2 ^ bits_of f.word.kind) kind fits) before.within;
-        }
-    fits_at y e is false q = ready.fits y e is
-
     same_there : (j : ℕ) → j < numbers_in d.elements → (b : Bool) → (j == i) ≡ b → number_at t.bytes (bytes_of d) (z.frame + place_of z.declared x d j) ≡ Some (slice_index (slice_set old i v) j)
     same_there j more true q =
         let e = eqb-true j i q in
+        let long = (ready.fits x d known).count in
         let here : number_at t.bytes (bytes_of d) (z.frame + place_of z.declared x d i) ≡ Some v =
         ap (λ (b : ByteMap). number_at b (bytes_of d) (z.frame + place_of z.declared x d i)) wrote.written ∙ (number_at-with_number s.bytes (bytes_of d) (z.frame + place_of z.declared x d i) w ∙ ap Some cut) in
-        ap (λ k. number_at t.bytes (bytes_of d) (z.frame + place_of z.declared x d k)) e ∙ (here ∙ ap Some (sym (ap (λ k. slice_index (slice_set old i v) k) e ∙ get_or-set_same old i v 0 inside)))
+        ap (λ k. number_at t.bytes (bytes_of d) (z.frame + place_of z.declared x d k)) e
+        ∙ (here ∙ ap Some (sym (ap (λ k. slice_index (slice_set old i v) k) e ∙ get_or-set_same old i v 0 (omega (arith, long, below)))))
     same_there j more false q =
         other_number (bytes_of d) (place_of z.declared x d i) w (bytes_of d) (place_of z.declared x d j) s t wrote (elements_apart z.declared x d i j q)
         ∙ (ready.variables_there x d j known more ∙ ap Some (sym (get_or-set_other old i j v 0 (eqb-false j i q))))
 
-    there_at : (y : ℕ) (e : FlatVariable) (j : ℕ) → slice_get z.declared y ≡ Some e → j < numbers_in e.elements → (b : Bool) → (y == x) ≡ b
-        → number_at t.bytes (bytes_of e) (z.frame + place_of z.declared y e j) ≡ Some (slice_index (cond b (slice_set old i v) (env.variables y)) j)
-    there_at y e j is more true q =
-        let at = eqb-true y x q in
-        let same : slice_get z.declared x ≡ Some e = ap (λ n. slice_get z.declared n) (sym at) ∙ is in
-        let kind : d ≡ e = same_Some d e (sym known ∙ same) in
-        let fewer : j < numbers_in d.elements = subst (λ (f : FlatVariable). j < numbers_in f.elements) (sym kind) more in
-        ap (λ n. number_at t.bytes (bytes_of e) (z.frame + place_of z.declared n e j)) at
-        ∙ subst (λ (f : FlatVariable). number_at t.bytes (bytes_of f) (z.frame + place_of z.declared x f j) ≡ Some (slice_index (slice_set old i v) j)) kind (same_there j fewer (j == i) refl)
-    there_at y e j is more false q =
-        other_number (bytes_of d) (place_of z.declared x d i) w (bytes_of e) (place_of z.declared y e j) s t wrote (by_side (apart_from z.declared x y d e j known is more q))
-        ∙ ready.variables_there y e j is more
-      where
-        by_side : (place_of z.declared y e j + bytes_of e ≤ variable_offset z.declared x) ⊎ (variable_offset z.declared x + 4 * words_of d ≤ place_of z.declared y e j) → (place_of z.declared y e j + bytes_of e ≤ place_of z.declared x d i) ⊎ (place_of z.declared x d i + bytes_of d ≤ place_of z.declared y e j)
-        by_side (inl h) = inl (omega (arith, h))
-        by_side (inr h) =
-            let w = place_within z.declared x d i below in
-            inr (omega (arith, h, w))
-
-    -- before the result
-    pub put_before : place_of z.declared x d i + bytes_of d ≤ result_offset z.declared
-    put_before =
-        let w = place_within z.declared x d i below in
-        let e = ends_before_result z.declared x d known in
-        omega (arith, w, e)
+    outside : (n o : ℕ) → (o + n ≤ variable_offset z.declared x) ⊎ (variable_offset z.declared x + 4 * words_of d ≤ o) → number_at t.bytes n (z.frame + o) ≡ number_at s.bytes n (z.frame + o)
+    outside n o (inl h) = other_number (bytes_of d) (place_of z.declared x d i) w n o s t wrote (inl (omega (arith, h)))
+    outside n o (inr h) =
+        let p = place_within z.declared x d i below in
+        other_number (bytes_of d) (place_of z.declared x d i) w n o s t wrote (inr (omega (arith, h, p)))
 
     -- a number of a variable is set
     pub ready_put : Ready z (with_element env x i v) t
     ready_put =
-        let low = put_before in
-        record {
-          held = wrote.held;
-          fits = λ y e is. fits_at y e is (y == x) refl;
-          variables_there = λ y e j is more. there_at y e j is more (y == x) refl;
-          controls_there = λ c among. other_number (bytes_of d) (place_of z.declared x d i) w 4 (control_offset z.declared c) s t wrote (inr (omega (arith, low))) ∙ ready.controls_there c among;
-        }
+        let before = ready.fits x d known in
+        ready_changed x d known (slice_set old i v)
+        (record { count = length-set old i v ∙ before.count; within = All-set (IsWithinKind d.word.kind) old i v fits before.within })
+        env s t ready wrote.held (λ j more. same_there j more (j == i) refl) outside
 
   -- a word is set
   module _ (x v : ℕ) (word : WordType) (mutable : Bool) (known : slice_get z.declared x ≡ Some (word_as word mutable)) (fits : v < 2 ^ bits_of word.kind)
@@ -224,10 +218,7 @@ module _ (z : Setting) where
     one_control = record {
       held = put.held;
       fits = ready.fits;
-      variables_there = λ x d i is below.
-          let w = place_within z.declared x d i below in
-          let e = ends_before_result z.declared x d is in
-          other_number 4 (control_offset z.declared c) (s.regs r) (bytes_of d) (place_of z.declared x d i) s t (put_wrote z 4 r (control_offset z.declared c) env s t put) (inl (omega (arith, w, e))) ∙ ready.variables_there x d i is below;
+      variables_there = variables_kept z (control_offset z.declared c) env s t (omega arith) ready (put_kept z 4 r (control_offset z.declared c) env s t put);
       controls_there = λ y below. control_there y below (y == c) refl;
     }
 

@@ -2,7 +2,7 @@
 use Rattle.std.proofs.Common.{◌≡◌, ◌≢◌, ℕ, ◌+◌, ◌-◌, ◌%◌, ◌^◌, ◌<◌, ◌≤◌, Bool, true, false, nat_lt, Some, slice_get, slice_index, refl, ap, ◌∙◌, arith, sym}
 use Rattle.std.proofs.lemmas.Bool.Decides.{nat_tests}
 use Rattle.branch_removal.specs.StraightMeaning.{StraightState}
-use Rattle.expression_code.specs.Layout.{control_offset}
+use Rattle.expression_code.specs.Layout.{result_offset, control_offset, next_offset}
 use Rattle.expression_code.specs.Registers.{register_count, slot_of}
 use Rattle.inline.specs.declared.flat.FlatVariable.{FlatVariable}
 use Rattle.inline.specs.Fitting.{Fits}
@@ -12,7 +12,7 @@ use Rattle.inline.specs.FlatTyping.{types_of}
 use Rattle.rv_machine.specs.Bytes.{ByteMap, number_at}
 use Rattle.rv_machine.proofs.ByteLaws.{number_at_same, number_at-with_number, with_number_below}
 use Rattle.rv_machine.specs.Machine as machine
-use Rattle.expression_code.proofs.Held.{Held}
+use Rattle.expression_code.proofs.Held.{HeldAt, Held}
 use Rattle.expression_code.proofs.Masks.{mask_of}
 use Rattle.expression_code.proofs.Pieces.{Put}
 use Rattle.expression_code.proofs.Places.{bytes_of, place_of, place_within, ends_before_result}
@@ -50,13 +50,17 @@ pub record Valued (z : Setting) (e : TermTree) (free place : ℕ) (env : Straigh
   pub kept : Kept z (slot_of free place) s t
   pub lower : Lower place s t
 
--- so numbers below the offset are
-pub kept_number : (z : Setting) (free : ℕ) (s t : machine.State) → Kept z free s t → (n o : ℕ) → o + n ≤ free → number_at t.bytes n (z.frame + o) ≡ number_at s.bytes n (z.frame + o)
-kept_number z free s t kept n o inside =
+-- so a number is where its bytes are
+pub number_same : (z : Setting) (s t : machine.State) (n o : ℕ) → ((b : ℕ) → o ≤ b → b < o + n → t.bytes (z.frame + b) ≡ s.bytes (z.frame + b))
+    → number_at t.bytes n (z.frame + o) ≡ number_at s.bytes n (z.frame + o)
+number_same z s t n o same =
     number_at_same s.bytes t.bytes n (z.frame + o)
     (λ x low high.
     let e : z.frame + (x - z.frame) ≡ x = omega (arith, low) in
-    ap t.bytes (sym e) ∙ (kept (x - z.frame) (omega (arith, low, high, inside)) ∙ ap s.bytes e))
+    ap t.bytes (sym e) ∙ (same (x - z.frame) (omega (arith, low)) (omega (arith, low, high)) ∙ ap s.bytes e))
+
+pub kept_number : (z : Setting) (free : ℕ) (s t : machine.State) → Kept z free s t → (n o : ℕ) → o + n ≤ free → number_at t.bytes n (z.frame + o) ≡ number_at s.bytes n (z.frame + o)
+kept_number z free s t kept n o inside = number_same z s t n o (λ b low high. kept b (omega (arith, high, inside)))
 
 pub kept_less : (z : Setting) (low free : ℕ) (s t : machine.State) → low ≤ free → Kept z free s t → Kept z low s t
 kept_less z low free s t less kept o below = kept o (omega (arith, below, less))
@@ -83,14 +87,26 @@ place_below z x d i is below =
     let e = ends_before_result z.declared x d is in
     omega (arith, h, e)
 
--- what is shown stays shown
-pub ready_after : (z : Setting) (env : StraightState) (s t : machine.State) → Ready z env s → Held z env t → Kept z (base_of z) s t → Ready z env t
-ready_after z env s t ready held kept = record {
+-- variables stay where nothing before the result is written
+pub variables_kept : (z : Setting) (free : ℕ) (env : StraightState) (s t : machine.State) → result_offset z.declared ≤ free → Ready z env s → Kept z free s t
+    → (x : ℕ) (d : FlatVariable) (i : ℕ) → slice_get z.declared x ≡ Some d → i < numbers_in d.elements
+    → number_at t.bytes (bytes_of d) (z.frame + place_of z.declared x d i) ≡ Some (slice_index (env.variables x) i)
+variables_kept z free env s t above ready kept x d i is below =
+    let w = place_within z.declared x d i below in
+    let e = ends_before_result z.declared x d is in
+    kept_number z free s t kept (bytes_of d) (place_of z.declared x d i) (omega (arith, w, e, above)) ∙ ready.variables_there x d i is below
+
+-- what is shown stays shown where nothing before the loops' words is
+pub ready_below : (z : Setting) (free : ℕ) → next_offset z.declared z.controls 0 ≤ free → (env : StraightState) (s t : machine.State) → Ready z env s → HeldAt z t → Kept z free s t → Ready z env t
+ready_below z free above env s t ready held kept = record {
   held = held;
   fits = ready.fits;
-  variables_there = λ x d i is below. kept_number z (base_of z) s t kept (bytes_of d) (place_of z.declared x d i) (place_below z x d i is below) ∙ ready.variables_there x d i is below;
-  controls_there = λ c below. kept_number z (base_of z) s t kept 4 (control_offset z.declared c) (omega (arith, below)) ∙ ready.controls_there c below;
+  variables_there = variables_kept z free env s t (omega (arith, above)) ready kept;
+  controls_there = λ c below. kept_number z free s t kept 4 (control_offset z.declared c) (omega (arith, below, above)) ∙ ready.controls_there c below;
 }
+
+pub ready_after : (z : Setting) (env : StraightState) (s t : machine.State) → Ready z env s → Held z env t → Kept z (base_of z) s t → Ready z env t
+ready_after z env s t = ready_below z (base_of z) (omega arith) env s t
 
 -- Temporaries stay.
 
