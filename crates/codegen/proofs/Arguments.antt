@@ -1,9 +1,9 @@
 -- The arguments, loaded: what the variables hold, and what lies in the slots.
-use Rattle.std.proofs.Common.{◌≡◌, ℕ, zero, suc, ◌+◌, ◌*◌, ◌%◌, ◌^◌, ◌<◌, ◌≤◌, ◌-◌, true, false, List, [], ◌∷◌, length, map, take, replicate, All, Some, is_some, slice_get, slice_index, refl, sym, ap, ◌∙◌, subst, arith}
+use Rattle.std.proofs.Common.{◌≡◌, ℕ, zero, suc, ◌+◌, ◌*◌, ◌%◌, ◌^◌, ◌<◌, ◌≤◌, ◌-◌, true, false, List, [], ◌∷◌, length, map, take, replicate, Option, None, Some, is_some, slice_get, slice_index, refl, sym, ap, ap₂, ◌∙◌, subst, arith}
 use Rattle.std.proofs.lemmas.List.{length-replicate}
 use Rattle.std.proofs.lemmas.List.Elements.{All-replicate}
 use Rattle.std.proofs.lemmas.Option.{same_Some, none-some}
-use Rattle.arguments.specs.Within.{AreWithin, IsWithin, greatest_of, words_of}
+use Rattle.arguments.specs.Within.{AreWithin, IsWithin, HasShape, greatest_of, words_of}
 use Rattle.expression_code.specs.Layout.{result_offset, control_offset, slots_from}
 use Rattle.codegen.specs.Loaded.{with_numbers, with_argument, with_arguments}
 use Rattle.inline.specs.declared.flat.FlatVariable.{FlatVariable}
@@ -19,18 +19,19 @@ use Rattle.language.specs.declared.signature.Kind.{Kind}
 use Rattle.language.specs.declared.signature.Kind.TheVariants.{Boolean, Uint8, Uint16, Uint32}
 use Rattle.language.specs.declared.signature.Label.{Label}
 use Rattle.language.specs.declared.signature.Param.{Param}
+use Rattle.language.specs.declared.typing.WordType.{WordType}
 use Rattle.language.specs.declared.values.Arg.{Arg}
 use Rattle.language.specs.declared.values.Arg.TheVariants.{Word, Array}
 use Rattle.language.specs.Size.{element_bytes, array_words}
 use Rattle.language.specs.Types.{bits_of}
 use Rattle.word.specs.declared.profile.Profile.{Profile}
 use Rattle.rv_machine.specs.Bytes.{ByteMap, number_at, with_number, zeros}
-use Rattle.rv_machine.proofs.ByteLaws.{number_at_same, number_at-with_number, with_number_below, with_number_above, is_some-with_number}
+use Rattle.rv_machine.proofs.ByteLaws.{number_at_same, with_number_below, is_some-with_number}
 use Rattle.rv_machine.specs.Machine.{State}
 use Rattle.branch_removal.specs.StraightMeaning.{StraightState}
 use Rattle.expression_code.proofs.Held.{number_there}
 use Rattle.codegen.proofs.Numbers.{numbers_below, numbers_above, numbers_there, zero_byte, zero_number}
-use Rattle.expression_code.proofs.Places.{bytes_of, place_of, place_within, ends_before_result}
+use Rattle.expression_code.proofs.Places.{bytes_by, bytes_of, place_of, place_within, ends_before_result}
 use Rattle.expression_code.proofs.Straight.{Setting}
 use Rattle.expression_code.proofs.Values.{Ready}
 
@@ -40,77 +41,74 @@ greatest Uint8 v h = omega (arith, h)
 greatest Uint16 v h = omega (arith, h)
 greatest Uint32 v h = omega (arith, h)
 
-kept_whole : (kind : Kind) (v : ℕ) → v ≤ greatest_of kind → v % 256 ^ element_bytes kind ≡ v
-kept_whole Boolean v h = omega (arith, h)
-kept_whole Uint8 v h = omega (arith, h)
-kept_whole Uint16 v h = omega (arith, h)
-kept_whole Uint32 v h = omega (arith, h)
+kept_whole : (kind : Kind) (elements : Option ℕ) (v : ℕ) → v ≤ greatest_of kind → v % 256 ^ bytes_by kind elements ≡ v
+kept_whole Boolean None v h = omega (arith, h)
+kept_whole Uint8 None v h = omega (arith, h)
+kept_whole Uint16 None v h = omega (arith, h)
+kept_whole Uint32 None v h = omega (arith, h)
+kept_whole Boolean (Some n) v h = omega (arith, h)
+kept_whole Uint8 (Some n) v h = omega (arith, h)
+kept_whole Uint16 (Some n) v h = omega (arith, h)
+kept_whole Uint32 (Some n) v h = omega (arith, h)
 
-small_word : (kind : Kind) (v : ℕ) → v ≤ greatest_of kind → v % 256 ^ 4 ≡ v
-small_word Boolean v h = omega (arith, h)
-small_word Uint8 v h = omega (arith, h)
-small_word Uint16 v h = omega (arith, h)
-small_word Uint32 v h = omega (arith, h)
-
-in_words : (kind : Kind) (n m : ℕ) → m ≡ n → element_bytes kind * m ≤ 4 * array_words kind n
-in_words Boolean n m e = omega (arith, e)
-in_words Uint8 n m e = omega (arith, e)
-in_words Uint16 n m e = omega (arith, e)
-in_words Uint32 n m e = omega (arith, e)
+in_words : (word : WordType) (elements : Option ℕ) → bytes_by word.kind elements * numbers_in elements ≤ 4 * flat_size.words_by word elements
+in_words word None = omega arith
+in_words word (Some n) = in_array word.kind
+  where
+    in_array : (kind : Kind) → element_bytes kind * n ≤ 4 * array_words kind n
+    in_array Boolean = omega arith
+    in_array Uint8 = omega arith
+    in_array Uint16 = omega arith
+    in_array Uint32 = omega arith
 
 -- One argument.
-
-array_there : (frame : ℕ) (bytes : ByteMap) (low n : ℕ) (kind : Kind) (ws : List ℕ) (i : ℕ) → length ws ≡ n → All (λ word. word ≤ greatest_of kind) ws → i < n
-    → number_at (with_numbers bytes (element_bytes kind) (frame + low) ws) (element_bytes kind) (frame + (low + element_bytes kind * i)) ≡ Some (slice_index ws i)
-array_there frame bytes low n kind ws i long values below =
-    let at : frame + (low + element_bytes kind * i) ≡ frame + low + element_bytes kind * i = omega arith in
-    ap (λ a. number_at (with_numbers bytes (element_bytes kind) (frame + low) ws) (element_bytes kind) a) at
-    ∙ numbers_there bytes (element_bytes kind) (frame + low) ws i (λ j less. kept_whole kind (slice_index ws j) (values j 0 less)) (omega (arith, below, long))
-
-word_there : (frame : ℕ) (bytes : ByteMap) (low : ℕ) (kind : Kind) (w i : ℕ) → w ≤ greatest_of kind → i < 1
-    → number_at (with_number bytes 4 (frame + low) w) 4 (frame + (low + 4 * i)) ≡ Some (slice_index (w ∷ []) i)
-word_there frame bytes low kind w zero small below =
-    let at : frame + (low + 4 * 0) ≡ frame + low = omega arith in
-    ap (λ a. number_at (with_number bytes 4 (frame + low) w) 4 a) at ∙ (number_at-with_number bytes 4 (frame + low) w ∙ ap Some (small_word kind w small))
-word_there frame bytes low kind w (suc i) small below = absurd (omega (arith, below))
 
 abbrev made : Kind → Label → ℕ → Form → Param
 made k l n form = record { kind = k; label = l; form = form; length = n }
 
+-- an argument is as many numbers as its parameter is declared with, put one after another
 module _ (frame : ℕ) where
-  -- the numbers of an argument lie in its slot
-  argument_there_by : (k : Kind) (l : Label) (n : ℕ) (form : Form) (bytes : ByteMap) (low : ℕ) (arg : Arg) (i : ℕ) → IsWithin (made k l n form) arg → i < numbers_in (declaration_of (made k l n form)).elements
-      → number_at (with_argument frame bytes (record { param = made k l n form; offset = low }) arg) (bytes_of (declaration_of (made k l n form))) (frame + (low + bytes_of (declaration_of (made k l n form)) * i)) ≡ Some (slice_index (words_of arg) i)
-  argument_there_by k l n SingleWord bytes low (Word w) i within below = word_there frame bytes low k w i (within.values 0 0 (omega arith)) below
-  argument_there_by k l n SingleWord bytes low (Array ws) i within below = absurd within.shape
-  argument_there_by k l n FixedArray bytes low (Word w) i within below = absurd within.shape
-  argument_there_by k l n FixedArray bytes low (Array ws) i within below = array_there frame bytes low n k ws i within.shape within.values below
-  argument_there_by k l n MutableArray bytes low (Word w) i within below = absurd within.shape
-  argument_there_by k l n MutableArray bytes low (Array ws) i within below = array_there frame bytes low n k ws i within.shape within.values below
+  abbrev Lies : Param → Arg → Type 0
+  Lies p arg =
+      (length (words_of arg) ≡ numbers_in (declaration_of p).elements)
+      × ((bytes : ByteMap) (low : ℕ) → with_argument frame bytes (record { param = p; offset = low }) arg ≡ with_numbers bytes (bytes_of (declaration_of p)) (frame + low) (words_of arg))
 
+  lies_by : (k : Kind) (l : Label) (n : ℕ) (form : Form) (arg : Arg) → HasShape form n arg → Lies (made k l n form) arg
+  lies_by k l n SingleWord (Word w) shape = (refl, λ bytes low. refl)
+  lies_by k l n SingleWord (Array ws) shape = absurd shape
+  lies_by k l n FixedArray (Word w) shape = absurd shape
+  lies_by k l n FixedArray (Array ws) shape = (shape, λ bytes low. refl)
+  lies_by k l n MutableArray (Word w) shape = absurd shape
+  lies_by k l n MutableArray (Array ws) shape = (shape, λ bytes low. refl)
+
+  lies : (p : Param) (arg : Arg) → IsWithin p arg → Lies p arg
+  lies p arg within = lies_by p.kind p.label p.length p.form arg within.shape
+
+  -- its numbers lie in its slot
   argument_there : (p : Param) (bytes : ByteMap) (low : ℕ) (arg : Arg) (i : ℕ) → IsWithin p arg → i < numbers_in (declaration_of p).elements
       → number_at (with_argument frame bytes (record { param = p; offset = low }) arg) (bytes_of (declaration_of p)) (frame + (low + bytes_of (declaration_of p) * i)) ≡ Some (slice_index (words_of arg) i)
-  argument_there p = argument_there_by p.kind p.label p.length p.form
+  argument_there p bytes low arg i within below =
+      let d = declaration_of p in
+      let h = lies p arg within in
+      let long = h.0 in
+      let at : frame + (low + bytes_of d * i) ≡ frame + low + bytes_of d * i = omega arith in
+      ap₂ (λ (b : ByteMap) a. number_at b (bytes_of d) a) (h.1 bytes low) at
+      ∙ numbers_there bytes (bytes_of d) (frame + low) (words_of arg) i (λ j less. kept_whole p.kind d.elements (slice_index (words_of arg) j) (within.values j 0 less)) (omega (arith, below, long))
 
   argument_below : (p : Param) (bytes : ByteMap) (low : ℕ) (arg : Arg) (x : ℕ) → x < frame + low → with_argument frame bytes (record { param = p; offset = low }) arg x ≡ bytes x
   argument_below p bytes low (Word w) x below = with_number_below bytes 4 (frame + low) w x below
   argument_below p bytes low (Array ws) x below = numbers_below bytes (element_bytes p.kind) (frame + low) ws x below
 
-  array_above : (bytes : ByteMap) (low n : ℕ) (k : Kind) (ws : List ℕ) (x : ℕ) → length ws ≡ n → frame + low + 4 * array_words k n ≤ x → with_numbers bytes (element_bytes k) (frame + low) ws x ≡ bytes x
-  array_above bytes low n k ws x long above =
-      let h = in_words k n (length ws) long in
-      numbers_above bytes (element_bytes k) (frame + low) ws x (omega (arith, h, above))
-
-  argument_above_by : (k : Kind) (l : Label) (n : ℕ) (form : Form) (bytes : ByteMap) (low : ℕ) (arg : Arg) (x : ℕ) → IsWithin (made k l n form) arg → frame + low + 4 * flat_size.words_of (declaration_of (made k l n form)) ≤ x → with_argument frame bytes (record { param = made k l n form; offset = low }) arg x ≡ bytes x
-  argument_above_by k l n SingleWord bytes low (Word w) x within above = with_number_above bytes 4 (frame + low) w x above
-  argument_above_by k l n SingleWord bytes low (Array ws) x within above = absurd within.shape
-  argument_above_by k l n FixedArray bytes low (Word w) x within above = absurd within.shape
-  argument_above_by k l n FixedArray bytes low (Array ws) x within above = array_above bytes low n k ws x within.shape above
-  argument_above_by k l n MutableArray bytes low (Word w) x within above = absurd within.shape
-  argument_above_by k l n MutableArray bytes low (Array ws) x within above = array_above bytes low n k ws x within.shape above
+  -- and end with its words
+  ends_in : (p : Param) (arg : Arg) → IsWithin p arg → bytes_of (declaration_of p) * length (words_of arg) ≤ 4 * flat_size.words_of (declaration_of p)
+  ends_in p arg within =
+      let d = declaration_of p in
+      subst (λ n. bytes_of d * n ≤ 4 * flat_size.words_of d) (sym (lies p arg within).0) (in_words d.word d.elements)
 
   argument_above : (p : Param) (bytes : ByteMap) (low : ℕ) (arg : Arg) (x : ℕ) → IsWithin p arg → frame + low + 4 * flat_size.words_of (declaration_of p) ≤ x → with_argument frame bytes (record { param = p; offset = low }) arg x ≡ bytes x
-  argument_above p = argument_above_by p.kind p.label p.length p.form
+  argument_above p bytes low arg x within above =
+      let h = ends_in p arg within in
+      ap (λ (b : ByteMap). b x) ((lies p arg within).1 bytes low) ∙ numbers_above bytes (bytes_of (declaration_of p)) (frame + low) (words_of arg) x (omega (arith, h, above))
 
   -- All of them.
 
@@ -143,14 +141,12 @@ module _ (frame : ℕ) where
           let e : frame + (at + i - frame) ≡ at + i = omega (arith, low) in
           ap (λ a. is_some (bytes a)) (sym e) ∙ here (at + i - frame) (omega (arith, low, below, high)))
 
-  argument_data_by : (size : ℕ) (k : Kind) (l : Label) (n : ℕ) (form : Form) (bytes : ByteMap) (low : ℕ) (arg : Arg) → IsWithin (made k l n form) arg → ((x : ℕ) → x < size → is_some (bytes (frame + x)) ≡ true) → low + 4 * flat_size.words_of (declaration_of (made k l n form)) ≤ size
-      → (x : ℕ) → x < size → is_some (with_argument frame bytes (record { param = made k l n form; offset = low }) arg (frame + x)) ≡ true
-  argument_data_by size k l n SingleWord bytes low (Word w) within here room = numbers_data size bytes 4 (frame + low) (w ∷ []) here (omega arith) (omega (arith, room))
-  argument_data_by size k l n SingleWord bytes low (Array ws) within here room = absurd within.shape
-  argument_data_by size k l n FixedArray bytes low (Word w) within here room = absurd within.shape
-  argument_data_by size k l n FixedArray bytes low (Array ws) within here room = let h = in_words k n (length ws) within.shape in numbers_data size bytes (element_bytes k) (frame + low) ws here (omega arith) (omega (arith, room, h))
-  argument_data_by size k l n MutableArray bytes low (Word w) within here room = absurd within.shape
-  argument_data_by size k l n MutableArray bytes low (Array ws) within here room = let h = in_words k n (length ws) within.shape in numbers_data size bytes (element_bytes k) (frame + low) ws here (omega arith) (omega (arith, room, h))
+  argument_data : (size : ℕ) (p : Param) (bytes : ByteMap) (low : ℕ) (arg : Arg) → IsWithin p arg → ((x : ℕ) → x < size → is_some (bytes (frame + x)) ≡ true) → low + 4 * flat_size.words_of (declaration_of p) ≤ size
+      → (x : ℕ) → x < size → is_some (with_argument frame bytes (record { param = p; offset = low }) arg (frame + x)) ≡ true
+  argument_data size p bytes low arg within here room x less =
+      let h = ends_in p arg within in
+      ap (λ (b : ByteMap). is_some (b (frame + x))) ((lies p arg within).1 bytes low)
+      ∙ numbers_data size bytes (bytes_of (declaration_of p)) (frame + low) (words_of arg) here (omega arith) (omega (arith, room, h)) x less
 
   arguments_data : (size : ℕ) (bytes : ByteMap) (low : ℕ) (ps : List Param) (args : List Arg) → AreWithin ps args → ((x : ℕ) → x < size → is_some (bytes (frame + x)) ≡ true) → low + 4 * declared_words (map declaration_of ps) ≤ size
       → (x : ℕ) → x < size → is_some (with_arguments frame bytes (slots_from low ps) args (frame + x)) ≡ true
@@ -158,7 +154,7 @@ module _ (frame : ℕ) where
   arguments_data size bytes low (p ∷ ps) [] within here room = absurd within
   arguments_data size bytes low (p ∷ ps) (arg ∷ args) within here room =
       arguments_data size (with_argument frame bytes (record { param = p; offset = low }) arg) (low + 4 * flat_size.words_of (declaration_of p)) ps args within.1
-      (argument_data_by size p.kind p.label p.length p.form bytes low arg within.0 here (omega (arith, room))) (omega (arith, room))
+      (argument_data size p bytes low arg within.0 here (omega (arith, room))) (omega (arith, room))
 
 pub head_is : (e d : FlatVariable) (es ds : List FlatVariable) → e ∷ es ≡ d ∷ ds → e ≡ d
 head_is e d es ds h = cc
@@ -221,16 +217,8 @@ module _ (frame size : ℕ) where
 
 -- Values within their kinds.
 
-held_argument_by : (k : Kind) (l : Label) (n : ℕ) (form : Form) (arg : Arg) → IsWithin (made k l n form) arg → IsHeld (declaration_of (made k l n form)) (words_of arg)
-held_argument_by k l n SingleWord (Word w) within = record { count = refl; within = λ j d less. greatest k _ (within.values j d less) }
-held_argument_by k l n SingleWord (Array ws) within = absurd within.shape
-held_argument_by k l n FixedArray (Word w) within = absurd within.shape
-held_argument_by k l n FixedArray (Array ws) within = record { count = within.shape; within = λ j d less. greatest k _ (within.values j d less) }
-held_argument_by k l n MutableArray (Word w) within = absurd within.shape
-held_argument_by k l n MutableArray (Array ws) within = record { count = within.shape; within = λ j d less. greatest k _ (within.values j d less) }
-
 held_argument : (p : Param) (arg : Arg) → IsWithin p arg → IsHeld (declaration_of p) (words_of arg)
-held_argument p = held_argument_by p.kind p.label p.length p.form
+held_argument p arg within = record { count = (lies 0 p arg within).0; within = λ j d less. greatest p.kind _ (within.values j d less) }
 
 zero_fits : (k : Kind) → 0 < 2 ^ bits_of k
 zero_fits Boolean = omega arith
