@@ -1,7 +1,7 @@
 -- Of each piece of emitted code that only computes: that it does (`plain`), what its instructions give one after the
 -- other (`composed`), and what it makes in the register of the first operand, which is what its node means (`made`).
 use Rattle.std.proofs.Common.{◌≡◌, ◌≢◌, ℕ, ◌-◌, ◌*◌, ◌%◌, ◌^◌, ◌<◌, ◌==◌, ◌⊎◌, inl, inr, Bool, true, false, ◌&&◌, ◌||◌, cond, if◌then◌else◌, nat_lt, List, [], ◌∷◌, ◌++◌, refl, sym, ap, ap₂, ◌∙◌, arith, eq-eqb, ne_eqb}
-use Rattle.std.proofs.lemmas.Bool.{true≢false, lt-ltb, eqb-true}
+use Rattle.std.proofs.lemmas.Bool.{false≢true, lt-ltb, eqb-true}
 use Rattle.std.proofs.lemmas.Bool.Decides.{nat_tests}
 use Rattle.std.proofs.Math.Path.{fun_ext}
 use Rattle.rv_code.specs.declared.instructions.Instr.{Instr}
@@ -13,23 +13,23 @@ use Rattle.rv_code.specs.declared.operations.RegisterOperation.TheVariants as re
 use Rattle.rv_code.specs.declared.operations.MultiplyOperation.TheVariants.{Mul}
 use Rattle.rv_machine.specs.Registers.{with_register}
 use Rattle.rv_machine.specs.Effects.{sum_of, sign_extended, register_value, shift_value, multiply_value}
-use Rattle.expression_code.specs.TermCode.{upper_part, lower_part, constant_code, cut_code, operator_code, prefix_code, choice_code}
+use Rattle.expression_code.specs.TermCode.{upper_part, lower_part, constant_code, cut_code, Step, between, turned, product, division, step_code, Finish, alone, gives_zero, gives_more, narrowed, of_truths, finish_code, row_of, operator_code, prefix_code, choice_code}
 use Rattle.language.specs.declared.tree.BinaryOperator.{BinaryOperator}
-use Rattle.language.specs.declared.tree.BinaryOperator.TheVariants.{Either, Both, Equal, Unequal, Less, LessOrEqual, Greater, GreaterOrEqual, BitOr, BitXor, BitAnd, ShiftLeft, ShiftRight, Add, Subtract, Multiply, Divide, Remainder}
+use Rattle.language.specs.declared.tree.BinaryOperator.TheVariants.{Add, Multiply}
 use Rattle.language.specs.declared.tree.PrefixOperator.{PrefixOperator}
 use Rattle.language.specs.declared.tree.PrefixOperator.TheVariants.{Not, Complement, Negate}
-use Rattle.language.specs.Operators.{divides, multiplies, operated, prefix_value}
+use Rattle.language.specs.Operators.{divides, operated, prefix_value}
 use Rattle.word.specs.declared.width.Width.{Width}
 use Rattle.word.specs.declared.width.Width.TheVariants.{W8, W16, W32}
 use Rattle.word.specs.Operators.{converted, rotated_left}
 use Rattle.word.specs.Widths.{bits}
 use Rattle.expression_code.proofs.Arithmetic.{near_field, parts, upper_fits, lower_fits}
-use Rattle.expression_code.proofs.Computing.{registers_after, computes, only_computes, AreWorking, both_left, both_right, register_kept}
+use Rattle.expression_code.proofs.Computing.{written_register, computed_value, registers_after, computes, only_computes, AreWorking, both_left, both_right, register_kept}
 use Rattle.expression_code.proofs.Homes.{IsFree}
 use Rattle.expression_code.proofs.Masks.{chosen}
 use Rattle.expression_code.proofs.Pieces.{register-at}
 use Rattle.expression_code.proofs.Steps.{written}
-use Rattle.expression_code.proofs.OperatorRuns.{cut_value, composed, composed_prefix, around_value, cut_computes, operator_computes, prefix_computes, rotate_computes}
+use Rattle.expression_code.proofs.OperatorRuns.{cut_value, step_value, finished, composed_prefix, around_value, cut_computes, operator_computes, prefix_computes, rotate_computes}
 
 pub plain_append : (works : ℕ → Bool) (xs ys : List Instr) → only_computes works xs ≡ true → only_computes works ys ≡ true → only_computes works (xs ++ ys) ≡ true
 plain_append works [] ys one two = two
@@ -89,6 +89,12 @@ amount_down : (w : Width) (amount : ℕ) → 0 < amount → bits w - amount < 32
 amount_down W8 amount some = omega arith
 amount_down W16 amount some = omega arith
 amount_down W32 amount some = omega (arith, some)
+
+-- a step that only computes
+abbrev pub is_plain : Step → Bool
+is_plain (between operation) = true
+is_plain (turned operation) = true
+is_plain _ = false
 
 -- one of two registers
 abbrev pub either_of : ℕ → ℕ → ℕ → Bool
@@ -160,48 +166,46 @@ module _ (l r : ℕ) (one : IsFree l) (other : IsFree r) (apart : l ≢ r) where
 
   -- Operators.
 
-  pub operator_plain : (operator : BinaryOperator) (w : Width) → divides operator ≡ false → multiplies operator ≡ false → only_computes (either_of l r) (operator_code l r operator w) ≡ true
-  operator_plain Either w h n = simp (rl, ll, rr, l32, r32)
-  operator_plain Both w h n = simp (rl, ll, rr, l32, r32)
-  operator_plain Equal w h n = simp (ll, l32, r32)
-  operator_plain Unequal w h n = simp (ll, l32, r32)
-  operator_plain Less w h n = simp (ll, l32, r32)
-  operator_plain LessOrEqual w h n = simp (ll, l32, r32)
-  operator_plain Greater w h n = simp (ll, l32, r32)
-  operator_plain GreaterOrEqual w h n = simp (ll, l32, r32)
-  operator_plain BitOr w h n = simp (ll, l32, r32)
-  operator_plain BitXor w h n = simp (ll, l32, r32)
-  operator_plain BitAnd w h n = simp (ll, l32, r32)
-  operator_plain ShiftLeft w h n = simp (ll, l32, r32, cut_plain w)
-  operator_plain ShiftRight w h n = simp (ll, l32, r32, cut_plain w)
-  operator_plain Add w h n = simp (ll, l32, r32, cut_plain w)
-  operator_plain Subtract w h n = simp (ll, l32, r32, cut_plain w)
-  operator_plain Multiply w h n = absurd (true≢false n)
-  operator_plain Divide w h n = absurd (true≢false h)
-  operator_plain Remainder w h n = absurd (true≢false h)
+  step_plain : (step : Step) → is_plain step ≡ true → computes (either_of l r) (step_code l r step) ≡ true
+  step_plain (between operation) h = simp (ll, l32, r32)
+  step_plain (turned operation) h = simp (ll, l32, r32)
+  step_plain product h = absurd (false≢true h)
+  step_plain (division operation) h = absurd (false≢true h)
 
-  operator_composed : (operator : BinaryOperator) (w : Width) → divides operator ≡ false → multiplies operator ≡ false → (regs : ℕ → ℕ) → registers_after (operator_code l r operator w) regs l ≡ composed operator w (regs l) (regs r)
-  operator_composed Either w h n regs = simp (ll, rr, lr, rl, l0, r0)
-  operator_composed Both w h n regs = simp (ll, rr, lr, rl, l0, r0)
-  operator_composed Equal w h n regs = simp (ll, l0, r0)
-  operator_composed Unequal w h n regs = simp (ll, l0, r0)
-  operator_composed Less w h n regs = simp (ll, l0, r0)
-  operator_composed LessOrEqual w h n regs = simp (ll, l0, r0)
-  operator_composed Greater w h n regs = simp (ll, l0, r0)
-  operator_composed GreaterOrEqual w h n regs = simp (ll, l0, r0)
-  operator_composed BitOr w h n regs = simp (ll, l0, r0)
-  operator_composed BitXor w h n regs = simp (ll, l0, r0)
-  operator_composed BitAnd w h n regs = simp (ll, l0, r0)
-  operator_composed ShiftLeft w h n regs = cut_composed w _ ∙ simp (ll, l0, r0)
-  operator_composed ShiftRight w h n regs = cut_composed w _ ∙ simp (ll, l0, r0)
-  operator_composed Add w h n regs = cut_composed w _ ∙ simp (ll, l0, r0)
-  operator_composed Subtract w h n regs = cut_composed w _ ∙ simp (ll, l0, r0)
-  operator_composed Multiply w h n regs = absurd (true≢false n)
-  operator_composed Divide w h n regs = absurd (true≢false h)
-  operator_composed Remainder w h n regs = absurd (true≢false h)
+  finish_plain : (finish : Finish) (w : Width) (i : Instr) → computes (either_of l r) i ≡ true → only_computes (either_of l r) (finish_code l r w finish i) ≡ true
+  finish_plain alone w i ok = simp ok
+  finish_plain gives_zero w i ok = simp (ok, ll, l32)
+  finish_plain gives_more w i ok = simp (ok, ll, l32)
+  finish_plain narrowed w i ok = simp (ok, cut_plain w)
+  finish_plain of_truths w i ok = simp (ok, rl, ll, rr, l32, r32)
 
-  pub operator_made : (operator : BinaryOperator) (w : Width) → divides operator ≡ false → multiplies operator ≡ false → (regs : ℕ → ℕ) → regs l < 2 ^ 32 → regs r < 2 ^ 32 → registers_after (operator_code l r operator w) regs l ≡ operated operator w (regs l) (regs r)
-  operator_made operator w h n regs left right = operator_composed operator w h n regs ∙ operator_computes operator w (regs l) (regs r) h left right
+  pub operator_plain : (operator : BinaryOperator) (w : Width) → is_plain (row_of operator).step ≡ true → only_computes (either_of l r) (operator_code l r operator w) ≡ true
+  operator_plain operator w h = finish_plain (row_of operator).finish w (step_code l r (row_of operator).step) (step_plain (row_of operator).step h)
+
+  -- an instruction that gives l this value of l and r
+  abbrev Gives : Instr → (ℕ → ℕ → ℕ) → Type 0
+  Gives i v = (written_register i ≡ l) × ((regs : ℕ → ℕ) → computed_value i regs ≡ v (regs l) (regs r))
+
+  step_gives : (step : Step) → is_plain step ≡ true → Gives (step_code l r step) (step_value step)
+  step_gives (between operation) h = (refl, λ regs. simp (l0, r0))
+  step_gives (turned operation) h = (refl, λ regs. simp (l0, r0))
+  step_gives product h = absurd (false≢true h)
+  step_gives (division operation) h = absurd (false≢true h)
+
+  finish_composed : (finish : Finish) (w : Width) (i : Instr) (v : ℕ → ℕ → ℕ) → written_register i ≡ l → ((regs : ℕ → ℕ) → computed_value i regs ≡ v (regs l) (regs r)) → (regs : ℕ → ℕ)
+      → registers_after (finish_code l r w finish i) regs l ≡ finished finish w v (regs l) (regs r)
+  finish_composed alone w i v is value regs = simp (is, value, ll, l0)
+  finish_composed gives_zero w i v is value regs = simp (is, value, ll, l0)
+  finish_composed gives_more w i v is value regs = simp (is, value, ll, l0)
+  finish_composed narrowed w i v is value regs = cut_composed w _ ∙ simp (is, value, ll, l0)
+  finish_composed of_truths w i v is value regs = simp (is, value, ll, rr, lr, rl, l0, r0)
+
+  pub operator_made : (operator : BinaryOperator) (w : Width) → divides operator ≡ false → is_plain (row_of operator).step ≡ true → (regs : ℕ → ℕ) → regs l < 2 ^ 32 → regs r < 2 ^ 32
+      → registers_after (operator_code l r operator w) regs l ≡ operated operator w (regs l) (regs r)
+  operator_made operator w h plain regs left right =
+      let row = row_of operator in
+      let gives = step_gives row.step plain in
+      finish_composed row.finish w (step_code l r row.step) (step_value row.step) gives.0 gives.1 regs ∙ operator_computes operator w (regs l) (regs r) h left right
 
   -- a product of 32 bits that is cut
   pub product_made : (w : Width) (regs : ℕ → ℕ) (a b : ℕ) → a < 2 ^ 32 → b < 2 ^ 32 → regs l ≡ multiply_value Mul a b → registers_after (cut_code l w) regs l ≡ operated Multiply w a b

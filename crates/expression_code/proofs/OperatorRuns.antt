@@ -7,7 +7,7 @@ use Rattle.rv_code.specs.declared.operations.ImmediateOperation.TheVariants.{Add
 use Rattle.rv_code.specs.declared.operations.ShiftOperation.TheVariants.{Slli, Srli}
 use Rattle.rv_code.specs.declared.operations.RegisterOperation.TheVariants as register
 use Rattle.rv_code.specs.declared.operations.MultiplyOperation.TheVariants.{Mul}
-use Rattle.rv_code.specs.declared.operations.DivideOperation.TheVariants.{Divu, Remu}
+use Rattle.expression_code.specs.TermCode.{Step, between, turned, product, division, Finish, alone, gives_zero, gives_more, narrowed, of_truths, row_of}
 use Rattle.rv_machine.specs.Effects.{immediate_value, shift_value, register_value, multiply_value, divide_value, sign_extended}
 use Rattle.language.specs.declared.tree.BinaryOperator.{BinaryOperator}
 use Rattle.language.specs.declared.tree.BinaryOperator.TheVariants.{Either, Both, Equal, Unequal, Less, LessOrEqual, Greater, GreaterOrEqual, BitOr, BitXor, BitAnd, ShiftLeft, ShiftRight, Add, Subtract, Multiply, Divide, Remainder}
@@ -36,26 +36,22 @@ is_not_zero_value b = register_value register.Sltu 0 b
 abbrev pub negation_value : ℕ → ℕ
 negation_value b = register_value register.Sub 0 b
 
--- an operator's instructions, of the left operand and the value
+-- of an operator's row, of both operands
+abbrev pub step_value : Step → ℕ → ℕ → ℕ
+step_value (between operation) a b = register_value operation a b
+step_value (turned operation) a b = register_value operation b a
+step_value product a b = multiply_value Mul a b
+step_value (division operation) a b = divide_value operation a b
+
+abbrev pub finished : Finish → Width → (ℕ → ℕ → ℕ) → ℕ → ℕ → ℕ
+finished alone w v a b = v a b
+finished gives_zero w v a b = is_zero_value (v a b)
+finished gives_more w v a b = is_not_zero_value (v a b)
+finished narrowed w v a b = cut_value w (v a b)
+finished of_truths w v a b = v (is_not_zero_value a) (is_not_zero_value b)
+
 abbrev pub composed : BinaryOperator → Width → ℕ → ℕ → ℕ
-composed Either w a b = register_value register.Or (is_not_zero_value a) (is_not_zero_value b)
-composed Both w a b = register_value register.And (is_not_zero_value a) (is_not_zero_value b)
-composed Equal w a b = is_zero_value (register_value register.Sub a b)
-composed Unequal w a b = is_not_zero_value (register_value register.Sub a b)
-composed Less w a b = register_value register.Sltu a b
-composed LessOrEqual w a b = is_zero_value (register_value register.Sltu b a)
-composed Greater w a b = register_value register.Sltu b a
-composed GreaterOrEqual w a b = is_zero_value (register_value register.Sltu a b)
-composed BitOr w a b = register_value register.Or a b
-composed BitXor w a b = register_value register.Xor a b
-composed BitAnd w a b = register_value register.And a b
-composed ShiftLeft w a b = cut_value w (register_value register.Sll a b)
-composed ShiftRight w a b = cut_value w (register_value register.Srl a b)
-composed Add w a b = cut_value w (register_value register.Add a b)
-composed Subtract w a b = cut_value w (register_value register.Sub a b)
-composed Multiply w a b = cut_value w (multiply_value Mul a b)
-composed Divide w a b = divide_value Divu a b
-composed Remainder w a b = divide_value Remu a b
+composed operator w a b = finished (row_of operator).finish w (step_value (row_of operator).step) a b
 
 abbrev pub composed_prefix : PrefixOperator → Width → ℕ → ℕ
 composed_prefix Not w b = is_zero_value b
@@ -106,9 +102,9 @@ both_truth true false = refl
 both_truth false true = refl
 both_truth false false = refl
 
-turned : (x : Bool) → is_zero_value (word_of x) ≡ word_of (not x)
-turned true = refl
-turned false = refl
+other_way : (x : Bool) → is_zero_value (word_of x) ≡ word_of (not x)
+other_way true = refl
+other_way false = refl
 
 not_zero : (n : ℕ) → nat_lt 0 n ≡ truth_of n
 not_zero n = grind (arith, nat_tests)
@@ -130,9 +126,9 @@ operator_computes Both w a b d p q = both_truth (nat_lt 0 a) (nat_lt 0 b) ∙ ap
 operator_computes Equal w a b d p q = ap word_of (is_zero (register_value register.Sub a b) ∙ no_difference a b p q)
 operator_computes Unequal w a b d p q = ap word_of (not_zero (register_value register.Sub a b) ∙ ap not (no_difference a b p q))
 operator_computes Less w a b d p q = refl
-operator_computes LessOrEqual w a b d p q = turned (nat_lt b a) ∙ ap word_of (not_less a b)
+operator_computes LessOrEqual w a b d p q = other_way (nat_lt b a) ∙ ap word_of (not_less a b)
 operator_computes Greater w a b d p q = refl
-operator_computes GreaterOrEqual w a b d p q = turned (nat_lt a b) ∙ ap word_of (not_less b a)
+operator_computes GreaterOrEqual w a b d p q = other_way (nat_lt a b) ∙ ap word_of (not_less b a)
 operator_computes BitOr w a b d p q = refl
 operator_computes BitXor w a b d p q = refl
 operator_computes BitAnd w a b d p q = refl

@@ -3,7 +3,7 @@ use Rattle.std.proofs.Common.{ℕ, ◌+◌, ◌*◌, ◌%◌, ◌≤◌, ◌==�
 use Rattle.std.proofs.Math.Nat.{max-le}
 use Rattle.expression_code.specs.Layout.{variable_offset}
 use Rattle.expression_code.specs.Registers.{register_count, home, slot_of}
-use Rattle.expression_code.specs.TermCode.{load_code, store_code, constant_code, fetch_code, keep_code, expr_code, height_of, cut_code, operator_code, prefix_code, around_code, rotate_code, scale_code, raise_code, address_code, element_code, kind_at}
+use Rattle.expression_code.specs.TermCode.{load_code, store_code, constant_code, fetch_code, keep_code, expr_code, height_of, cut_code, Finish, alone, gives_zero, gives_more, narrowed, of_truths, finish_code, step_code, row_of, operator_code, prefix_code, around_code, rotate_code, scale_code, raise_code, address_code, element_code, kind_at}
 use Rattle.inline.specs.declared.flat.FlatVariable.{FlatVariable}
 use Rattle.inline.specs.Flat.{TermTree, number, truth, variable, prefix, binary, rotate, convert, select, element}
 use Rattle.inline.specs.FlatSize.{term_nodes}
@@ -11,7 +11,6 @@ use Rattle.rv_code.specs.declared.instructions.Instr.{Instr}
 use Rattle.language.specs.declared.signature.Kind.{Kind}
 use Rattle.language.specs.declared.signature.Kind.TheVariants.{Boolean, Uint8, Uint16, Uint32}
 use Rattle.language.specs.declared.tree.BinaryOperator.{BinaryOperator}
-use Rattle.language.specs.declared.tree.BinaryOperator.TheVariants as operators
 use Rattle.language.specs.declared.tree.PrefixOperator.{PrefixOperator}
 use Rattle.language.specs.declared.tree.PrefixOperator.TheVariants as prefixes
 use Rattle.language.specs.Operators.{width_of}
@@ -69,25 +68,15 @@ cut_length r W8 = omega arith
 cut_length r W16 = omega arith
 cut_length r W32 = omega arith
 
-pub operator_length : (l r : ℕ) (o : BinaryOperator) (w : Width) → length (operator_code l r o w) ≤ 3
-operator_length l r operators.Either w = omega arith
-operator_length l r operators.Both w = omega arith
-operator_length l r operators.Equal w = omega arith
-operator_length l r operators.Unequal w = omega arith
-operator_length l r operators.Less w = omega arith
-operator_length l r operators.LessOrEqual w = omega arith
-operator_length l r operators.Greater w = omega arith
-operator_length l r operators.GreaterOrEqual w = omega arith
-operator_length l r operators.BitOr w = omega arith
-operator_length l r operators.BitXor w = omega arith
-operator_length l r operators.BitAnd w = omega arith
-operator_length l r operators.ShiftLeft w = omega (arith, cut_length l w)
-operator_length l r operators.ShiftRight w = omega (arith, cut_length l w)
-operator_length l r operators.Add w = omega (arith, cut_length l w)
-operator_length l r operators.Subtract w = omega (arith, cut_length l w)
-operator_length l r operators.Multiply w = omega (arith, cut_length l w)
-operator_length l r operators.Divide w = omega arith
-operator_length l r operators.Remainder w = omega arith
+finish_length : (l r : ℕ) (w : Width) (f : Finish) (i : Instr) → length (finish_code l r w f i) ≤ 4
+finish_length l r w alone i = omega arith
+finish_length l r w gives_zero i = omega arith
+finish_length l r w gives_more i = omega arith
+finish_length l r w narrowed i = omega (arith, cut_length l w)
+finish_length l r w of_truths i = omega arith
+
+pub operator_length : (l r : ℕ) (o : BinaryOperator) (w : Width) → length (operator_code l r o w) ≤ 4
+operator_length l r o w = finish_length l r w (row_of o).finish (step_code l r (row_of o).step)
 
 pub prefix_length : (r : ℕ) (o : PrefixOperator) (w : Width) → length (prefix_code r o w) ≤ 4
 prefix_length r prefixes.Not w = omega arith

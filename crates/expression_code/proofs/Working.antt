@@ -2,7 +2,7 @@
 use Rattle.std.proofs.Common.{◌≡◌, ◌≢◌, ℕ, ◌+◌, ◌-◌, ◌/◌, ◌%◌, ◌^◌, ◌<◌, ◌==◌, true, false, cond, List, [], ◌∷◌, length, refl, sym, ap, ap₂, ◌∙◌, subst, arith, ne_eqb}
 use Rattle.branch_removal.specs.StraightMeaning.{StraightState}
 use Rattle.expression_code.specs.Registers.{register_count, home}
-use Rattle.expression_code.specs.TermCode.{cut_code, operator_code}
+use Rattle.expression_code.specs.TermCode.{cut_code, row_of, operator_code}
 use Rattle.inline.specs.FlatMeaning.{marks_of}
 use Rattle.inline.specs.Path.{divided, multiplied}
 use Rattle.rv_code.specs.declared.instructions.Instr.{Instr}
@@ -14,13 +14,13 @@ use Rattle.rv_machine.specs.Effects.{multiply_value, divide_value}
 use Rattle.rv_machine.specs.Machine as machine
 use Rattle.language.specs.declared.tree.BinaryOperator.{BinaryOperator}
 use Rattle.language.specs.declared.tree.BinaryOperator.TheVariants.{Either, Both, Equal, Unequal, Less, LessOrEqual, Greater, GreaterOrEqual, BitOr, BitXor, BitAnd, ShiftLeft, ShiftRight, Add, Subtract, Multiply, Divide, Remainder}
-use Rattle.language.specs.Operators.{divides, multiplies, operated}
+use Rattle.language.specs.Operators.{divides, operated}
 use Rattle.word.specs.declared.place.Place.{Place}
 use Rattle.word.specs.declared.width.Width.{Width}
 use Rattle.expression_code.proofs.Computing.{registers_after, only_computes, computing_within}
 use Rattle.expression_code.proofs.Held.{HeldAt, Held, held_regs}
 use Rattle.expression_code.proofs.Homes.{IsFree, free_from, home_free, home_apart, lower_apart}
-use Rattle.expression_code.proofs.Operations.{either_of, allowed, kept_beside, cut_plain, operator_plain, operator_made, product_made}
+use Rattle.expression_code.proofs.Operations.{either_of, is_plain, allowed, kept_beside, cut_plain, operator_plain, operator_made, product_made}
 use Rattle.expression_code.proofs.Pieces.{register-at}
 use Rattle.expression_code.proofs.Steps.{Moves, multiplying, dividing}
 use Rattle.expression_code.proofs.Straight.{Setting, none, Runs, quiet, weaken, gives, cheaper}
@@ -89,9 +89,9 @@ module _ (z : Setting) where
     pub same : t.bytes ≡ s.bytes
 
   module _ (source : Place) (width : Width) (a b : StraightState → ℕ) (l r : ℕ) (one : IsFree l) (other : IsFree r) (apart : l ≢ r) where
-    plainly : (operator : BinaryOperator) → divides operator ≡ false → multiplies operator ≡ false → Runs z 3 none (operator_code l r operator width) (Operands l r a b) (Operated l r operator width a b)
+    plainly : (operator : BinaryOperator) → divides operator ≡ false → is_plain (row_of operator).step ≡ true → Runs z 4 none (operator_code l r operator width) (Operands l r a b) (Operated l r operator width a b)
     plainly operator whole alone =
-        let plain = operator_plain l r one other apart operator width whole alone in
+        let plain = operator_plain l r one other apart operator width alone in
         cheaper z (operator_length l r operator width)
         (weaken z
         (λ env s fine given. given.held)
@@ -124,7 +124,7 @@ module _ (z : Setting) where
         (multiplying z a b Mul l l r (one.small, one.small, other.small) one.nonzero)
 
     -- the product, and what is cut of it
-    product_runs : Runs z 3 (λ env. multiplied (a env) (b env) ∷ []) (operator_code l r Multiply width) (Operands l r a b) (Operated l r Multiply width a b)
+    product_runs : Runs z 4 (λ env. multiplied (a env) (b env) ∷ []) (operator_code l r Multiply width) (Operands l r a b) (Operated l r Multiply width a b)
     product_runs =
         let plain = cut_plain l r one other apart width in
         let short = cut_length l width in
@@ -144,7 +144,7 @@ module _ (z : Setting) where
         (computing_within z (either_of l r) (allowed l r one other apart) (cut_code l width) plain)
         (λ env s t given moves. held_regs z s t (moves.others 2 (λ e. one.not_base (sym e))) moves.same given.held)))
 
-    pub operator_runs : (operator : BinaryOperator) → Runs z 3 (λ env. marks_of source operator (a env) (b env)) (operator_code l r operator width) (Operands l r a b) (Operated l r operator width a b)
+    pub operator_runs : (operator : BinaryOperator) → Runs z 4 (λ env. marks_of source operator (a env) (b env)) (operator_code l r operator width) (Operands l r a b) (Operated l r operator width a b)
     operator_runs Divide =
         cheaper z (omega arith)
         (gives z

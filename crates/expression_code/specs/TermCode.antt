@@ -9,8 +9,10 @@ use Rattle.rv_code.specs.declared.instructions.Instr.TheVariants.{Upper, Immedia
 use Rattle.rv_code.specs.declared.operations.UpperOperation.TheVariants.{Lui}
 use Rattle.rv_code.specs.declared.operations.ImmediateOperation.TheVariants.{Addi, Sltiu, Andi}
 use Rattle.rv_code.specs.declared.operations.ShiftOperation.TheVariants.{Slli, Srli}
+use Rattle.rv_code.specs.declared.operations.RegisterOperation.{RegisterOperation}
 use Rattle.rv_code.specs.declared.operations.RegisterOperation.TheVariants.{Add, Sub, Sll, Sltu, Xor, Srl, Or, And}
 use Rattle.rv_code.specs.declared.operations.MultiplyOperation.TheVariants.{Mul}
+use Rattle.rv_code.specs.declared.operations.DivideOperation.{DivideOperation}
 use Rattle.rv_code.specs.declared.operations.DivideOperation.TheVariants.{Divu, Remu}
 use Rattle.rv_code.specs.declared.operations.LoadOperation.{LoadOperation}
 use Rattle.rv_code.specs.declared.operations.LoadOperation.TheVariants.{Lw, Lbu, Lhu}
@@ -97,27 +99,64 @@ both_truths_code l r = Register Sltu r zero_register r ∷ is_not_zero_code l
 abbrev pub negation_code : ℕ → List Instr
 negation_code r = Register Sub r zero_register r ∷ []
 
+-- Each operator between two operands is a row: an instruction between them, and what is made of its outcome.
+
+-- into the first: of both, of both turned round, the lower half of their product, or their quotient or remainder
+pub data Step : Type 0 where
+  between : (operation : RegisterOperation) → Step
+  turned : (operation : RegisterOperation) → Step
+  product : Step
+  division : (operation : DivideOperation) → Step
+
+abbrev pub step_code : ℕ → ℕ → Step → Instr
+step_code l r (between operation) = Register operation l l r
+step_code l r (turned operation) = Register operation l r l
+step_code l r product = Multiply Mul l l r
+step_code l r (division operation) = Divide operation l l r
+
+-- nothing, whether it is 0, whether it is not, its cut, or nothing where the operands were made truths before
+pub data Finish : Type 0 where
+  alone : Finish
+  gives_zero : Finish
+  gives_more : Finish
+  narrowed : Finish
+  of_truths : Finish
+
+abbrev pub finish_code : ℕ → ℕ → Width → Finish → Instr → List Instr
+finish_code l r w alone i = i ∷ []
+finish_code l r w gives_zero i = i ∷ is_zero_code l
+finish_code l r w gives_more i = i ∷ is_not_zero_code l
+finish_code l r w narrowed i = i ∷ cut_code l w
+finish_code l r w of_truths i = both_truths_code l r ++ i ∷ []
+
+pub record Row : Type 0 where
+  pub finish : Finish
+  pub step : Step
+
 -- Whether numbers are equal is read off their difference, and an order that takes equal numbers too is the other order,
 -- turned round.
+abbrev pub row_of : BinaryOperator → Row
+row_of operators.Either = record { finish = of_truths; step = between Or }
+row_of operators.Both = record { finish = of_truths; step = between And }
+row_of operators.Equal = record { finish = gives_zero; step = between Sub }
+row_of operators.Unequal = record { finish = gives_more; step = between Sub }
+row_of operators.Less = record { finish = alone; step = between Sltu }
+row_of operators.LessOrEqual = record { finish = gives_zero; step = turned Sltu }
+row_of operators.Greater = record { finish = alone; step = turned Sltu }
+row_of operators.GreaterOrEqual = record { finish = gives_zero; step = between Sltu }
+row_of operators.BitOr = record { finish = alone; step = between Or }
+row_of operators.BitXor = record { finish = alone; step = between Xor }
+row_of operators.BitAnd = record { finish = alone; step = between And }
+row_of operators.ShiftLeft = record { finish = narrowed; step = between Sll }
+row_of operators.ShiftRight = record { finish = narrowed; step = between Srl }
+row_of operators.Add = record { finish = narrowed; step = between Add }
+row_of operators.Subtract = record { finish = narrowed; step = between Sub }
+row_of operators.Multiply = record { finish = narrowed; step = product }
+row_of operators.Divide = record { finish = alone; step = division Divu }
+row_of operators.Remainder = record { finish = alone; step = division Remu }
+
 abbrev pub operator_code : ℕ → ℕ → BinaryOperator → Width → List Instr
-operator_code l r operators.Either w = both_truths_code l r ++ Register Or l l r ∷ []
-operator_code l r operators.Both w = both_truths_code l r ++ Register And l l r ∷ []
-operator_code l r operators.Equal w = Register Sub l l r ∷ is_zero_code l
-operator_code l r operators.Unequal w = Register Sub l l r ∷ is_not_zero_code l
-operator_code l r operators.Less w = Register Sltu l l r ∷ []
-operator_code l r operators.LessOrEqual w = Register Sltu l r l ∷ is_zero_code l
-operator_code l r operators.Greater w = Register Sltu l r l ∷ []
-operator_code l r operators.GreaterOrEqual w = Register Sltu l l r ∷ is_zero_code l
-operator_code l r operators.BitOr w = Register Or l l r ∷ []
-operator_code l r operators.BitXor w = Register Xor l l r ∷ []
-operator_code l r operators.BitAnd w = Register And l l r ∷ []
-operator_code l r operators.ShiftLeft w = Register Sll l l r ∷ cut_code l w
-operator_code l r operators.ShiftRight w = Register Srl l l r ∷ cut_code l w
-operator_code l r operators.Add w = Register Add l l r ∷ cut_code l w
-operator_code l r operators.Subtract w = Register Sub l l r ∷ cut_code l w
-operator_code l r operators.Multiply w = Multiply Mul l l r ∷ cut_code l w
-operator_code l r operators.Divide w = Divide Divu l l r ∷ []
-operator_code l r operators.Remainder w = Divide Remu l l r ∷ []
+operator_code l r operator w = finish_code l r w (row_of operator).finish (step_code l r (row_of operator).step)
 
 -- The complement is one less than the number's negative.
 abbrev pub prefix_code : ℕ → PrefixOperator → Width → List Instr
