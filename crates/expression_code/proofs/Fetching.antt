@@ -28,13 +28,6 @@ pub record Made (z : Setting) (e : TermTree) (free place : ℕ) (env : StraightS
   pub kept : Kept z (slot_of free place) s t
   pub lower : Lower place s t
 
--- a place has a value, and only the register of addresses has changed
-pub record Stayed (z : Setting) (free place v : ℕ) (s t : machine.State) : Type 0 where
-  pub held : HeldAt z t
-  pub there : Holds z free place t v
-  pub kept : Kept z (slot_of free place) s t
-  pub others : (q : ℕ) → q ≢ 28 → t.regs q ≡ s.regs q
-
 -- a spare register is that of no lower place
 pub lower_spare : (place spare : ℕ) (s t : machine.State) → 28 < spare → ((q : ℕ) → q ≢ spare → t.regs q ≡ s.regs q) → Lower place s t
 lower_spare place spare s t low others q less small = others (5 + q) (λ e. omega (arith, small, low, e))
@@ -74,12 +67,6 @@ module _ (z : Setting) (free : ℕ) (aligned : free % 4 ≡ 0) (place : ℕ) (ro
         (λ env s t fine given put. (put.held, put_there z 29 (slot_of free place) (v env) env s t put given.1 given.2, put_kept z 4 29 (slot_of free place) env s t put, put.others))
         (store_runs z 29 (omega arith) (λ e. omega arith) (λ e. omega arith) (slot_of free place) (omega (arith, aligned)) (omega (arith, room, large)))
 
-    keep_runs : Runs z 3 none (keep_code free place) (λ env s. HeldAt z s × (s.regs (home place 29) ≡ v env) × (v env < 2 ^ 32)) (λ env s t. Stayed z free place (v env) s t)
-    keep_runs =
-        gives z
-        (λ env s t fine given done. record { held = done.0; there = done.1; kept = done.2; others = done.3 })
-        (keep_by (nat_lt place register_count) refl)
-
   -- what code makes in the home of a place is kept there
   pub keeps : (e : TermTree) {n : ℕ} {steps : Steps} {is : List Instr} {P : Before} → ((env : StraightState) (s : machine.State) → P env s → value_in env.variables e < 2 ^ 32)
       → Runs z n steps is P (Made z e free place) → Runs z (n + 3) steps (is ++ keep_code free place) P (Valued z e free place)
@@ -90,10 +77,10 @@ module _ (z : Setting) (free : ℕ) (aligned : free % 4 ≡ 0) (place : ℕ) (ro
       let one = done.first in
       let two = done.second in
       record {
-        held = two.held;
-        there = two.there;
-        kept = kept_then z (slot_of free place) s m t one.kept two.kept;
-        lower = λ q less small. two.others (5 + q) (λ e. omega (arith, small, e)) ∙ one.lower q less small;
+        held = two.0;
+        there = two.1;
+        kept = kept_then z (slot_of free place) s m t one.kept two.2;
+        lower = λ q less small. two.3 (5 + q) (λ e. omega (arith, small, e)) ∙ one.lower q less small;
       })
-      (quiet z runs (keep_runs (λ env. value_in env.variables e))
+      (quiet z runs (keep_by (λ env. value_in env.variables e) (nat_lt place register_count) refl)
       (λ env s t fit made. (made.held, made.there, fits env s fit)))

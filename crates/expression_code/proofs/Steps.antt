@@ -98,53 +98,53 @@ module _ (z : Setting) where
         turn_ends z None None (with_value s rd v) at (turns turn stays) refl tt refl (next_pc s.pc p _ at placed.1 (with_value-pc s rd v)) (moved s rd v nonzero);
   }
 
-  -- One access, at an address that is read off the path or known beforehand.
-
-  load_ends : (operation : LoadOperation) (rd rs offset a p : ℕ) (leak : Leak) (path rest : Path) → IsInstr (instr.Load operation rd rs offset) → rd ≢ 0
-      → Placed z.code p (instr.Load operation rd rs offset ∷ [])
-      → a % byte_count (load_size operation) ≡ 0 → z.frame ≤ a → a + byte_count (load_size operation) ≤ z.frame + z.size
-      → leak path ≡ (record { pc = p; event = Some (event.Load a (load_size operation)) } ∷ [], rest)
-      → (s : State) → s.pc ≡ p → Fit (byte_count (load_size operation)) rs offset a s
-      → Ends z 1 (p + 4) leak path rest (Reads operation rd a s) s
-  load_ends operation rd rs offset a p leak path rest ok nonzero placed even low high shown s at fit =
-      let n = byte_count (load_size operation) in
-      let found = some_of (number_at s.bytes n a) fit.data_there in
-      let v = found.0 in
-      let is = fit.address in
-      let leads = load_leads z.code s operation rd rs offset v (stands z.code p _ [] placed ok s at) (ap (λ x. x % n) is ∙ even) (ap (λ x. number_at s.bytes n x) is ∙ found.1) in
-      let moves = moved s rd (loaded_value operation v) nonzero in
-      turn_ends z _ (Some (event.Load a (load_size operation))) (with_value s rd (loaded_value operation v)) at leads (ap (λ x. Some (event.Load x (load_size operation))) is) (low, high)
-      shown (next_pc s.pc p _ at placed.1 (with_value-pc s rd (loaded_value operation v)))
-      (record { value = v; found = found.1; there = moves.there; others = moves.others; same = moves.same })
-
-  store_ends : (operation : StoreOperation) (rs2 rs offset a p : ℕ) (leak : Leak) (path rest : Path) → IsInstr (instr.Store operation rs2 rs offset)
-      → Placed z.code p (instr.Store operation rs2 rs offset ∷ [])
-      → a % byte_count (store_size operation) ≡ 0 → z.frame ≤ a → a + byte_count (store_size operation) ≤ z.frame + z.size
-      → leak path ≡ (record { pc = p; event = Some (event.Store a (store_size operation)) } ∷ [], rest)
-      → (s : State) → s.pc ≡ p → Fit (byte_count (store_size operation)) rs offset a s
-      → Ends z 1 (p + 4) leak path rest (Writes (byte_count (store_size operation)) rs2 a s) s
-  store_ends operation rs2 rs offset a p leak path rest ok placed even low high shown s at fit =
-      let n = byte_count (store_size operation) in
-      let is = fit.address in
-      let b = address_of s.regs rs offset in
-      let v = register s.regs rs2 in
-      let leads = store_leads z.code s operation rs2 rs offset (stands z.code p _ [] placed ok s at) (ap (λ x. x % n) is ∙ even) (ap (λ x. is_some (number_at s.bytes n x)) is ∙ fit.data_there) in
-      turn_ends z _ (Some (event.Store a (store_size operation))) (with_stored s (store_size operation) b v) at leads (ap (λ x. Some (event.Store x (store_size operation))) is) (low, high)
-      shown (next_pc s.pc p _ at placed.1 (with_stored-pc s operation b v))
-      (record { written = with_stored-bytes s operation b v ∙ ap (λ x. with_number s.bytes n x v) is; same = with_stored-regs s operation b v })
-
   -- an access that keeps inside the frame
   pub record Inside (n a : ℕ) : Type 0 where
     pub even : a % n ≡ 0
     pub low : z.frame ≤ a
     pub high : a + n ≤ z.frame + z.size
 
+  -- One access, at an address that is read off the path or known beforehand.
+
+  load_ends : (operation : LoadOperation) (rd rs offset a p : ℕ) (leak : Leak) (path rest : Path) → IsInstr (instr.Load operation rd rs offset) → rd ≢ 0
+      → Placed z.code p (instr.Load operation rd rs offset ∷ [])
+      → Inside (byte_count (load_size operation)) a
+      → leak path ≡ (record { pc = p; event = Some (event.Load a (load_size operation)) } ∷ [], rest)
+      → (s : State) → s.pc ≡ p → Fit (byte_count (load_size operation)) rs offset a s
+      → Ends z 1 (p + 4) leak path rest (Reads operation rd a s) s
+  load_ends operation rd rs offset a p leak path rest ok nonzero placed inside shown s at fit =
+      let n = byte_count (load_size operation) in
+      let found = some_of (number_at s.bytes n a) fit.data_there in
+      let v = found.0 in
+      let is = fit.address in
+      let leads = load_leads z.code s operation rd rs offset v (stands z.code p _ [] placed ok s at) (ap (λ x. x % n) is ∙ inside.even) (ap (λ x. number_at s.bytes n x) is ∙ found.1) in
+      let moves = moved s rd (loaded_value operation v) nonzero in
+      turn_ends z _ (Some (event.Load a (load_size operation))) (with_value s rd (loaded_value operation v)) at leads (ap (λ x. Some (event.Load x (load_size operation))) is) (inside.low, inside.high)
+      shown (next_pc s.pc p _ at placed.1 (with_value-pc s rd (loaded_value operation v)))
+      (record { value = v; found = found.1; there = moves.there; others = moves.others; same = moves.same })
+
+  store_ends : (operation : StoreOperation) (rs2 rs offset a p : ℕ) (leak : Leak) (path rest : Path) → IsInstr (instr.Store operation rs2 rs offset)
+      → Placed z.code p (instr.Store operation rs2 rs offset ∷ [])
+      → Inside (byte_count (store_size operation)) a
+      → leak path ≡ (record { pc = p; event = Some (event.Store a (store_size operation)) } ∷ [], rest)
+      → (s : State) → s.pc ≡ p → Fit (byte_count (store_size operation)) rs offset a s
+      → Ends z 1 (p + 4) leak path rest (Writes (byte_count (store_size operation)) rs2 a s) s
+  store_ends operation rs2 rs offset a p leak path rest ok placed inside shown s at fit =
+      let n = byte_count (store_size operation) in
+      let is = fit.address in
+      let b = address_of s.regs rs offset in
+      let v = register s.regs rs2 in
+      let leads = store_leads z.code s operation rs2 rs offset (stands z.code p _ [] placed ok s at) (ap (λ x. x % n) is ∙ inside.even) (ap (λ x. is_some (number_at s.bytes n x)) is ∙ fit.data_there) in
+      turn_ends z _ (Some (event.Store a (store_size operation))) (with_stored s (store_size operation) b v) at leads (ap (λ x. Some (event.Store x (store_size operation))) is) (inside.low, inside.high)
+      shown (next_pc s.pc p _ at placed.1 (with_stored-pc s operation b v))
+      (record { written = with_stored-bytes s operation b v ∙ ap (λ x. with_number s.bytes n x v) is; same = with_stored-regs s operation b v })
+
   -- a load at an address that is known beforehand
   pub loading : (operation : LoadOperation) (rd rs offset a : ℕ) → IsInstr (instr.Load operation rd rs offset) → rd ≢ 0 → Inside (byte_count (load_size operation)) a
       → Runs z 1 none (instr.Load operation rd rs offset ∷ []) (λ env s. Fit (byte_count (load_size operation)) rs offset a s) (λ env s t. Reads operation rd a s t)
   loading operation rd rs offset a ok nonzero inside p placed = record {
     leak = always (record { pc = p; event = Some (event.Load a (load_size operation)) } ∷ []);
-    runs = λ env s rest at fine fit. load_ends operation rd rs offset a p _ rest rest ok nonzero placed inside.even inside.low inside.high refl s at fit;
+    runs = λ env s rest at fine fit. load_ends operation rd rs offset a p _ rest rest ok nonzero placed inside refl s at fit;
   }
 
   -- a store at such an address
@@ -152,7 +152,7 @@ module _ (z : Setting) where
       → Runs z 1 none (instr.Store operation rs2 rs offset ∷ []) (λ env s. Fit (byte_count (store_size operation)) rs offset a s) (λ env s t. Writes (byte_count (store_size operation)) rs2 a s t)
   storing operation rs2 rs offset a ok inside p placed = record {
     leak = always (record { pc = p; event = Some (event.Store a (store_size operation)) } ∷ []);
-    runs = λ env s rest at fine fit. store_ends operation rs2 rs offset a p _ rest rest ok placed inside.even inside.low inside.high refl s at fit;
+    runs = λ env s rest at fine fit. store_ends operation rs2 rs offset a p _ rest rest ok placed inside refl s at fit;
   }
 
   -- what is shown at the next mark's index, by address
@@ -169,8 +169,7 @@ module _ (z : Setting) where
   loading_at where' count index place operation rd rs offset ok nonzero inside p placed = record {
     leak = at_index (λ a. Some (event.Load a (load_size operation))) place p;
     runs = λ env s rest at fine fit.
-        let i = inside (index env) fine.0 in
-        load_ends operation rd rs offset (place (index env)) p _ _ rest ok nonzero placed i.even i.low i.high refl s at fit;
+        load_ends operation rd rs offset (place (index env)) p _ _ rest ok nonzero placed (inside (index env) fine.0) refl s at fit;
   }
 
   -- what is shown of the next mark's operands

@@ -1,9 +1,9 @@
 -- How many temporaries an expression has at once, and how many instructions it is.
-use Rattle.std.proofs.Common.{ℕ, ◌+◌, ◌*◌, ◌%◌, ◌≤◌, ◌==◌, Bool, true, false, cond, nat_lt, List, ◌++◌, length, max, arith, length-append}
+use Rattle.std.proofs.Common.{ℕ, ◌+◌, ◌*◌, ◌%◌, ◌≤◌, ◌==◌, Bool, true, false, cond, nat_lt, List, length, max, arith, length-append}
 use Rattle.std.proofs.Math.Nat.{max-le}
 use Rattle.expression_code.specs.Layout.{variable_offset}
 use Rattle.expression_code.specs.Registers.{register_count, home, slot_of}
-use Rattle.expression_code.specs.TermCode.{load_code, store_code, constant_code, fetch_code, keep_code, expr_code, height_of, cut_code, Finish, alone, gives_zero, gives_more, narrowed, of_truths, finish_code, step_code, row_of, operator_code, prefix_code, around_code, rotate_code, scale_code, raise_code, address_code, element_code, kind_at}
+use Rattle.expression_code.specs.TermCode.{load_code, store_code, constant_code, fetch_code, keep_code, expr_code, height_of, cut_code, Finish, alone, gives_zero, gives_more, narrowed, of_truths, finish_code, step_code, row_of, operator_code, prefix_code, around_code, rotate_code, scale_code, raise_code, address_code, kind_at}
 use Rattle.inline.specs.declared.flat.FlatVariable.{FlatVariable}
 use Rattle.inline.specs.Flat.{TermTree, number, truth, variable, prefix, binary, rotate, convert, select, element}
 use Rattle.inline.specs.FlatSize.{term_nodes}
@@ -101,17 +101,6 @@ raise_length r o = one_of (nat_lt o 2048) _ _ 2 (omega arith) (omega arith)
 pub address_length : (r : ℕ) (kind : Kind) (o : ℕ) → length (address_code r kind o) ≤ 4
 address_length r kind o = simp length-append (omega (arith, scale_length r kind, raise_length r o))
 
-pub element_length : (r : ℕ) (kind : Kind) (o : ℕ) → length (element_code r kind o) ≤ 5
-element_length r kind o = simp length-append (omega (arith, scale_length r kind, raise_length r o))
-
--- an operand, what is made of it, and that it is kept
-made_length : (es fs is ks : List Instr) (n : ℕ) → length es ≤ n → length fs ≤ 3 → length is ≤ 10 → length ks ≤ 3 → length (es ++ fs ++ is ++ ks) ≤ n + 16
-made_length es fs is ks n a b c d =
-    let x = length-append es fs in
-    let y = length-append (es ++ fs) is in
-    let z = length-append (es ++ fs ++ is) ks in
-    omega (arith, x, y, z, a, b, c, d)
-
 -- at most 16 instructions a node
 pub expr_length : (declared : List FlatVariable) (free place : ℕ) (e : TermTree) → length (expr_code declared free place e) ≤ 16 * term_nodes e
 expr_length declared free place (number value kind) =
@@ -124,26 +113,25 @@ expr_length declared free place (variable x) =
     let h = length-append (load_code (home place 29) (variable_offset declared x)) (keep_code free place) in
     omega (arith, h, load_length (home place 29) (variable_offset declared x), keep_length free place)
 expr_length declared free place (prefix operator width operand) =
-    let h = prefix_length (home place 29) operator width in
-    let m = made_length (expr_code declared free place operand) (fetch_code free place 29) (prefix_code (home place 29) operator width) (keep_code free place) (16 * term_nodes operand) (expr_length declared free place operand) (fetch_length free place 29) (omega (arith, h)) (keep_length free place) in
-    omega (arith, m)
+    simp length-append
+    (omega (arith, expr_length declared free place operand, fetch_length free place 29, prefix_length (home place 29) operator width, keep_length free place))
 expr_length declared free place (binary source operator width one other) =
     let l = home place 29 in
     let r = home (place + 1) 30 in
     simp length-append
     (omega (arith, expr_length declared free place one, expr_length declared free (place + 1) other, fetch_length free place 29, fetch_length free (place + 1) 30, operator_length l r operator width, keep_length free place))
 expr_length declared free place (rotate width operand amount) =
-    let h = rotate_length (home place 29) width amount in
-    let m = made_length (expr_code declared free place operand) (fetch_code free place 29) (rotate_code (home place 29) width amount) (keep_code free place) (16 * term_nodes operand) (expr_length declared free place operand) (fetch_length free place 29) (omega (arith, h)) (keep_length free place) in
-    omega (arith, m)
+    let r = home place 29 in
+    simp length-append
+    (omega (arith, expr_length declared free place operand, fetch_length free place 29, cut_length r width, around_length r width (amount % bits width), keep_length free place))
 expr_length declared free place (convert kind operand) =
-    let h = cut_length (home place 29) (width_of kind) in
-    let m = made_length (expr_code declared free place operand) (fetch_code free place 29) (cut_code (home place 29) (width_of kind)) (keep_code free place) (16 * term_nodes operand) (expr_length declared free place operand) (fetch_length free place 29) (omega (arith, h)) (keep_length free place) in
-    omega (arith, m)
+    simp length-append
+    (omega (arith, expr_length declared free place operand, fetch_length free place 29, cut_length (home place 29) (width_of kind), keep_length free place))
 expr_length declared free place (select condition accepted otherwise) =
     simp length-append
     (omega (arith, expr_length declared free place condition, expr_length declared free (place + 1) accepted, expr_length declared free (place + 2) otherwise, fetch_length free place 29, fetch_length free (place + 1) 30, fetch_length free (place + 2) 31, keep_length free place))
 expr_length declared free place (element source x size index) =
-    let h = element_length (home place 29) (kind_at declared x) (variable_offset declared x) in
-    let m = made_length (expr_code declared free place index) (fetch_code free place 29) (element_code (home place 29) (kind_at declared x) (variable_offset declared x)) (keep_code free place) (16 * term_nodes index) (expr_length declared free place index) (fetch_length free place 29) (omega (arith, h)) (keep_length free place) in
-    omega (arith, m)
+    let r = home place 29 in
+    let o = variable_offset declared x in
+    simp length-append
+    (omega (arith, expr_length declared free place index, fetch_length free place 29, scale_length r (kind_at declared x), raise_length r o, keep_length free place))
