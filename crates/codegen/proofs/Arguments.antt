@@ -29,11 +29,8 @@ use Rattle.rv_machine.specs.Bytes.{ByteMap, number_at, with_number, zeros}
 use Rattle.rv_machine.proofs.ByteLaws.{number_at_same, with_number_below, is_some-with_number}
 use Rattle.rv_machine.specs.Machine.{State}
 use Rattle.branch_removal.specs.StraightMeaning.{StraightState}
-use Rattle.expression_code.proofs.Held.{number_there}
+use Rattle.expression_code.proofs.Logic.{number_there, bytes_by, bytes_of, place_of, place_within, ends_before_result, Setting, Ready}
 use Rattle.codegen.proofs.Numbers.{numbers_below, numbers_above, numbers_there, zero_byte, zero_number}
-use Rattle.expression_code.proofs.Places.{bytes_by, bytes_of, place_of, place_within, ends_before_result}
-use Rattle.expression_code.proofs.Straight.{Setting}
-use Rattle.expression_code.proofs.Values.{Ready}
 
 greatest : (kind : Kind) (v : ℕ) → v ≤ greatest_of kind → v < 2 ^ bits_of kind
 greatest Boolean v h = omega (arith, h)

@@ -15,8 +15,7 @@ use Rattle.rv_machine.specs.Machine as machine
 use Rattle.codegen.proofs.Jumps.{Still, branching}
 use Rattle.codegen.proofs.Showing.{Shown, first_runs, ready_valued, ready_still}
 use Rattle.codegen.proofs.Slots.{hidden_then, hidden_by, hidden_kept}
-use Rattle.expression_code.proofs.Straight.{Setting, base_of, Runs, seq, gives}
-use Rattle.expression_code.proofs.Values.{Ready}
+use Rattle.expression_code.proofs.Logic.{Setting, base_of, Runs, seq, gives, Ready}
 
 -- the condition is known
 record Tested (z : Setting) (condition : TermTree) (env : StraightState) (s : machine.State) : Type 0 where

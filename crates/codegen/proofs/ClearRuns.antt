@@ -27,19 +27,11 @@ use Rattle.rv_machine.specs.Machine as machine
 use Rattle.rv_machine.specs.Registers.{with_register}
 use Rattle.rv_machine.proofs.ByteLaws.{with_number-suc, with_byte_same, with_byte_other, with_number_below, with_number_above}
 use Rattle.codegen.proofs.Arguments.{zero_at, held_zeros}
-use Rattle.expression_code.proofs.Computing.{registers_after, only_computes, is_working, computing_runs}
-use Rattle.expression_code.proofs.Operations.{plain_append, after_append, constant_plain, constant_after}
-use Rattle.expression_code.proofs.TermLengths.{constant_length}
-use Rattle.expression_code.proofs.ExpressionRuns.{kind_known}
-use Rattle.expression_code.proofs.Held.{HeldAt, Held, held_regs, held_store, frame_there}
+use Rattle.expression_code.proofs.Logic.{registers_after, only_computes, is_working, computing_runs, plain_append, after_append, constant_plain, constant_after, constant_length, kind_known, HeldAt, Held, held_regs, held_store, frame_there, bytes_of, place_of, place_within, ends_before_result, computing, storing, Setting, none, Runs, seq, quiet, weaken, gives, cheaper, along, as_code, Ready, number_same}
 use Rattle.codegen.proofs.Jumps.{Still, looping_for}
 use Rattle.codegen.proofs.Marks.{never}
 use Rattle.codegen.proofs.Numbers.{zero_number}
-use Rattle.expression_code.proofs.Places.{bytes_of, place_of, place_within, ends_before_result}
 use Rattle.codegen.proofs.Showing.{Shown}
-use Rattle.expression_code.proofs.Steps.{computing, storing}
-use Rattle.expression_code.proofs.Straight.{Setting, none, Runs, seq, quiet, weaken, gives, cheaper, along, as_code}
-use Rattle.expression_code.proofs.Values.{Ready, number_same}
 use Rattle.codegen.proofs.Slots.{ready_changed}
 
 -- No turn changes the state of straight code, or puts anything on the path.

@@ -23,16 +23,10 @@ use Rattle.language.specs.declared.signature.Kind.{Kind}
 use Rattle.language.specs.declared.typing.WordType.{WordType}
 use Rattle.language.specs.Size.{element_bytes}
 use Rattle.word.specs.declared.profile.Profile.{Profile}
-use Rattle.expression_code.proofs.ExpressionRuns.{steps_of, kind_known}
-use Rattle.expression_code.proofs.Held.{Held}
-use Rattle.expression_code.proofs.Places.{place_of, place_aligned}
+use Rattle.expression_code.proofs.Logic.{steps_of, kind_known, Held, place_of, place_aligned, Put, put_by, Setting, base_of, none, Runs, seq, quiet, gives, cheaper, beside, along, as_code, idle, height, Ready}
 use Rattle.codegen.proofs.PutRuns.{store_bytes, element_before, element_inside}
 use Rattle.codegen.proofs.Showing.{Shown, suits_fits, value_runs, ready_valued, wrote_as}
-use Rattle.expression_code.proofs.Pieces.{Put, put_by}
 use Rattle.codegen.proofs.Slots.{Wrote, put_wrote, hidden_then, hidden_kept, hidden_wrote, cut_element, ready_same, ready_put}
-use Rattle.expression_code.proofs.Straight.{Setting, base_of, none, Runs, seq, quiet, gives, cheaper, beside, along, as_code, idle}
-use Rattle.expression_code.proofs.TermLengths.{height}
-use Rattle.expression_code.proofs.Values.{Ready}
 
 -- the value's register into an element of a fixed place
 element_runs : (z : Setting) (kind : Kind) (o : ℕ) → o + element_bytes kind ≤ z.size → (z.frame + o) % element_bytes kind ≡ 0

@@ -18,8 +18,7 @@ use Rattle.rv_machine.specs.Machine as machine
 use Rattle.rv_machine.specs.Machine.{with_link, moved_to, next}
 use Rattle.rv_machine.specs.Registers.{with_register}
 use Rattle.rv_machine.proofs.TurnLaws.{with_link-pc, with_link-regs, with_link-bytes, moved_to-pc, moved_to-regs, moved_to-bytes, jump_leads, branch_leads, branch_passes}
-use Rattle.expression_code.proofs.Steps.{stands}
-use Rattle.expression_code.proofs.Straight.{Setting, seen_by, seen_then, Placed, Placed-left, Placed-right, Before, After, Steps, none, Leak, always, both, fine_left, fine_right, Ends, Straight, Runs, turn_ends, then_ends, ends_as, ends_to, ends_by, ends_on, Placed-below}
+use Rattle.expression_code.proofs.Logic.{stands, Setting, seen_by, seen_then, Placed, Placed-left, Placed-right, Before, After, Steps, none, Leak, always, both, fine_left, fine_right, Ends, Straight, Runs, turn_ends, then_ends, ends_as, ends_to, ends_by, ends_on, Placed-below}
 
 -- only the program counter has changed
 pub record Still (s t : machine.State) : Type 0 where

@@ -22,15 +22,10 @@ use Rattle.rv_code.specs.declared.operations.RegisterOperation.TheVariants.{Sltu
 use Rattle.rv_machine.specs.Bytes.{ByteMap, number_at}
 use Rattle.rv_machine.specs.Effects.{sum_of}
 use Rattle.rv_machine.specs.Machine as machine
-use Rattle.expression_code.proofs.Computing.{computing_runs}
-use Rattle.expression_code.proofs.ExpressionRuns.{value_word}
-use Rattle.expression_code.proofs.Held.{HeldAt, held_regs}
+use Rattle.expression_code.proofs.Logic.{computing_runs, value_word, HeldAt, held_regs, load_runs, store_runs, Setting, base_of, none, Runs, seq, quiet, quietly, weaken, gives, as_code, beside, Kept, Ready, kept_number, kept_less, kept_then, put_kept, put_there, ready_below}
 use Rattle.codegen.proofs.Jumps.{Still, looping}
-use Rattle.expression_code.proofs.Pieces.{load_runs, store_runs}
 use Rattle.codegen.proofs.Showing.{Shown, first_runs, ready_with, ready_behind, word_before, wrote_as}
 use Rattle.codegen.proofs.Slots.{Hidden, hidden_then, hidden_less, hidden_by, hidden_wrote, hidden_beyond, hidden_number, put_wrote, other_number, ready_set}
-use Rattle.expression_code.proofs.Straight.{Setting, base_of, none, Runs, seq, quiet, quietly, weaken, gives, as_code, beside}
-use Rattle.expression_code.proofs.Values.{Kept, Ready, kept_number, kept_less, kept_then, put_kept, put_there, ready_below}
 
 -- So many turns are left, the next of them for this number: both of the loop's words tell it.
 pub record AtLoop (z : Setting) (next left i : ℕ) (env : StraightState) (s : machine.State) : Type 0 where

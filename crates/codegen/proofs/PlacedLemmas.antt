@@ -20,8 +20,7 @@ use Rattle.language.specs.declared.typing.WordType.{WordType}
 use Rattle.language.specs.Size.{array_words}
 use Rattle.word.specs.declared.profile.Profile.{Profile}
 use Rattle.codegen.proofs.CodeLengths.{block_length, test_length, count_length}
-use Rattle.expression_code.proofs.Places.{ends_before_result}
-use Rattle.expression_code.proofs.TermTypes.{typed_within, typed_among}
+use Rattle.expression_code.proofs.Logic.{ends_before_result, typed_within, typed_among}
 
 -- an array has no more elements than bytes
 elements_in_words : (kind : Kind) (size : ℕ) → size ≤ 4 * array_words kind size

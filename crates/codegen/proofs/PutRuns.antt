@@ -30,22 +30,11 @@ use Rattle.rv_machine.specs.Effects.{load_size, store_size, sum_of, address_of, 
 use Rattle.rv_machine.specs.Machine as machine
 use Rattle.rv_machine.specs.Registers.{register}
 use Rattle.rv_machine.specs.Sizes.{byte_count}
-use Rattle.expression_code.proofs.Arithmetic.{lower_fits}
-use Rattle.expression_code.proofs.Computing.{computing_runs}
-use Rattle.expression_code.proofs.Elements.{Addressed, address_runs}
-use Rattle.expression_code.proofs.ExpressionRuns.{steps_of, expr_runs, kind_known, load_bytes, load_plain}
-use Rattle.expression_code.proofs.Held.{HeldAt, held_regs, held_store, frame_there}
-use Rattle.expression_code.proofs.Homes.{free_from}
+use Rattle.expression_code.proofs.Logic.{lower_fits, computing_runs, Addressed, address_runs, steps_of, expr_runs, kind_known, load_bytes, load_plain, HeldAt, held_regs, held_store, frame_there, free_from, mask_of, merged, merge, load_runs, place_of, place_within, place_aligned, ends_before_result, Inside, loading, storing, Setting, base_of, none, Runs, seq, quiet, weaken, gives, cheaper, as_code, Ready, kept_less, ready_after}
 use Rattle.codegen.proofs.Marks.{Indexed, by_index}
-use Rattle.expression_code.proofs.Masks.{mask_of, merged, merge}
-use Rattle.expression_code.proofs.Pieces.{load_runs}
-use Rattle.expression_code.proofs.Places.{place_of, place_within, place_aligned, ends_before_result}
 use Rattle.codegen.proofs.Showing.{Shown, first_runs, ready_with}
 use Rattle.codegen.proofs.SetRuns.{chosen_fits}
 use Rattle.codegen.proofs.Slots.{Wrote, Hidden, hidden_then, hidden_by, hidden_kept, hidden_wrote, cut_kind, cut_element, ready_put, ready_under}
-use Rattle.expression_code.proofs.Steps.{Inside, loading, storing}
-use Rattle.expression_code.proofs.Straight.{Setting, base_of, none, Runs, seq, quiet, weaken, gives, cheaper, as_code}
-use Rattle.expression_code.proofs.Values.{Ready, kept_less, ready_after}
 
 pub store_bytes : (kind : Kind) → byte_count (store_size (store_by kind)) ≡ element_bytes kind
 store_bytes Boolean = refl

@@ -10,13 +10,10 @@ use Rattle.codegen.specs.private.Generated.{result_code, result_height}
 use Rattle.expression_code.specs.Layout.{result_offset}
 use Rattle.expression_code.specs.Registers.{slots_to}
 use Rattle.rv_machine.specs.Machine as machine
-use Rattle.expression_code.proofs.ExpressionRuns.{value_word}
+use Rattle.expression_code.proofs.Logic.{value_word, store_runs, Setting, base_of, Steps, Runs, quiet, gives, cheaper, idle, Ready, put_there}
 use Rattle.codegen.proofs.Results.{Left}
 use Rattle.codegen.proofs.Showing.{value_runs, ready_valued, ready_result}
 use Rattle.codegen.proofs.Slots.{put_wrote}
-use Rattle.expression_code.proofs.Pieces.{store_runs}
-use Rattle.expression_code.proofs.Straight.{Setting, base_of, Steps, Runs, quiet, gives, cheaper, idle}
-use Rattle.expression_code.proofs.Values.{Ready, put_there}
 
 -- what a result puts on the path
 abbrev pub steps_of_result : Option TermTree → Steps

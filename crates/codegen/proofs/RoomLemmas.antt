@@ -13,8 +13,7 @@ use Rattle.codegen.specs.private.Room.{HasRoom}
 use Rattle.codegen.proofs.CodeLengths.{block_length, block_room}
 use Rattle.expression_code.specs.TermCode.{IsAmong}
 use Rattle.codegen.proofs.PlacedLemmas.{blocks_placed}
-use Rattle.expression_code.proofs.TermLengths.{height, store_length, expr_length}
-use Rattle.expression_code.proofs.TermTypes.{typed_among}
+use Rattle.expression_code.proofs.Logic.{height, store_length, expr_length, typed_among}
 use Rattle.inline.specs.declared.flat.FlatVariable.{FlatVariable}
 use Rattle.inline.specs.Flat.{TermTree, declaration_of}
 use Rattle.inline.specs.FlatSize.{declared_words, value_nodes}

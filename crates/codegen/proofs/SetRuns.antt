@@ -22,15 +22,9 @@ use Rattle.rv_code.specs.declared.operations.RegisterOperation.TheVariants.{And}
 use Rattle.rv_machine.specs.Bytes.{ByteMap, number_at}
 use Rattle.rv_machine.specs.Effects.{sum_of, difference_of}
 use Rattle.rv_machine.specs.Machine as machine
-use Rattle.expression_code.proofs.Computing.{Computed, computing_runs}
-use Rattle.expression_code.proofs.ExpressionRuns.{steps_of}
-use Rattle.expression_code.proofs.Held.{HeldAt}
-use Rattle.expression_code.proofs.Masks.{mask_of, mask_when, mask_otherwise, masks_join, merged, merge}
-use Rattle.expression_code.proofs.Pieces.{Took, load_runs, store_runs}
+use Rattle.expression_code.proofs.Logic.{Computed, computing_runs, steps_of, HeldAt, mask_of, mask_when, mask_otherwise, masks_join, merged, merge, Took, load_runs, store_runs, Setting, base_of, none, Then, Runs, quiet, weaken, gives, cheaper, idle, Ready}
 use Rattle.codegen.proofs.Showing.{Shown, Evaluated, suits_fits, first_runs, value_runs, ready_valued, ready_with, word_before, wrote_as}
 use Rattle.codegen.proofs.Slots.{hidden_then, hidden_by, hidden_kept, hidden_wrote, put_wrote, cut_kind, ready_set, ready_under, ready_taken}
-use Rattle.expression_code.proofs.Straight.{Setting, base_of, none, Then, Runs, quiet, weaken, gives, cheaper, idle}
-use Rattle.expression_code.proofs.Values.{Ready}
 
 -- a condition, as f and as g, in the registers of the masks
 pub record Prepared (z : Setting) (f g : StraightState → Bool) (env : StraightState) (s : machine.State) : Type 0 where

@@ -16,13 +16,9 @@ use Rattle.language.specs.Types.{bits_of}
 use Rattle.word.specs.declared.profile.Profile.{Profile}
 use Rattle.inline.specs.FlatSize.{term_nodes}
 use Rattle.rv_machine.specs.Machine as machine
-use Rattle.expression_code.proofs.ExpressionRuns.{steps_of, expr_runs}
-use Rattle.expression_code.proofs.Held.{HeldAt, held_regs}
+use Rattle.expression_code.proofs.Logic.{steps_of, expr_runs, HeldAt, held_regs, ends_before_result, Setting, base_of, Runs, gives, Kept, Ready, kept_less, kept_by, variables_kept, ready_below, ready_after}
 use Rattle.codegen.proofs.Jumps.{Still}
-use Rattle.expression_code.proofs.Places.{ends_before_result}
 use Rattle.codegen.proofs.Slots.{Wrote, Hidden, wrote_kept, other_number}
-use Rattle.expression_code.proofs.Straight.{Setting, base_of, Runs, gives}
-use Rattle.expression_code.proofs.Values.{Kept, Ready, kept_less, kept_by, variables_kept, ready_below, ready_after}
 
 -- the state that is made of the one before is shown, and the words of the loops around are as they were
 pub record Shown (z : Setting) (depth : ℕ) (change : StraightState → StraightState) (env : StraightState) (s t : machine.State) : Type 0 where

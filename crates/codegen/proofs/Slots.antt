@@ -19,12 +19,7 @@ use Rattle.language.specs.Types.{bits_of}
 use Rattle.rv_machine.specs.Bytes.{ByteMap, number_at, with_number}
 use Rattle.rv_machine.proofs.ByteLaws.{number_at_apart, number_at-with_number, with_number_below, with_number_above}
 use Rattle.rv_machine.specs.Machine as machine
-use Rattle.expression_code.proofs.Held.{HeldAt}
-use Rattle.expression_code.proofs.Masks.{mask_of, mask_fits}
-use Rattle.expression_code.proofs.Pieces.{Put}
-use Rattle.expression_code.proofs.Places.{bytes_by, bytes_of, place_of, place_within, ends_before_result, apart_from, elements_apart}
-use Rattle.expression_code.proofs.Straight.{Setting, base_of}
-use Rattle.expression_code.proofs.Values.{Kept, Ready, number_same, put_kept, put_there, variables_kept}
+use Rattle.expression_code.proofs.Logic.{HeldAt, mask_of, mask_fits, Put, bytes_by, bytes_of, place_of, place_within, ends_before_result, apart_from, elements_apart, Setting, base_of, Kept, Ready, number_same, put_kept, put_there, variables_kept}
 
 -- a number of so many bytes is written into the frame
 pub record Wrote (z : Setting) (n o w : ℕ) (s t : machine.State) : Type 0 where

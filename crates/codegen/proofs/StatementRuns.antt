@@ -21,9 +21,7 @@ use Rattle.codegen.proofs.LoopRuns.{repeats_runs}
 use Rattle.codegen.proofs.SetRuns.{set_runs, set_under_runs, take_runs}
 use Rattle.codegen.proofs.Showing.{Shown}
 use Rattle.codegen.proofs.Slots.{hidden_then}
-use Rattle.expression_code.proofs.Straight.{Setting, base_of, Runs, seq, gives, cheaper, beside, idle}
-use Rattle.expression_code.proofs.TermLengths.{height}
-use Rattle.expression_code.proofs.Values.{Ready}
+use Rattle.expression_code.proofs.Logic.{Setting, base_of, Runs, seq, gives, cheaper, beside, idle, height, Ready}
 
 module _ (z : Setting) where
   mutual

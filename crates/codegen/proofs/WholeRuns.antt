@@ -25,13 +25,11 @@ use Rattle.rv_machine.specs.Machine.{IsAt}
 use Rattle.rv_machine.proofs.RunLaws.{Halts-after}
 use Rattle.rv_machine.proofs.TurnLaws.{ecall_halts}
 use Rattle.codegen.proofs.Arguments.{loaded}
-use Rattle.expression_code.proofs.Places.{bytes_of}
+use Rattle.expression_code.proofs.Logic.{bytes_of, All-one, Setting, seen_by, Placed, Placed-left, Placed-right, Straight, Steps, Runs, seq, gives, cheaper, beside, Ready}
 use Rattle.codegen.proofs.Placing.{placed}
 use Rattle.codegen.proofs.ResultRuns.{steps_of_result, Given, result_runs}
 use Rattle.codegen.proofs.Results.{arrays_are, returned_is}
 use Rattle.codegen.proofs.StatementRuns.{block_runs}
-use Rattle.expression_code.proofs.Straight.{All-one, Setting, seen_by, Placed, Placed-left, Placed-right, Straight, Steps, Runs, seq, gives, cheaper, beside}
-use Rattle.expression_code.proofs.Values.{Ready}
 
 -- the state that the value is taken in
 abbrev last_state : StraightProgram → StraightState → StraightState

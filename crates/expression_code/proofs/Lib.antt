@@ -18,3 +18,4 @@ pub mod Elements
 pub mod ExpressionRuns
 pub mod OffsetLemmas
 pub mod ComputedLemmas
+pub mod Logic
