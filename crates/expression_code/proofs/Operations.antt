@@ -15,7 +15,7 @@ use Rattle.rv_machine.specs.Registers.{with_register}
 use Rattle.rv_machine.specs.Effects.{sum_of, sign_extended, register_value, shift_value, multiply_value}
 use Rattle.expression_code.specs.TermCode.{upper_part, lower_part, constant_code, cut_code, Step, between, turned, product, division, step_code, Finish, alone, gives_zero, gives_more, narrowed, of_truths, finish_code, row_of, operator_code, prefix_code, choice_code}
 use Rattle.language.specs.declared.tree.BinaryOperator.{BinaryOperator}
-use Rattle.language.specs.declared.tree.BinaryOperator.TheVariants.{Add, Multiply}
+use Rattle.language.specs.declared.tree.BinaryOperator.TheVariants.{Multiply}
 use Rattle.language.specs.declared.tree.PrefixOperator.{PrefixOperator}
 use Rattle.language.specs.declared.tree.PrefixOperator.TheVariants.{Not, Complement, Negate}
 use Rattle.language.specs.Operators.{divides, operated, prefix_value}
