@@ -16,7 +16,7 @@ use Rattle.inline.specs.FlatTyping.{types_of}
 use Rattle.language.specs.declared.signature.Form.{Form}
 use Rattle.language.specs.declared.signature.Form.TheVariants.{SingleWord, FixedArray, MutableArray}
 use Rattle.language.specs.declared.signature.Kind.{Kind}
-use Rattle.language.specs.declared.signature.Kind.TheVariants.{Boolean, Uint8, Uint16, Uint32}
+use Rattle.language.specs.declared.signature.Kind.TheVariants.{Boolean}
 use Rattle.language.specs.declared.signature.Label.{Label}
 use Rattle.language.specs.declared.signature.Param.{Param}
 use Rattle.language.specs.declared.typing.WordType.{WordType}
@@ -29,24 +29,18 @@ use Rattle.rv_machine.specs.Bytes.{ByteMap, number_at, with_number, zeros}
 use Rattle.rv_machine.proofs.ByteLaws.{number_at_same, with_number_below, is_some-with_number}
 use Rattle.rv_machine.specs.Machine.{State}
 use Rattle.branch_removal.specs.StraightMeaning.{StraightState}
-use Rattle.expression_code.proofs.Logic.{number_there, bytes_by, bytes_of, place_of, place_within, ends_before_result, Setting, Ready}
+use Rattle.expression_code.proofs.Logic.{number_there, bytes_by, bytes_of, place_of, place_within, Setting, Ready, place_ends}
 use Rattle.codegen.proofs.Numbers.{numbers_below, numbers_above, numbers_there, zero_byte, zero_number}
 
 greatest : (kind : Kind) (v : ℕ) → v ≤ greatest_of kind → v < 2 ^ bits_of kind
 greatest Boolean v h = omega (arith, h)
-greatest Uint8 v h = omega (arith, h)
-greatest Uint16 v h = omega (arith, h)
-greatest Uint32 v h = omega (arith, h)
+greatest kind v h = omega (arith, h)
 
 kept_whole : (kind : Kind) (elements : Option ℕ) (v : ℕ) → v ≤ greatest_of kind → v % 256 ^ bytes_by kind elements ≡ v
 kept_whole Boolean None v h = omega (arith, h)
-kept_whole Uint8 None v h = omega (arith, h)
-kept_whole Uint16 None v h = omega (arith, h)
-kept_whole Uint32 None v h = omega (arith, h)
+kept_whole kind None v h = omega (arith, h)
 kept_whole Boolean (Some n) v h = omega (arith, h)
-kept_whole Uint8 (Some n) v h = omega (arith, h)
-kept_whole Uint16 (Some n) v h = omega (arith, h)
-kept_whole Uint32 (Some n) v h = omega (arith, h)
+kept_whole kind (Some n) v h = omega (arith, h)
 
 in_words : (word : WordType) (elements : Option ℕ) → bytes_by word.kind elements * numbers_in elements ≤ 4 * flat_size.words_by word elements
 in_words word None = omega arith
@@ -54,9 +48,7 @@ in_words word (Some n) = in_array word.kind
   where
     in_array : (kind : Kind) → element_bytes kind * n ≤ 4 * array_words kind n
     in_array Boolean = omega arith
-    in_array Uint8 = omega arith
-    in_array Uint16 = omega arith
-    in_array Uint32 = omega arith
+    in_array kind = omega arith
 
 -- One argument.
 
@@ -72,11 +64,9 @@ module _ (frame : ℕ) where
 
   lies_by : (k : Kind) (l : Label) (n : ℕ) (form : Form) (arg : Arg) → HasShape form n arg → Lies (made k l n form) arg
   lies_by k l n SingleWord (Word w) shape = (refl, λ bytes low. refl)
-  lies_by k l n SingleWord (Array ws) shape = absurd shape
-  lies_by k l n FixedArray (Word w) shape = absurd shape
   lies_by k l n FixedArray (Array ws) shape = (shape, λ bytes low. refl)
-  lies_by k l n MutableArray (Word w) shape = absurd shape
   lies_by k l n MutableArray (Array ws) shape = (shape, λ bytes low. refl)
+  lies_by k l n form arg shape = absurd shape
 
   lies : (p : Param) (arg : Arg) → IsWithin p arg → Lies p arg
   lies p arg within = lies_by p.kind p.label p.length p.form arg within.shape
@@ -219,9 +209,7 @@ held_argument p arg within = record { count = (lies 0 p arg within).0; within = 
 
 zero_fits : (k : Kind) → 0 < 2 ^ bits_of k
 zero_fits Boolean = omega arith
-zero_fits Uint8 = omega arith
-zero_fits Uint16 = omega arith
-zero_fits Uint32 = omega arith
+zero_fits kind = omega arith
 
 pub held_zeros : (d : FlatVariable) → IsHeld d (replicate (numbers_in d.elements) 0)
 held_zeros d = record { count = length-replicate (numbers_in d.elements) 0; within = All-replicate (IsWithinKind d.word.kind) (numbers_in d.elements) 0 (zero_fits d.word.kind) }
@@ -268,13 +256,11 @@ module _ (z : Setting) (ps : List Param) (args : List Arg) (first : take (length
     held = record { base = base; data_there = λ o inside. ap (λ (b : ByteMap). is_some (b (z.frame + o))) bytes ∙ all_data o inside };
     fits = given_fits z.code.profile ps args z.declared within first;
     variables_there = λ x d i is below.
-        let w = place_within z.declared x d i below in
-        let e = ends_before_result z.declared x d is in
-        let room = z.room in
+        let h = place_ends z x d i is below in
         let from : place_of z.declared x d i ≡ 0 + place_of z.declared x d i = omega arith in
         ap (λ (b : ByteMap). number_at b (bytes_of d) (z.frame + place_of z.declared x d i)) bytes
         ∙ ap (λ o. number_at (with_arguments z.frame (zeros z.frame z.size) (slots_from 0 ps) args) (bytes_of d) (z.frame + o)) from
-        ∙ laid z.frame z.size (zeros z.frame z.size) 0 ps args z.declared x d i within first blank is below (omega (arith, w, e, room));
+        ∙ laid z.frame z.size (zeros z.frame z.size) 0 ps args z.declared x d i within first blank is below (omega (arith, h));
     controls_there = λ c below.
         let room = z.room in
         zero_number s.bytes z.frame 4 (control_offset z.declared c) (λ b from to. behind b (omega (arith, from)) (omega (arith, to, below, room)));

@@ -14,7 +14,7 @@ use Rattle.codegen.specs.private.Jumps.{loop_code}
 use Rattle.expression_code.specs.Layout.{variable_offset, result_offset}
 use Rattle.expression_code.specs.TermCode.{constant_code}
 use Rattle.language.specs.declared.signature.Kind.{Kind}
-use Rattle.language.specs.declared.signature.Kind.TheVariants.{Boolean, Uint8, Uint16, Uint32}
+use Rattle.language.specs.declared.signature.Kind.TheVariants.{Boolean}
 use Rattle.language.specs.Size.{array_words}
 use Rattle.rv_code.specs.declared.instructions.Instr.{Instr}
 use Rattle.rv_code.specs.declared.instructions.Instr.TheVariants as instr
@@ -270,9 +270,7 @@ module _ (z : Setting) (offset words : ℕ) (aligned : offset % 4 ≡ 0) (inside
 -- no more words than elements
 words_few : (kind : Kind) (size : ℕ) → array_words kind size ≤ size
 words_few Boolean size = omega arith
-words_few Uint8 size = omega arith
-words_few Uint16 size = omega arith
-words_few Uint32 size = omega arith
+words_few kind size = omega arith
 
 module _ (z : Setting) (depth x size : ℕ) (typed : IsFilled z.code.profile z.declared x size []) (within : depth ≤ z.depths) where
   abbrev d : FlatVariable

@@ -1,5 +1,5 @@
 -- The code that fills an array with values.
-use Rattle.std.proofs.Common.{◌≡◌, ℕ, ◌+◌, ◌*◌, ◌%◌, ◌<◌, ◌≤◌, ◌==◌, Bool, true, false, cond, nat_lt, List, [], ◌∷◌, ◌++◌, length, map, None, Some, slice_get, refl, sym, ap, ◌∙◌, subst, arith, eq-eqb, append_assoc, length-append}
+use Rattle.std.proofs.Common.{◌≡◌, ℕ, ◌+◌, ◌*◌, ◌<◌, ◌≤◌, ◌==◌, Bool, true, false, cond, nat_lt, List, [], ◌∷◌, ◌++◌, length, map, None, Some, slice_get, refl, sym, ap, ◌∙◌, subst, arith, eq-eqb, append_assoc, length-append}
 use Rattle.std.specs.Prelude.{slice_set}
 use Rattle.std.proofs.Math.Nat.{le-max_left, le-max_right}
 use Rattle.std.proofs.Math.Seq.{set-append_seam}
@@ -23,21 +23,20 @@ use Rattle.language.specs.declared.signature.Kind.{Kind}
 use Rattle.language.specs.declared.typing.WordType.{WordType}
 use Rattle.language.specs.Size.{element_bytes}
 use Rattle.word.specs.declared.profile.Profile.{Profile}
-use Rattle.expression_code.proofs.Logic.{steps_of, kind_known, Held, place_of, place_aligned, Put, put_by, Setting, base_of, none, Runs, seq, quiet, gives, cheaper, beside, along, as_code, idle, height, Ready}
-use Rattle.codegen.proofs.PutRuns.{store_bytes, element_before, element_inside}
+use Rattle.expression_code.proofs.Logic.{steps_of, kind_known, Held, place_of, Put, put_by, Setting, base_of, none, Runs, seq, quiet, gives, cheaper, beside, along, as_code, idle, height, Ready, place_before, place_ends, place_inside, Inside}
+use Rattle.codegen.proofs.PutRuns.{store_bytes}
 use Rattle.codegen.proofs.Showing.{Shown, suits_fits, value_runs, ready_valued, wrote_as}
 use Rattle.codegen.proofs.Slots.{Wrote, put_wrote, hidden_then, hidden_kept, hidden_wrote, cut_element, ready_same, ready_put}
 
 -- the value's register into an element of a fixed place
-element_runs : (z : Setting) (kind : Kind) (o : ℕ) → o + element_bytes kind ≤ z.size → (z.frame + o) % element_bytes kind ≡ 0
+element_runs : (z : Setting) (kind : Kind) (o : ℕ) → o + element_bytes kind ≤ z.size → Inside z (element_bytes kind) (z.frame + o)
     → Runs z 3 none (element_store_code kind o) (Held z) (λ env s t. Wrote z (element_bytes kind) o (s.regs 5) s t)
-element_runs z kind o inside even =
+element_runs z kind o room inside =
     let bytes = store_bytes kind in
     gives z
     (λ env s t fine held put. put_wrote z (element_bytes kind) 5 o env s t (subst (λ n. Put z n 5 o env s t) bytes put))
-    (put_by z 5 (omega arith) (λ e. omega arith) (λ e. omega arith) o (store_by kind) (omega (arith, inside, bytes))
-    (record { even = ap (λ m. (z.frame + o) % m) bytes ∙ even; low = omega arith; high = omega (arith, inside, bytes) })
-    (nat_lt o 2048) refl)
+    (put_by z 5 (omega arith) (λ e. omega arith) (λ e. omega arith) o (store_by kind) (omega (arith, room, bytes))
+    (subst (λ n. Inside z n (z.frame + o)) (sym bytes) inside) (nat_lt o 2048) refl)
 
 -- a variable that is not known by its type is not read
 unread : (profile : Profile) (declared : List FlatVariable) (x : ℕ) (m : Values) (l : List ℕ) (y : ℕ) (d : FlatVariable) → (types_but profile declared x).at y ≡ Some d → m y ≡ with_value m x l y
@@ -66,7 +65,7 @@ module _ (z : Setting) (depth : ℕ) (within : depth ≤ z.depths) (x size : ℕ
       → Runs z (16 * term_nodes e + 3) (steps_of e) (expr_code z.declared (base_of z) 0 e ++ element_store_code word.kind (at k)) (Ready z) (Shown z depth (step k e))
   one_runs k e below suits room =
       let every = suits_among (types_but z.code.profile z.declared x) (types_of z.code.profile z.declared) (but_among z.code.profile z.declared x) word e suits in
-      let before = element_before z x size word mutable known k below in
+      let before = place_before z x d k known below in
       let n = element_bytes word.kind in
       gives z
       (λ env s t fine ready done.
@@ -79,7 +78,7 @@ module _ (z : Setting) (depth : ℕ) (within : depth ≤ z.depths) (x size : ℕ
         hidden = hidden_then z depth s m t (hidden_kept z depth s m within done.first.kept) (hidden_wrote z depth n (at k) v m t (omega (arith, before)) wrote);
       })
       (quiet z (value_runs z word e every room)
-      (element_runs z word.kind (at k) (element_inside z x size word mutable known k below) (place_aligned z.declared x d k z.frame z.even))
+      (element_runs z word.kind (at k) (place_ends z x d k known below) (place_inside z x d k known below))
       (λ env s t ready valued. valued.held))
 
   fill_from : (k o : ℕ) (es : List TermTree) → o ≡ at k → AllSuit (types_but z.code.profile z.declared x) word es → k + length es ≤ size → base_of z + 4 * slots_to (height_of_all es) ≤ z.size

@@ -14,7 +14,7 @@ use Rattle.language.specs.Limits.{most_elements}
 use Rattle.language.specs.declared.signature.Form.{Form}
 use Rattle.language.specs.declared.signature.Form.TheVariants.{SingleWord, FixedArray, MutableArray}
 use Rattle.language.specs.declared.signature.Kind.{Kind}
-use Rattle.language.specs.declared.signature.Kind.TheVariants.{Boolean, Uint8, Uint16, Uint32}
+use Rattle.language.specs.declared.signature.Kind.TheVariants.{Boolean}
 use Rattle.language.specs.declared.signature.Param.{Param}
 use Rattle.language.specs.declared.typing.WordType.{WordType}
 use Rattle.language.specs.Size.{held_words, array_words}
@@ -50,9 +50,7 @@ length_allowed MutableArray n is = among_lengths n is.0 is.1
 
 some_words : (kind : Kind) (n : ℕ) → 1 ≤ n → 1 ≤ array_words kind n
 some_words Boolean n some = omega (arith, some)
-some_words Uint8 n some = omega (arith, some)
-some_words Uint16 n some = omega (arith, some)
-some_words Uint32 n some = omega (arith, some)
+some_words kind n some = omega (arith, some)
 
 -- a parameter takes a word at least
 held_some : (form : Form) (kind : Kind) (n : ℕ) → HasLength form n → 1 ≤ held_words form kind n

@@ -15,7 +15,7 @@ use Rattle.inline.specs.Flat.{TermTree, array_as}
 use Rattle.inline.specs.FlatSize.{declared_words}
 use Rattle.inline.specs.FlatTyping.{types_of, AllSuit, HasType}
 use Rattle.language.specs.declared.signature.Kind.{Kind}
-use Rattle.language.specs.declared.signature.Kind.TheVariants.{Boolean, Uint8, Uint16, Uint32}
+use Rattle.language.specs.declared.signature.Kind.TheVariants.{Boolean}
 use Rattle.language.specs.declared.typing.WordType.{WordType}
 use Rattle.language.specs.Size.{array_words}
 use Rattle.word.specs.declared.profile.Profile.{Profile}
@@ -25,9 +25,7 @@ use Rattle.expression_code.proofs.Logic.{ends_before_result, typed_within, typed
 -- an array has no more elements than bytes
 elements_in_words : (kind : Kind) (size : ℕ) → size ≤ 4 * array_words kind size
 elements_in_words Boolean size = omega arith
-elements_in_words Uint8 size = omega arith
-elements_in_words Uint16 size = omega arith
-elements_in_words Uint32 size = omega arith
+elements_in_words kind size = omega arith
 
 known_but : (declared : List FlatVariable) (x y : ℕ) (d : FlatVariable) (b : Bool) → cond b None (slice_get declared y) ≡ Some d → y < length declared
 known_but declared x y d true is = absurd (none-some d is)

@@ -1,5 +1,5 @@
 -- The code that sets an element of an array.
-use Rattle.std.proofs.Common.{◌≡◌, ℕ, ◌+◌, ◌*◌, ◌%◌, ◌^◌, ◌<◌, ◌≤◌, Bool, true, false, if◌then◌else◌, List, [], ◌∷◌, ◌++◌, Some, slice_get, slice_index, is_some, refl, sym, ap, ◌∙◌, subst, arith, append_assoc}
+use Rattle.std.proofs.Common.{◌≡◌, ℕ, ◌+◌, ◌*◌, ◌^◌, ◌<◌, ◌≤◌, Bool, true, false, if◌then◌else◌, List, [], ◌∷◌, ◌++◌, Some, slice_get, slice_index, is_some, refl, sym, ap, ◌∙◌, subst, arith, append_assoc}
 use Rattle.std.proofs.Math.Nat.{le-max_left, le-max_right}
 use Rattle.std.proofs.lemmas.List.{set-get_or}
 use Rattle.std.proofs.lemmas.Option.{same_Some}
@@ -14,11 +14,11 @@ use Rattle.branch_removal.specs.Straight.{put, put_under}
 use Rattle.branch_removal.specs.StraightMeaning.{StraightState, with_variable, with_element, after, path_at}
 use Rattle.branch_removal.specs.StraightTyping.{IsPut}
 use Rattle.codegen.specs.private.Emitted.{store_by, index_code, put_code, put_under_code, merge_code, statement_code, height_of_put}
-use Rattle.expression_code.specs.Layout.{variable_offset, result_offset, control_offset}
+use Rattle.expression_code.specs.Layout.{variable_offset, control_offset}
 use Rattle.expression_code.specs.Registers.{slots_to}
 use Rattle.expression_code.specs.TermCode.{lower_part, load_by, address_code, kind_at, expr_code, height_of}
 use Rattle.language.specs.declared.signature.Kind.{Kind}
-use Rattle.language.specs.declared.signature.Kind.TheVariants.{Boolean, Uint8, Uint16, Uint32}
+use Rattle.language.specs.declared.signature.Kind.TheVariants.{Boolean}
 use Rattle.language.specs.declared.typing.WordType.{WordType}
 use Rattle.language.specs.Size.{element_bytes}
 use Rattle.language.specs.Types.{bits_of}
@@ -30,7 +30,7 @@ use Rattle.rv_machine.specs.Effects.{load_size, store_size, sum_of, address_of, 
 use Rattle.rv_machine.specs.Machine as machine
 use Rattle.rv_machine.specs.Registers.{register}
 use Rattle.rv_machine.specs.Sizes.{byte_count}
-use Rattle.expression_code.proofs.Logic.{lower_fits, computing_runs, Addressed, address_runs, steps_of, expr_runs, kind_known, load_bytes, load_plain, HeldAt, held_regs, held_store, frame_there, free_from, mask_of, merged, merge, load_runs, place_of, place_within, place_aligned, ends_before_result, Inside, loading, storing, Setting, base_of, none, Runs, seq, quiet, weaken, gives, cheaper, as_code, Ready, kept_less, ready_after}
+use Rattle.expression_code.proofs.Logic.{lower_fits, computing_runs, Addressed, address_runs, steps_of, expr_runs, kind_known, load_bytes, load_plain, HeldAt, held_regs, held_store, frame_there, free_from, mask_of, merged, merge, load_runs, place_of, place_before, place_ends, place_inside, Inside, loading, storing, Setting, base_of, none, Runs, seq, quiet, weaken, gives, cheaper, as_code, Ready, kept_less, ready_after}
 use Rattle.codegen.proofs.Marks.{Indexed, by_index}
 use Rattle.codegen.proofs.Showing.{Shown, first_runs, ready_with}
 use Rattle.codegen.proofs.SetRuns.{chosen_fits}
@@ -38,9 +38,7 @@ use Rattle.codegen.proofs.Slots.{Wrote, Hidden, hidden_then, hidden_by, hidden_k
 
 pub store_bytes : (kind : Kind) → byte_count (store_size (store_by kind)) ≡ element_bytes kind
 store_bytes Boolean = refl
-store_bytes Uint8 = refl
-store_bytes Uint16 = refl
-store_bytes Uint32 = refl
+store_bytes kind = refl
 
 -- an index and a value in the registers of the first two temporaries
 pub record Aimed (z : Setting) (i : ℕ) (value : StraightState → ℕ) (env : StraightState) (s : machine.State) : Type 0 where
@@ -59,27 +57,12 @@ module _ (z : Setting) (x size : ℕ) (word : WordType) (mutable : Bool) (known 
   abbrev at : ℕ → ℕ
   at i = place_of z.declared x d i
 
-  pub element_before : (i : ℕ) → i < size → at i + element_bytes word.kind ≤ result_offset z.declared
-  element_before i below =
-      let w = place_within z.declared x d i below in
-      let e = ends_before_result z.declared x d known in
-      omega (arith, w, e)
-
-  pub element_inside : (i : ℕ) → i < size → at i + element_bytes word.kind ≤ z.size
-  element_inside i below =
-      let b = element_before i below in
-      let room = z.room in
-      omega (arith, b, room)
-
-  pub access : (i n : ℕ) → n ≡ element_bytes word.kind → i < size → Inside z n (z.frame + at i)
-  access i n is below =
-      let h = element_inside i below in
-      let even : (z.frame + at i) % element_bytes word.kind ≡ 0 = place_aligned z.declared x d i z.frame z.even in
-      record { even = ap (λ m. (z.frame + at i) % m) is ∙ even; low = omega arith; high = omega (arith, h, is) }
+  access : (i n : ℕ) → n ≡ element_bytes word.kind → i < size → Inside z n (z.frame + at i)
+  access i n is below = subst (λ m. Inside z m (z.frame + at i)) (sym is) (place_inside z x d i known below)
 
   addressed_at : (i : ℕ) (value : StraightState → ℕ) → i < size → Runs z 4 none (address_code 5 word.kind offset) (Aimed z i value) (λ env s t. Addressed z 5 offset (at i) env s t)
   addressed_at i value below =
-      let h = element_inside i below in
+      let h = place_ends z x d i known below in
       let ends = z.ends in
       weaken z
       (λ env s fine aimed. (aimed.ready.held, aimed.five, omega (arith, h, ends)))
@@ -88,7 +71,7 @@ module _ (z : Setting) (x size : ℕ) (word : WordType) (mutable : Bool) (known 
 
   there_at : (i n : ℕ) (s : machine.State) → n ≡ element_bytes word.kind → i < size → HeldAt z s → is_some (number_at s.bytes n (z.frame + at i)) ≡ true
   there_at i n s is below held =
-      ap (λ m. is_some (number_at s.bytes m (z.frame + at i))) is ∙ frame_there z s held (element_bytes word.kind) (at i) (element_inside i below)
+      ap (λ m. is_some (number_at s.bytes m (z.frame + at i))) is ∙ frame_there z s held (element_bytes word.kind) (at i) (place_ends z x d i known below)
 
   written_as : (n a v : ℕ) (s t : machine.State) → n ≡ element_bytes word.kind → t.bytes ≡ with_number s.bytes n a v → t.bytes ≡ with_number s.bytes (element_bytes word.kind) a v
   written_as n a v s t is e = e ∙ ap (λ m. with_number s.bytes m a v) is
@@ -107,7 +90,7 @@ module _ (z : Setting) (x size : ℕ) (word : WordType) (mutable : Bool) (known 
       written_as n (z.frame + at i) (register m.regs 6) m t (store_bytes word.kind) two.written
       ∙ (ap (λ (b : ByteMap). with_number b (element_bytes word.kind) (z.frame + at i) (register m.regs 6)) one.same ∙ ap (λ v. with_number s.bytes (element_bytes word.kind) (z.frame + at i) v) six) in
       record {
-        held = held_store z s t (element_bytes word.kind) (at i) (value env) (element_inside i below) (ap (λ (regs : ℕ → ℕ). regs 2) two.same ∙ one.others 2 (λ e. omega arith) (λ e. omega arith)) written aimed.ready.held;
+        held = held_store z s t (element_bytes word.kind) (at i) (value env) (place_ends z x d i known below) (ap (λ (regs : ℕ → ℕ). regs 2) two.same ∙ one.others 2 (λ e. omega arith) (λ e. omega arith)) written aimed.ready.held;
         written = written;
       })
       (quiet z (addressed_at i value below)
@@ -180,7 +163,7 @@ module _ (z : Setting) (x size : ℕ) (word : WordType) (mutable : Bool) (known 
 
     put_done : (i : ℕ) → i < size → word'.kind ≡ word.kind → Runs z 5 none (put_code word.kind offset) (Aimed z i value_of) (λ env s t. Hidden z depth s t × (number_of env ≡ i → Ready z (with_element env x (number_of env) (value_of env)) t))
     put_done i below same =
-        let b = element_before i below in
+        let b = place_before z x d i known below in
         gives z
         (λ env s t fine aimed wrote.
         let fits : value_of env < 2 ^ bits_of word.kind = subst (λ k. value_of env < 2 ^ bits_of k) same (value_fits (types_of z.code.profile z.declared) env.variables aimed.ready.fits has') in (
@@ -229,7 +212,7 @@ module _ (z : Setting) (x size : ℕ) (word : WordType) (mutable : Bool) (known 
       under_done i below same_kind =
           let o = control_offset z.declared c in
           let n = byte_count (store_size (store_by word.kind)) in
-          let b = element_before i below in
+          let b = place_before z x d i known below in
           let space = z.room in
           gives z
           (λ env s t fine aimed done.
@@ -259,7 +242,7 @@ module _ (z : Setting) (x size : ℕ) (word : WordType) (mutable : Bool) (known 
           let written : t.bytes ≡ with_number m3.bytes (element_bytes word.kind) (z.frame + at i) w =
           written_as n (z.frame + at i) (register m3.regs 6) m3 t (store_bytes word.kind) four.written ∙ ap (λ u. with_number m3.bytes (element_bytes word.kind) (z.frame + at i) u) made in
           let wrote : Wrote z (element_bytes word.kind) (at i) w m3 t = record {
-            held = held_store z m3 t (element_bytes word.kind) (at i) w (element_inside i below) (ap (λ (regs : ℕ → ℕ). regs 2) four.same) written three.held;
+            held = held_store z m3 t (element_bytes word.kind) (at i) w (place_ends z x d i known below) (ap (λ (regs : ℕ → ℕ). regs 2) four.same) written three.held;
             written = written;
           } in
           let put = ready_put z x i w w d known below w_fits env m3 t ready3 wrote (cut_element word.kind size w w_fits) in (

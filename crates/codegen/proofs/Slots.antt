@@ -13,7 +13,7 @@ use Rattle.inline.specs.Fitting.{IsWithinKind, IsHeld}
 use Rattle.inline.specs.Flat.{numbers_in, word_as}
 use Rattle.inline.specs.FlatSize.{words_of}
 use Rattle.language.specs.declared.signature.Kind.{Kind}
-use Rattle.language.specs.declared.signature.Kind.TheVariants.{Boolean, Uint8, Uint16, Uint32}
+use Rattle.language.specs.declared.signature.Kind.TheVariants.{Boolean, Uint32}
 use Rattle.language.specs.declared.typing.WordType.{WordType}
 use Rattle.language.specs.Types.{bits_of}
 use Rattle.rv_machine.specs.Bytes.{ByteMap, number_at, with_number}
@@ -64,16 +64,12 @@ put_wrote z n r o env s t put = record { held = put.held; written = put.written 
 
 -- what is written as a value of its kind is that value again
 pub cut_kind : (kind : Kind) (v : ℕ) → v < 2 ^ bits_of kind → v < 2 ^ 32
-cut_kind Boolean v h = omega (arith, h)
-cut_kind Uint8 v h = omega (arith, h)
-cut_kind Uint16 v h = omega (arith, h)
 cut_kind Uint32 v h = h
+cut_kind kind v h = omega (arith, h)
 
 pub cut_element : (kind : Kind) (size v : ℕ) → v < 2 ^ bits_of kind → v % 256 ^ bytes_by kind (Some size) ≡ v
 cut_element Boolean size v h = omega (arith, h)
-cut_element Uint8 size v h = omega (arith, h)
-cut_element Uint16 size v h = omega (arith, h)
-cut_element Uint32 size v h = omega (arith, h)
+cut_element kind size v h = omega (arith, h)
 
 alone : (l : List ℕ) (v : ℕ) → length l ≡ 1 → slice_set l 0 v ≡ v ∷ []
 alone [] v one = absurd (omega (arith, one))

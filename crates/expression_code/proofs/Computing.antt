@@ -4,8 +4,8 @@ use Rattle.std.proofs.lemmas.Bool.{false≢true, ltb-true, eqb-true, eqb-false}
 use Rattle.std.proofs.lemmas.Bool.Decides.{nat_tests}
 use Rattle.std.proofs.Math.Path.{fun_ext}
 use Rattle.rv_code.specs.declared.instructions.Instr.{Instr}
-use Rattle.rv_code.specs.declared.instructions.Instr.TheVariants.{Upper, Jump, JumpRegister, Branch, Load, Store, Immediate, Shift, Register, Multiply, Divide, Fence, Ecall, Ebreak}
-use Rattle.rv_code.specs.declared.operations.UpperOperation.TheVariants.{Lui, Auipc}
+use Rattle.rv_code.specs.declared.instructions.Instr.TheVariants.{Upper, Immediate, Shift, Register}
+use Rattle.rv_code.specs.declared.operations.UpperOperation.TheVariants.{Lui}
 use Rattle.rv_code.specs.Words.{IsInstr}
 use Rattle.rv_machine.specs.declared.effects.Effect.TheVariants.{Computes}
 use Rattle.rv_machine.specs.Effects.{effect_of, sign_extended, immediate_value, shift_value, register_value}
@@ -101,17 +101,7 @@ module _ (works : ℕ → Bool) (allowed : AreWorking works) where
       let t = three_tests rd (nat_lt rs1 32) (nat_lt rs2 32) h in
       let w = allowed rd t.0 in
       record { in_range = (w.2, ltb-true rs1 32 t.1, ltb-true rs2 32 t.2); nonzero = w.0; other = w.1; effect = λ pc regs. refl }
-  plain (Upper Auipc rd immediate) h = absurd (false≢true h)
-  plain (Jump rd offset) h = absurd (false≢true h)
-  plain (JumpRegister rd rs1 offset) h = absurd (false≢true h)
-  plain (Branch test rs1 rs2 offset) h = absurd (false≢true h)
-  plain (Load operation rd rs1 offset) h = absurd (false≢true h)
-  plain (Store operation rs2 rs1 offset) h = absurd (false≢true h)
-  plain (Multiply operation rd rs1 rs2) h = absurd (false≢true h)
-  plain (Divide operation rd rs1 rs2) h = absurd (false≢true h)
-  plain (Fence mode before after rs1 rd) h = absurd (false≢true h)
-  plain Ecall h = absurd (false≢true h)
-  plain Ebreak h = absurd (false≢true h)
+  plain i h = absurd (false≢true h)
 
   -- its register is one of those that work
   written_works : (i : Instr) → computes works i ≡ true → works (written_register i) ≡ true
@@ -119,17 +109,7 @@ module _ (works : ℕ → Bool) (allowed : AreWorking works) where
   written_works (Immediate operation rd rs1 immediate) h = (three_tests rd (nat_lt rs1 32) (nat_lt immediate 4096) h).0
   written_works (Shift operation rd rs1 amount) h = (three_tests rd (nat_lt rs1 32) (nat_lt amount 32) h).0
   written_works (Register operation rd rs1 rs2) h = (three_tests rd (nat_lt rs1 32) (nat_lt rs2 32) h).0
-  written_works (Upper Auipc rd immediate) h = absurd (false≢true h)
-  written_works (Jump rd offset) h = absurd (false≢true h)
-  written_works (JumpRegister rd rs1 offset) h = absurd (false≢true h)
-  written_works (Branch test rs1 rs2 offset) h = absurd (false≢true h)
-  written_works (Load operation rd rs1 offset) h = absurd (false≢true h)
-  written_works (Store operation rs2 rs1 offset) h = absurd (false≢true h)
-  written_works (Multiply operation rd rs1 rs2) h = absurd (false≢true h)
-  written_works (Divide operation rd rs1 rs2) h = absurd (false≢true h)
-  written_works (Fence mode before after rs1 rd) h = absurd (false≢true h)
-  written_works Ecall h = absurd (false≢true h)
-  written_works Ebreak h = absurd (false≢true h)
+  written_works i h = absurd (false≢true h)
 
 -- one register is written, as a whole
 

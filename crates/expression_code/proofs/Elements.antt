@@ -9,7 +9,7 @@ use Rattle.rv_machine.specs.Machine.{State}
 use Rattle.branch_removal.specs.StraightMeaning.{StraightState}
 use Rattle.expression_code.specs.TermCode.{upper_part, lower_part, scale_code, address_code}
 use Rattle.language.specs.declared.signature.Kind.{Kind}
-use Rattle.language.specs.declared.signature.Kind.TheVariants.{Boolean, Uint8, Uint16, Uint32}
+use Rattle.language.specs.declared.signature.Kind.TheVariants.{Uint16, Uint32}
 use Rattle.language.specs.Size.{element_bytes}
 use Rattle.expression_code.proofs.Arithmetic.{near_field, parts, upper_fits}
 use Rattle.expression_code.proofs.Computing.{registers_after, only_computes, computing_within}
@@ -55,16 +55,14 @@ module _ (z : Setting) (r : ℕ) (free : IsFree r) (apart : r ≢ 28) where
   -- an index times the bytes of an element
 
   scale_plain : (kind : Kind) → only_computes (either_of r 28) (scale_code r kind) ≡ true
-  scale_plain Boolean = refl
-  scale_plain Uint8 = refl
   scale_plain Uint16 = simp (rr, l32 r 28 free scratch apart)
   scale_plain Uint32 = simp (rr, l32 r 28 free scratch apart)
+  scale_plain kind = refl
 
   scaled : (kind : Kind) (regs : ℕ → ℕ) → element_bytes kind * regs r < 2 ^ 32 → registers_after (scale_code r kind) regs r ≡ element_bytes kind * regs r
-  scaled Boolean regs below = omega arith
-  scaled Uint8 regs below = omega arith
   scaled Uint16 regs below = simp (rr, l0 r 28 free scratch apart) (omega (arith, below))
   scaled Uint32 regs below = simp (rr, l0 r 28 free scratch apart) (omega (arith, below))
+  scaled kind regs below = omega arith
 
   -- the base, and the upper part of an offset
 

@@ -22,7 +22,7 @@ use Rattle.rv_machine.specs.Sizes.{byte_count}
 use Rattle.language.specs.declared.signature.Label.{Label}
 use Rattle.language.specs.WellTyped.{labelled}
 use Rattle.language.specs.declared.signature.Kind.{Kind}
-use Rattle.language.specs.declared.signature.Kind.TheVariants.{Boolean, Uint8, Uint16, Uint32}
+use Rattle.language.specs.declared.signature.Kind.TheVariants.{Boolean, Uint32}
 use Rattle.language.specs.declared.tree.BinaryOperator.{BinaryOperator}
 use Rattle.language.specs.declared.typing.WordType.{WordType}
 use Rattle.language.specs.Operators.{prefix_value, width_of}
@@ -40,13 +40,13 @@ use Rattle.expression_code.proofs.Masks.{chosen, choice}
 use Rattle.expression_code.proofs.Operations.{either_of, ll, constant_plain, constant_after, cut_plain, cut_made, prefix_plain, prefix_made, rotate_plain, rotate_made, choice_plain, choice_made}
 use Rattle.expression_code.proofs.OperatorRuns.{truth_fits}
 use Rattle.expression_code.proofs.Pieces.{load_runs}
-use Rattle.expression_code.proofs.Places.{place_of, place_aligned}
+use Rattle.expression_code.proofs.Places.{place_of}
 use Rattle.expression_code.proofs.Steps.{Inside, written, loading_at}
 use Rattle.expression_code.proofs.Straight.{Setting, base_of, fine_right, none, Steps, Runs, seq, quiet, quietly, weaken, gives, cheaper, as_code}
 use Rattle.expression_code.proofs.TermLengths.{constant_length, cut_length, prefix_length, rotate_length}
 use Rattle.expression_code.proofs.Fetching.{lower_spare, fetch_runs, keeps}
 use Rattle.expression_code.proofs.Working.{word_there, home_one, beside_free, beside_apart, works, works_home, operator_runs}
-use Rattle.expression_code.proofs.Values.{Ready, Valued, Kept, kept_less, kept_by, kept_then, lower_then, lower_less, holds_lower, holds_still, place_below, ready_after}
+use Rattle.expression_code.proofs.Values.{Ready, Valued, Kept, kept_less, kept_by, kept_then, lower_then, lower_less, holds_lower, holds_still, place_ends, place_inside, ready_after}
 
 -- what an expression puts on the path
 abbrev pub steps_of : TermTree → Steps
@@ -54,10 +54,8 @@ steps_of e env = path_in env.variables e
 
 -- what is within a kind is a word
 pub kind_fits : (kind : Kind) (v : ℕ) → IsWithinKind kind v → v < 2 ^ 32
-kind_fits Boolean v h = omega (arith, h)
-kind_fits Uint8 v h = omega (arith, h)
-kind_fits Uint16 v h = omega (arith, h)
 kind_fits Uint32 v h = h
+kind_fits kind v h = omega (arith, h)
 
 -- a well-typed expression's value is a word
 pub value_word : (profile : Profile) (declared : List FlatVariable) (e : TermTree) (word : WordType) (m : Values) → Fits (types_of profile declared) m → HasType (types_of profile declared) e word → value_in m e < 2 ^ 32
@@ -75,15 +73,11 @@ kind_known (d ∷ ds) (suc x) e is = kind_known ds x e is
 -- an element's load takes the element's bytes, as they are
 pub load_bytes : (kind : Kind) → byte_count (load_size (load_by kind)) ≡ element_bytes kind
 load_bytes Boolean = refl
-load_bytes Uint8 = refl
-load_bytes Uint16 = refl
-load_bytes Uint32 = refl
+load_bytes kind = refl
 
 pub load_plain : (kind : Kind) (v : ℕ) → loaded_value (load_by kind) v ≡ v
 load_plain Boolean v = refl
-load_plain Uint8 v = refl
-load_plain Uint16 v = refl
-load_plain Uint32 v = refl
+load_plain kind v = refl
 
 -- Slots of temporaries lie from this offset on.
 module _ (z : Setting) (free : ℕ) (aligned : free % 4 ≡ 0) (above : base_of z ≤ free) where
@@ -125,8 +119,7 @@ module _ (z : Setting) (free : ℕ) (aligned : free % 4 ≡ 0) (above : base_of 
       let l = home place 29 in
       let one = home_one z place in
       let first : o + 4 * 0 ≡ o = omega arith in
-      let below = place_below z x d 0 known (omega arith) in
-      let inside = z.room in
+      let below = place_ends z x d 0 known (omega arith) in
       cheaper z (omega arith)
       (keeps z free aligned place room (variable x) (λ env s ready. kind_fits word.kind (slice_index (env.variables x) 0) (value_fits (types_of z.code.profile z.declared) env.variables ready.fits (of_variable known)))
       (weaken z
@@ -137,7 +130,7 @@ module _ (z : Setting) (free : ℕ) (aligned : free % 4 ≡ 0) (above : base_of 
         kept = kept_by z (slot_of free place) s t took.same;
         lower = λ q less small. took.others (5 + q) (lower_apart q place 29 less small (omega arith));
       })
-      (load_runs z l o (omega arith) (omega (arith, below, inside)) one.small one.nonzero one.not_base)))
+      (load_runs z l o (omega arith) (omega (arith, below)) one.small one.nonzero one.not_base)))
 
   -- A value, and then code that makes another of it.
   applied : (operand whole : TermTree) (place n : ℕ) {steps : Steps} {es : List Instr} (is : List Instr) → HasSlot place → length is ≤ 10 → only_computes (either_of (home place 29) 30) is ≡ true
@@ -330,17 +323,6 @@ module _ (z : Setting) (free : ℕ) (aligned : free % 4 ≡ 0) (above : base_of 
     abbrev element_at : ℕ → ℕ
     element_at i = place_of z.declared x (array_as word mutable size) i
 
-    element_below : (i : ℕ) → i < size → element_at i + element_bytes word.kind ≤ z.size
-    element_below i below =
-        let h = place_below z x (array_as word mutable size) i known below in
-        let room = z.room in
-        omega (arith, h, room)
-
-    element_inside : (i : ℕ) → i < size → Inside z (element_bytes word.kind) (z.frame + element_at i)
-    element_inside i below =
-        let h = element_below i below in
-        record { even = place_aligned z.declared x (array_as word mutable size) i z.frame z.even; low = omega arith; high = omega (arith, h) }
-
     element_runs : (index : TermTree) (word' : WordType) (place n : ℕ) {es : List Instr} → HasSlot place
         → HasType (types_of z.code.profile z.declared) (element source x size index) word'
         → Runs z n (steps_of index) es (Ready z) (Valued z index free place)
@@ -390,14 +372,14 @@ module _ (z : Setting) (free : ℕ) (aligned : free % 4 ≡ 0) (above : base_of 
         (λ env s t both valued. (valued.held, valued.there)))
         (quietly z {P = λ env s. HeldAt z s × (s.regs r ≡ i env) × (i env < size)}
         (weaken z
-        (λ env s fine given. (given.0, given.1, let h = element_below (i env) given.2 in let ends = z.ends in omega (arith, h, ends)))
+        (λ env s fine given. (given.0, given.1, let h = place_ends z x d (i env) known given.2 in let ends = z.ends in omega (arith, h, ends)))
         (λ env s t fine given done. done)
         (address_runs z r one' (home_apart place 29 28 (omega arith) (λ e. omega arith)) word.kind o i))
         (loading_at z source size i (λ j. z.frame + element_at j) load r r (lower_part o) (one'.small, one'.small, lower_fits o) one'.nonzero
-        (λ j below. subst (λ m. Inside z m (z.frame + element_at j)) (sym (load_bytes word.kind)) (element_inside j below)))
+        (λ j below. subst (λ m. Inside z m (z.frame + element_at j)) (sym (load_bytes word.kind)) (place_inside z x d j known below)))
         (λ env s t given done. record {
           address = done.address;
-          data_there = ap (λ m. is_some (number_at t.bytes m (z.frame + element_at (i env)))) (load_bytes word.kind) ∙ frame_there z t done.held (element_bytes word.kind) (element_at (i env)) (element_below (i env) given.2);
+          data_there = ap (λ m. is_some (number_at t.bytes m (z.frame + element_at (i env)))) (load_bytes word.kind) ∙ frame_there z t done.held (element_bytes word.kind) (element_at (i env)) (place_ends z x d (i env) known given.2);
         }))
         (λ env s t both done. (done.second.held, done.second.there, both.1))))))
 

@@ -14,4 +14,4 @@ pub use Rattle.expression_code.proofs.Steps.{Inside, computing, loading, stands,
 pub use Rattle.expression_code.proofs.Straight.{After, All-one, Before, Ends, Leak, Placed, Placed-below, Placed-left, Placed-right, Runs, Setting, Steps, Straight, Then, along, always, as_code, base_of, beside, both, cheaper, ends_as, ends_by, ends_on, ends_to, fine_left, fine_right, gives, idle, none, quiet, quietly, seen_by, seen_then, seq, then_ends, turn_ends, weaken}
 pub use Rattle.expression_code.proofs.TermLengths.{address_length, constant_length, expr_length, height, load_length, one_of, store_length}
 pub use Rattle.expression_code.proofs.TermTypes.{typed_among, typed_within}
-pub use Rattle.expression_code.proofs.Values.{Kept, Ready, kept_by, kept_less, kept_number, kept_then, number_same, put_kept, put_there, ready_after, ready_below, variables_kept}
+pub use Rattle.expression_code.proofs.Values.{Kept, Ready, kept_by, kept_less, kept_number, kept_then, number_same, place_before, place_ends, place_inside, put_kept, put_there, ready_after, ready_below, variables_kept}

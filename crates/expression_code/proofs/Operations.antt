@@ -13,14 +13,14 @@ use Rattle.rv_code.specs.declared.operations.RegisterOperation.TheVariants as re
 use Rattle.rv_code.specs.declared.operations.MultiplyOperation.TheVariants.{Mul}
 use Rattle.rv_machine.specs.Registers.{with_register}
 use Rattle.rv_machine.specs.Effects.{sum_of, sign_extended, register_value, shift_value, multiply_value}
-use Rattle.expression_code.specs.TermCode.{upper_part, lower_part, constant_code, cut_code, Step, between, turned, product, division, step_code, Finish, alone, gives_zero, gives_more, narrowed, of_truths, finish_code, row_of, operator_code, prefix_code, choice_code}
+use Rattle.expression_code.specs.TermCode.{upper_part, lower_part, constant_code, cut_code, Step, between, turned, step_code, Finish, alone, narrowed, of_truths, finish_code, row_of, operator_code, prefix_code, choice_code}
 use Rattle.language.specs.declared.tree.BinaryOperator.{BinaryOperator}
 use Rattle.language.specs.declared.tree.BinaryOperator.TheVariants.{Multiply}
 use Rattle.language.specs.declared.tree.PrefixOperator.{PrefixOperator}
 use Rattle.language.specs.declared.tree.PrefixOperator.TheVariants.{Not, Complement, Negate}
 use Rattle.language.specs.Operators.{divides, operated, prefix_value}
 use Rattle.word.specs.declared.width.Width.{Width}
-use Rattle.word.specs.declared.width.Width.TheVariants.{W8, W16, W32}
+use Rattle.word.specs.declared.width.Width.TheVariants.{W8, W32}
 use Rattle.word.specs.Operators.{converted, rotated_left}
 use Rattle.word.specs.Widths.{bits}
 use Rattle.expression_code.proofs.Arithmetic.{near_field, parts, upper_fits, lower_fits}
@@ -77,18 +77,15 @@ constant_after r n nonzero fits regs = by_test (nat_lt n 2048) refl
 
 amount_within : (w : Width) (amount : ℕ) → amount % bits w < bits w
 amount_within W8 amount = omega arith
-amount_within W16 amount = omega arith
-amount_within W32 amount = omega arith
+amount_within width amount = omega arith
 
 amount_up : (w : Width) (amount : ℕ) → amount < bits w → amount < 32
-amount_up W8 amount within = omega (arith, within)
-amount_up W16 amount within = omega (arith, within)
 amount_up W32 amount within = within
+amount_up width amount within = omega (arith, within)
 
 amount_down : (w : Width) (amount : ℕ) → 0 < amount → bits w - amount < 32
-amount_down W8 amount some = omega arith
-amount_down W16 amount some = omega arith
 amount_down W32 amount some = omega (arith, some)
+amount_down width amount some = omega arith
 
 -- a step that only computes
 abbrev pub is_plain : Step → Bool
@@ -152,14 +149,12 @@ module _ (l r : ℕ) (one : IsFree l) (other : IsFree r) (apart : l ≢ r) where
   -- Cuts.
 
   pub cut_plain : (w : Width) → only_computes (either_of l r) (cut_code l w) ≡ true
-  cut_plain W8 = simp (ll, l32)
-  cut_plain W16 = simp (ll, l32)
   cut_plain W32 = refl
+  cut_plain width = simp (ll, l32)
 
   cut_composed : (w : Width) (regs : ℕ → ℕ) → registers_after (cut_code l w) regs l ≡ cut_value w (regs l)
-  cut_composed W8 regs = simp (ll, l0)
-  cut_composed W16 regs = simp (ll, l0)
   cut_composed W32 regs = refl
+  cut_composed width regs = simp (ll, l0)
 
   pub cut_made : (w : Width) (regs : ℕ → ℕ) → regs l < 2 ^ 32 → registers_after (cut_code l w) regs l ≡ converted w (regs l)
   cut_made w regs fits = cut_composed w regs ∙ cut_computes w (regs l) fits
@@ -169,15 +164,13 @@ module _ (l r : ℕ) (one : IsFree l) (other : IsFree r) (apart : l ≢ r) where
   step_plain : (step : Step) → is_plain step ≡ true → computes (either_of l r) (step_code l r step) ≡ true
   step_plain (between operation) h = simp (ll, l32, r32)
   step_plain (turned operation) h = simp (ll, l32, r32)
-  step_plain product h = absurd (false≢true h)
-  step_plain (division operation) h = absurd (false≢true h)
+  step_plain step h = absurd (false≢true h)
 
   finish_plain : (finish : Finish) (w : Width) (i : Instr) → computes (either_of l r) i ≡ true → only_computes (either_of l r) (finish_code l r w finish i) ≡ true
   finish_plain alone w i ok = simp ok
-  finish_plain gives_zero w i ok = simp (ok, ll, l32)
-  finish_plain gives_more w i ok = simp (ok, ll, l32)
   finish_plain narrowed w i ok = simp (ok, cut_plain w)
   finish_plain of_truths w i ok = simp (ok, rl, ll, rr, l32, r32)
+  finish_plain finish w i ok = simp (ok, ll, l32)
 
   pub operator_plain : (operator : BinaryOperator) (w : Width) → is_plain (row_of operator).step ≡ true → only_computes (either_of l r) (operator_code l r operator w) ≡ true
   operator_plain operator w h = finish_plain (row_of operator).finish w (step_code l r (row_of operator).step) (step_plain (row_of operator).step h)
@@ -189,16 +182,13 @@ module _ (l r : ℕ) (one : IsFree l) (other : IsFree r) (apart : l ≢ r) where
   step_gives : (step : Step) → is_plain step ≡ true → Gives (step_code l r step) (step_value step)
   step_gives (between operation) h = (refl, λ regs. simp (l0, r0))
   step_gives (turned operation) h = (refl, λ regs. simp (l0, r0))
-  step_gives product h = absurd (false≢true h)
-  step_gives (division operation) h = absurd (false≢true h)
+  step_gives step h = absurd (false≢true h)
 
   finish_composed : (finish : Finish) (w : Width) (i : Instr) (v : ℕ → ℕ → ℕ) → written_register i ≡ l → ((regs : ℕ → ℕ) → computed_value i regs ≡ v (regs l) (regs r)) → (regs : ℕ → ℕ)
       → registers_after (finish_code l r w finish i) regs l ≡ finished finish w v (regs l) (regs r)
-  finish_composed alone w i v is value regs = simp (is, value, ll, l0)
-  finish_composed gives_zero w i v is value regs = simp (is, value, ll, l0)
-  finish_composed gives_more w i v is value regs = simp (is, value, ll, l0)
   finish_composed narrowed w i v is value regs = cut_composed w _ ∙ simp (is, value, ll, l0)
   finish_composed of_truths w i v is value regs = simp (is, value, ll, rr, lr, rl, l0, r0)
+  finish_composed finish w i v is value regs = simp (is, value, ll, l0)
 
   pub operator_made : (operator : BinaryOperator) (w : Width) → divides operator ≡ false → is_plain (row_of operator).step ≡ true → (regs : ℕ → ℕ) → regs l < 2 ^ 32 → regs r < 2 ^ 32
       → registers_after (operator_code l r operator w) regs l ≡ operated operator w (regs l) (regs r)

@@ -10,7 +10,7 @@ use Rattle.rv_code.specs.declared.operations.MultiplyOperation.TheVariants.{Mul}
 use Rattle.expression_code.specs.TermCode.{Step, between, turned, product, division, Finish, alone, gives_zero, gives_more, narrowed, of_truths, row_of}
 use Rattle.rv_machine.specs.Effects.{immediate_value, shift_value, register_value, multiply_value, divide_value, sign_extended}
 use Rattle.language.specs.declared.tree.BinaryOperator.{BinaryOperator}
-use Rattle.language.specs.declared.tree.BinaryOperator.TheVariants.{Either, Both, Equal, Unequal, Less, LessOrEqual, Greater, GreaterOrEqual, BitOr, BitXor, BitAnd, ShiftLeft, ShiftRight, Add, Subtract, Multiply, Divide, Remainder}
+use Rattle.language.specs.declared.tree.BinaryOperator.TheVariants.{Either, Both, Equal, Unequal, LessOrEqual, GreaterOrEqual, ShiftLeft, ShiftRight, Add, Subtract, Multiply, Divide, Remainder}
 use Rattle.language.specs.declared.tree.PrefixOperator.{PrefixOperator}
 use Rattle.language.specs.declared.tree.PrefixOperator.TheVariants.{Not, Complement, Negate}
 use Rattle.language.specs.Operators.{truth_of, operated, divides, prefix_value}
@@ -71,22 +71,19 @@ composed_rotate w b amount = around_value w (cut_value w b) (amount % bits w)
 
 pub cut_computes : (w : Width) (b : ℕ) → b < 2 ^ 32 → cut_value w b ≡ converted w b
 cut_computes W8 b fits = and_mask b 8
-cut_computes W16 b fits = omega arith
-cut_computes W32 b fits = omega arith
+cut_computes width b fits = omega arith
 
 -- a number of 32 bits, cut to a width, is the number cut to that width
 cut_word : (w : Width) (n : ℕ) → n % 2 ^ 32 % 2 ^ bits w ≡ n % 2 ^ bits w
 cut_word W8 n = omega arith
-cut_word W16 n = omega arith
-cut_word W32 n = omega arith
+cut_word width n = omega arith
 
 cut_whole : (w : Width) (n : ℕ) → cut_value w (n % 2 ^ 32) ≡ n % 2 ^ bits w
 cut_whole w n = cut_computes w (n % 2 ^ 32) (omega arith) ∙ cut_word w n
 
 cut_difference : (w : Width) (a b : ℕ) → b < 2 ^ 32 → (a + (2 ^ 32 - b % 2 ^ 32)) % 2 ^ bits w ≡ (a + (2 ^ bits w - b % 2 ^ bits w)) % 2 ^ bits w
 cut_difference W8 a b fits = omega arith
-cut_difference W16 a b fits = omega arith
-cut_difference W32 a b fits = omega arith
+cut_difference width a b fits = omega arith
 
 -- Truths.
 
@@ -125,13 +122,8 @@ operator_computes Either w a b d p q = either_truth (nat_lt 0 a) (nat_lt 0 b) �
 operator_computes Both w a b d p q = both_truth (nat_lt 0 a) (nat_lt 0 b) ∙ ap₂ (λ x y. word_of (x && y)) (not_zero a) (not_zero b)
 operator_computes Equal w a b d p q = ap word_of (is_zero (register_value register.Sub a b) ∙ no_difference a b p q)
 operator_computes Unequal w a b d p q = ap word_of (not_zero (register_value register.Sub a b) ∙ ap not (no_difference a b p q))
-operator_computes Less w a b d p q = refl
 operator_computes LessOrEqual w a b d p q = other_way (nat_lt b a) ∙ ap word_of (not_less a b)
-operator_computes Greater w a b d p q = refl
 operator_computes GreaterOrEqual w a b d p q = other_way (nat_lt a b) ∙ ap word_of (not_less b a)
-operator_computes BitOr w a b d p q = refl
-operator_computes BitXor w a b d p q = refl
-operator_computes BitAnd w a b d p q = refl
 operator_computes ShiftLeft w a b d p q = cut_whole w (a * 2 ^ (b % 32))
 operator_computes ShiftRight w a b d p q = cut_whole w (a / 2 ^ (b % 32))
 operator_computes Add w a b d p q = cut_whole w (a + b)
@@ -139,6 +131,7 @@ operator_computes Subtract w a b d p q = cut_whole w (a + (2 ^ 32 - b % 2 ^ 32))
 operator_computes Multiply w a b d p q = cut_whole w (a * b)
 operator_computes Divide w a b d p q = absurd (true≢false d)
 operator_computes Remainder w a b d p q = absurd (true≢false d)
+operator_computes operator w a b d p q = refl
 
 -- Operators before the value.
 
@@ -147,13 +140,11 @@ one_less b fits = omega arith
 
 cut_complement : (w : Width) (b : ℕ) → b < 2 ^ 32 → (2 ^ 32 - 1 - b) % 2 ^ bits w ≡ 2 ^ bits w - 1 - b % 2 ^ bits w
 cut_complement W8 b fits = omega arith
-cut_complement W16 b fits = omega arith
-cut_complement W32 b fits = omega arith
+cut_complement width b fits = omega arith
 
 cut_negative : (w : Width) (b : ℕ) → b < 2 ^ 32 → (0 + (2 ^ 32 - b % 2 ^ 32)) % 2 ^ bits w ≡ (2 ^ bits w - b % 2 ^ bits w) % 2 ^ bits w
 cut_negative W8 b fits = omega arith
-cut_negative W16 b fits = omega arith
-cut_negative W32 b fits = omega arith
+cut_negative width b fits = omega arith
 
 pub prefix_computes : (operator : PrefixOperator) (w : Width) (b : ℕ) → b < 2 ^ 32 → composed_prefix operator w b ≡ prefix_value operator w b
 prefix_computes Not w b fits = ap word_of (grind (arith, nat_tests))
@@ -164,21 +155,18 @@ prefix_computes Negate w b fits = cut_whole w (0 + (2 ^ 32 - b % 2 ^ 32)) ∙ cu
 
 narrow : (w : Width) → bits w ≤ 32
 narrow W8 = omega arith
-narrow W16 = omega arith
-narrow W32 = omega arith
+narrow width = omega arith
 
 wide : (w : Width) → 0 < bits w
 wide W8 = omega arith
-wide W16 = omega arith
-wide W32 = omega arith
+wide width = omega arith
 
 joined : (x y : ℕ) → (x % 2 ^ 32 + y % 2 ^ 32) % 2 ^ 32 ≡ (x + y) % 2 ^ 32
 joined x y = omega arith
 
 unmoved : (w : Width) (n : ℕ) → n < 2 ^ bits w → n ≡ (n * 2 ^ 0 + n / 2 ^ (bits w - 0)) % 2 ^ bits w
 unmoved W8 n fits = omega arith
-unmoved W16 n fits = omega arith
-unmoved W32 n fits = omega arith
+unmoved width n fits = omega arith
 
 -- both parts of a word that is moved by at least 1
 moved : (w : Width) (n j : ℕ) → 0 < j → j < bits w

@@ -9,7 +9,7 @@ use Rattle.inline.specs.declared.flat.FlatVariable.{FlatVariable}
 use Rattle.inline.specs.Flat.{numbers_in}
 use Rattle.inline.specs.FlatSize.{words_of, words_by, declared_words}
 use Rattle.language.specs.declared.signature.Kind.{Kind}
-use Rattle.language.specs.declared.signature.Kind.TheVariants.{Boolean, Uint8, Uint16, Uint32}
+use Rattle.language.specs.declared.signature.Kind.TheVariants.{Boolean}
 use Rattle.language.specs.declared.typing.WordType.{WordType}
 use Rattle.language.specs.Size.{element_bytes}
 
@@ -17,9 +17,7 @@ use Rattle.language.specs.Size.{element_bytes}
 
 scaled : (kind : Kind) (size i : ℕ) → i < size → element_bytes kind * i + element_bytes kind ≤ 4 * ((size * element_bytes kind + 3) / 4)
 scaled Boolean size i below = omega (arith, below)
-scaled Uint8 size i below = omega (arith, below)
-scaled Uint16 size i below = omega (arith, below)
-scaled Uint32 size i below = omega (arith, below)
+scaled kind size i below = omega (arith, below)
 
 in_words : (word : WordType) (elements : Option ℕ) (i : ℕ) → i < numbers_in elements → bytes_by word.kind elements * i + bytes_by word.kind elements ≤ 4 * words_by word elements
 in_words word None i below = omega (arith, below)
@@ -34,9 +32,7 @@ place_within declared x d i below =
 some_times : (kind : Kind) (elements : Option ℕ) (n i : ℕ) → (4 * n + bytes_by kind elements * i) % bytes_by kind elements ≡ 0
 some_times kind None n i = omega arith
 some_times Boolean (Some size) n i = omega arith
-some_times Uint8 (Some size) n i = omega arith
-some_times Uint16 (Some size) n i = omega arith
-some_times Uint32 (Some size) n i = omega arith
+some_times kind (Some size) n i = omega arith
 
 pub place_aligned : (declared : List FlatVariable) (x : ℕ) (d : FlatVariable) (i frame : ℕ) → frame % 4 ≡ 0 → (frame + place_of declared x d i) % bytes_of d ≡ 0
 place_aligned declared x d i frame even =

@@ -3,28 +3,25 @@ use Rattle.std.proofs.Common.{ℕ, ◌+◌, ◌*◌, ◌%◌, ◌≤◌, ◌==�
 use Rattle.std.proofs.Math.Nat.{max-le}
 use Rattle.expression_code.specs.Layout.{variable_offset}
 use Rattle.expression_code.specs.Registers.{register_count, home, slot_of}
-use Rattle.expression_code.specs.TermCode.{load_code, store_code, constant_code, fetch_code, keep_code, expr_code, height_of, cut_code, Finish, alone, gives_zero, gives_more, narrowed, of_truths, finish_code, step_code, row_of, operator_code, prefix_code, around_code, rotate_code, scale_code, raise_code, address_code, kind_at}
+use Rattle.expression_code.specs.TermCode.{load_code, store_code, constant_code, fetch_code, keep_code, expr_code, height_of, cut_code, Finish, narrowed, finish_code, step_code, row_of, operator_code, prefix_code, around_code, rotate_code, scale_code, raise_code, address_code, kind_at}
 use Rattle.inline.specs.declared.flat.FlatVariable.{FlatVariable}
 use Rattle.inline.specs.Flat.{TermTree, number, truth, variable, prefix, binary, rotate, convert, select, element}
 use Rattle.inline.specs.FlatSize.{term_nodes}
 use Rattle.rv_code.specs.declared.instructions.Instr.{Instr}
 use Rattle.language.specs.declared.signature.Kind.{Kind}
-use Rattle.language.specs.declared.signature.Kind.TheVariants.{Boolean, Uint8, Uint16, Uint32}
+use Rattle.language.specs.declared.signature.Kind.TheVariants.{Boolean}
 use Rattle.language.specs.declared.tree.BinaryOperator.{BinaryOperator}
 use Rattle.language.specs.declared.tree.PrefixOperator.{PrefixOperator}
 use Rattle.language.specs.declared.tree.PrefixOperator.TheVariants as prefixes
 use Rattle.language.specs.Operators.{width_of}
 use Rattle.word.specs.declared.width.Width.{Width}
-use Rattle.word.specs.declared.width.Width.TheVariants.{W8, W16, W32}
+use Rattle.word.specs.declared.width.Width.TheVariants.{W8}
 use Rattle.word.specs.Operators.{word_of}
 use Rattle.word.specs.Widths.{bits}
 
 -- Temporaries.
 
 pub height : (e : TermTree) → height_of e + 1 ≤ term_nodes e
-height (number value kind) = omega arith
-height (truth value) = omega arith
-height (variable x) = omega arith
 height (prefix operator width operand) = omega (arith, height operand)
 height (binary place operator width one other) =
     let a = height one in
@@ -41,6 +38,7 @@ height (select condition accepted otherwise) =
     let outer : max (height_of condition) (1 + max (height_of accepted) (1 + height_of otherwise)) ≤ term_nodes condition + term_nodes accepted + term_nodes otherwise = max-le (omega (arith, h, i, j)) (omega (arith, inner, h)) in
     omega (arith, outer)
 height (element place x size index) = omega (arith, height index)
+height e = omega arith
 
 -- Instructions.
 
@@ -65,15 +63,11 @@ keep_length free place = one_of (nat_lt place register_count) _ _ 3 (omega arith
 
 pub cut_length : (r : ℕ) (w : Width) → length (cut_code r w) ≤ 2
 cut_length r W8 = omega arith
-cut_length r W16 = omega arith
-cut_length r W32 = omega arith
+cut_length r width = omega arith
 
 finish_length : (l r : ℕ) (w : Width) (f : Finish) (i : Instr) → length (finish_code l r w f i) ≤ 4
-finish_length l r w alone i = omega arith
-finish_length l r w gives_zero i = omega arith
-finish_length l r w gives_more i = omega arith
 finish_length l r w narrowed i = omega (arith, cut_length l w)
-finish_length l r w of_truths i = omega arith
+finish_length l r w finish i = omega arith
 
 pub operator_length : (l r : ℕ) (o : BinaryOperator) (w : Width) → length (operator_code l r o w) ≤ 4
 operator_length l r o w = finish_length l r w (row_of o).finish (step_code l r (row_of o).step)
@@ -91,9 +85,7 @@ rotate_length r w amount = simp length-append (omega (arith, cut_length r w, aro
 
 scale_length : (r : ℕ) (kind : Kind) → length (scale_code r kind) ≤ 1
 scale_length r Boolean = omega arith
-scale_length r Uint8 = omega arith
-scale_length r Uint16 = omega arith
-scale_length r Uint32 = omega arith
+scale_length r kind = omega arith
 
 raise_length : (r o : ℕ) → length (raise_code r o) ≤ 2
 raise_length r o = one_of (nat_lt o 2048) _ _ 2 (omega arith) (omega arith)

@@ -15,7 +15,8 @@ use Rattle.rv_machine.specs.Machine as machine
 use Rattle.expression_code.proofs.Held.{HeldAt, Held}
 use Rattle.expression_code.proofs.Masks.{mask_of}
 use Rattle.expression_code.proofs.Pieces.{Put}
-use Rattle.expression_code.proofs.Places.{bytes_of, place_of, place_within, ends_before_result}
+use Rattle.expression_code.proofs.Places.{bytes_of, place_of, place_aligned, place_within, ends_before_result}
+use Rattle.expression_code.proofs.Steps.{Inside}
 use Rattle.expression_code.proofs.Straight.{Setting, base_of}
 
 -- bytes below an offset are as they were
@@ -80,21 +81,32 @@ put_there z r o v env s t put is below =
     let cut : v % 256 ^ 4 ≡ v = omega (arith, below) in
     ap (λ (b : ByteMap). number_at b 4 (z.frame + o)) put.written ∙ (number_at-with_number s.bytes 4 (z.frame + o) (s.regs r) ∙ ap Some (ap (λ x. x % 256 ^ 4) is ∙ cut))
 
--- a number of a variable lies below all others that are laid out
-pub place_below : (z : Setting) (x : ℕ) (d : FlatVariable) (i : ℕ) → slice_get z.declared x ≡ Some d → i < numbers_in d.elements → place_of z.declared x d i + bytes_of d ≤ base_of z
-place_below z x d i is below =
+-- a number of a variable lies before the result
+pub place_before : (z : Setting) (x : ℕ) (d : FlatVariable) (i : ℕ) → slice_get z.declared x ≡ Some d → i < numbers_in d.elements → place_of z.declared x d i + bytes_of d ≤ result_offset z.declared
+place_before z x d i is below =
     let h = place_within z.declared x d i below in
     let e = ends_before_result z.declared x d is in
     omega (arith, h, e)
+
+-- so inside the frame
+pub place_ends : (z : Setting) (x : ℕ) (d : FlatVariable) (i : ℕ) → slice_get z.declared x ≡ Some d → i < numbers_in d.elements → place_of z.declared x d i + bytes_of d ≤ z.size
+place_ends z x d i is below =
+    let h = place_before z x d i is below in
+    let room = z.room in
+    omega (arith, h, room)
+
+pub place_inside : (z : Setting) (x : ℕ) (d : FlatVariable) (i : ℕ) → slice_get z.declared x ≡ Some d → i < numbers_in d.elements → Inside z (bytes_of d) (z.frame + place_of z.declared x d i)
+place_inside z x d i is below =
+    let h = place_ends z x d i is below in
+    record { even = place_aligned z.declared x d i z.frame z.even; low = omega arith; high = omega (arith, h) }
 
 -- variables stay where nothing before the result is written
 pub variables_kept : (z : Setting) (free : ℕ) (env : StraightState) (s t : machine.State) → result_offset z.declared ≤ free → Ready z env s → Kept z free s t
     → (x : ℕ) (d : FlatVariable) (i : ℕ) → slice_get z.declared x ≡ Some d → i < numbers_in d.elements
     → number_at t.bytes (bytes_of d) (z.frame + place_of z.declared x d i) ≡ Some (slice_index (env.variables x) i)
 variables_kept z free env s t above ready kept x d i is below =
-    let w = place_within z.declared x d i below in
-    let e = ends_before_result z.declared x d is in
-    kept_number z free s t kept (bytes_of d) (place_of z.declared x d i) (omega (arith, w, e, above)) ∙ ready.variables_there x d i is below
+    let h = place_before z x d i is below in
+    kept_number z free s t kept (bytes_of d) (place_of z.declared x d i) (omega (arith, h, above)) ∙ ready.variables_there x d i is below
 
 -- what is shown stays shown where nothing before the loops' words is
 pub ready_below : (z : Setting) (free : ℕ) → next_offset z.declared z.controls 0 ≤ free → (env : StraightState) (s t : machine.State) → Ready z env s → HeldAt z t → Kept z free s t → Ready z env t

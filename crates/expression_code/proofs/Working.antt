@@ -13,7 +13,7 @@ use Rattle.rv_code.specs.declared.operations.DivideOperation.TheVariants.{Divu, 
 use Rattle.rv_machine.specs.Effects.{multiply_value, divide_value}
 use Rattle.rv_machine.specs.Machine as machine
 use Rattle.language.specs.declared.tree.BinaryOperator.{BinaryOperator}
-use Rattle.language.specs.declared.tree.BinaryOperator.TheVariants.{Either, Both, Equal, Unequal, Less, LessOrEqual, Greater, GreaterOrEqual, BitOr, BitXor, BitAnd, ShiftLeft, ShiftRight, Add, Subtract, Multiply, Divide, Remainder}
+use Rattle.language.specs.declared.tree.BinaryOperator.TheVariants.{Multiply, Divide, Remainder}
 use Rattle.language.specs.Operators.{divides, operated}
 use Rattle.word.specs.declared.place.Place.{Place}
 use Rattle.word.specs.declared.width.Width.{Width}
@@ -165,19 +165,5 @@ module _ (z : Setting) where
           same = moves.same;
         })
         (divides_runs Remu))
-    operator_runs Either = plainly Either refl refl
-    operator_runs Both = plainly Both refl refl
-    operator_runs Equal = plainly Equal refl refl
-    operator_runs Unequal = plainly Unequal refl refl
-    operator_runs Less = plainly Less refl refl
-    operator_runs LessOrEqual = plainly LessOrEqual refl refl
-    operator_runs Greater = plainly Greater refl refl
-    operator_runs GreaterOrEqual = plainly GreaterOrEqual refl refl
-    operator_runs BitOr = plainly BitOr refl refl
-    operator_runs BitXor = plainly BitXor refl refl
-    operator_runs BitAnd = plainly BitAnd refl refl
-    operator_runs ShiftLeft = plainly ShiftLeft refl refl
-    operator_runs ShiftRight = plainly ShiftRight refl refl
-    operator_runs Add = plainly Add refl refl
-    operator_runs Subtract = plainly Subtract refl refl
     operator_runs Multiply = product_runs
+    operator_runs operator = plainly operator refl refl
