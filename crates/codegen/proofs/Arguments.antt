@@ -179,8 +179,6 @@ module _ (frame size : ℕ) where
   laid bytes low [] [] declared x d i within first blank is below inside =
       blank_number low bytes (bytes_of d) (low + place_of declared x d i) blank (omega arith) (omega (arith, inside))
       ∙ ap Some (sym (ap (λ (l : List ℕ). slice_index l i) (given_none declared x d is) ∙ zero_at (numbers_in d.elements) i))
-  laid bytes low [] (arg ∷ args) declared x d i within first blank is below inside = absurd within
-  laid bytes low (p ∷ ps) [] declared x d i within first blank is below inside = absurd within
   laid bytes low (p ∷ ps) (arg ∷ args) [] x d i within first blank is below inside = absurd (no_cons (declaration_of p) (map declaration_of ps) first)
   laid bytes low (p ∷ ps) (arg ∷ args) (e ∷ ds) zero d i within first blank is below inside =
       let next = with_argument frame bytes (record { param = p; offset = low }) arg in
@@ -201,6 +199,7 @@ module _ (frame size : ℕ) where
       ∙ laid next at ps args ds x d i within.1 (tail_is e (declaration_of p) (take (length ps) ds) (map declaration_of ps) first)
       (λ o above less. argument_above frame p bytes low arg (frame + o) within.0 (omega (arith, above)) ∙ blank o (omega (arith, above)) less)
       is below (omega (arith, inside, kind))
+  laid bytes low ps args declared x d i within first blank is below inside = absurd within
 
 -- Values within their kinds.
 
@@ -217,13 +216,12 @@ held_zeros d = record { count = length-replicate (numbers_in d.elements) 0; with
 -- each variable holds what it is declared as in the beginning
 pub given_fits : (profile : Profile) (ps : List Param) (args : List Arg) (declared : List FlatVariable) → AreWithin ps args → take (length ps) declared ≡ map declaration_of ps → Fits (types_of profile declared) (given declared args)
 given_fits profile [] [] declared within first x d is = subst (λ (l : List ℕ). IsHeld d l) (sym (given_none declared x d is)) (held_zeros d)
-given_fits profile [] (arg ∷ args) declared within first x d is = absurd within
-given_fits profile (p ∷ ps) [] declared within first x d is = absurd within
 given_fits profile (p ∷ ps) (arg ∷ args) [] within first x d is = absurd (no_cons (declaration_of p) (map declaration_of ps) first)
 given_fits profile (p ∷ ps) (arg ∷ args) (e ∷ ds) within first zero d is =
     subst (λ (f : FlatVariable). IsHeld f (words_of arg)) (sym (head_is e (declaration_of p) (take (length ps) ds) (map declaration_of ps) first) ∙ same_Some e d is) (held_argument p arg within.0)
 given_fits profile (p ∷ ps) (arg ∷ args) (e ∷ ds) within first (suc x) d is =
     given_fits profile ps args ds within.1 (tail_is e (declaration_of p) (take (length ps) ds) (map declaration_of ps) first) x d is
+given_fits profile ps args declared within first x d is = absurd within
 
 -- the parameters end where the other variables begin, or before
 words_first : (ps : List Param) (declared : List FlatVariable) → take (length ps) declared ≡ map declaration_of ps → declared_words (map declaration_of ps) ≤ declared_words declared

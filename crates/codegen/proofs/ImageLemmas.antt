@@ -12,7 +12,7 @@ use Rattle.image_fields.specs.declared.slot.Slot.{Slot}
 use Rattle.image_fields.specs.declared.slot.ResultSlot.{ResultSlot}
 use Rattle.language.specs.Limits.{most_elements}
 use Rattle.language.specs.declared.signature.Form.{Form}
-use Rattle.language.specs.declared.signature.Form.TheVariants.{SingleWord, FixedArray, MutableArray}
+use Rattle.language.specs.declared.signature.Form.TheVariants.{SingleWord, FixedArray}
 use Rattle.language.specs.declared.signature.Kind.{Kind}
 use Rattle.language.specs.declared.signature.Kind.TheVariants.{Boolean}
 use Rattle.language.specs.declared.signature.Param.{Param}
@@ -45,8 +45,7 @@ among_lengths n some few = and_from _ _ (le-leb 1 n some) (le-leb n most_element
 
 length_allowed : (form : Form) (n : ℕ) → HasLength form n → is_length form n ≡ true
 length_allowed SingleWord n is = eq-eqb n 1 is
-length_allowed FixedArray n is = among_lengths n is.0 is.1
-length_allowed MutableArray n is = among_lengths n is.0 is.1
+length_allowed form n is = among_lengths n is.0 is.1
 
 some_words : (kind : Kind) (n : ℕ) → 1 ≤ n → 1 ≤ array_words kind n
 some_words Boolean n some = omega (arith, some)
@@ -55,8 +54,7 @@ some_words kind n some = omega (arith, some)
 -- a parameter takes a word at least
 held_some : (form : Form) (kind : Kind) (n : ℕ) → HasLength form n → 1 ≤ held_words form kind n
 held_some SingleWord kind n is = omega arith
-held_some FixedArray kind n is = some_words kind n is.0
-held_some MutableArray kind n is = some_words kind n is.0
+held_some form kind n is = some_words kind n is.0
 
 -- so there are no more of them than words
 pub count_in_words : (ps : List Param) → AreLengths ps → length ps ≤ words_in ps

@@ -78,6 +78,5 @@ Left frame declared (Some value) m bytes = number_at bytes 4 (frame + result_off
 pub returned_is : (frame : ℕ) (declared : List FlatVariable) (types : Types) (returned : Option WordType) (value : Option TermTree) (m : Values) (bytes : ByteMap) → IsResult types returned value → Left frame declared value m bytes
     → option_map (λ slot. word_in frame bytes slot.offset) (option_map (result_slot declared) returned) ≡ option_map (value_in m) value
 returned_is frame declared types None None m bytes typed left = refl
-returned_is frame declared types None (Some value) m bytes typed left = absurd typed
-returned_is frame declared types (Some word) None m bytes typed left = absurd typed
 returned_is frame declared types (Some word) (Some value) m bytes typed left = ap (λ o. Some (unwrap_or o 0)) left
+returned_is frame declared types returned value m bytes typed left = absurd typed

@@ -92,8 +92,7 @@ result_among profile declared None None typed e is = absurd (no_result is)
     no_result : None ≡ Some e → ⊥
     no_result h = cc
 result_among profile declared (Some word) (Some value) typed e is = subst (IsAmong (length declared)) (same_Some value e is) (typed_among profile declared typed.has_type)
-result_among profile declared None (Some value) typed e is = absurd typed
-result_among profile declared (Some word) None typed e is = absurd typed
+result_among profile declared returned value typed e is = absurd typed
 
 -- the statements have their places
 pub body_placed : (p : StraightProgram) → HasRoom p → HavePlaces p.declared p.controls (depth_in_all p.body) 0 p.body

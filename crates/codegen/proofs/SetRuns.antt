@@ -154,9 +154,8 @@ module _ (z : Setting) where
       (λ env s t ready done. done.second.held)))
     where
       single : (l : List ℕ) → length l ≡ 1 → l ≡ slice_index l 0 ∷ []
-      single [] one = absurd (omega (arith, one))
       single (x ∷ []) one = refl
-      single (x ∷ y ∷ l) one = absurd (omega (arith, one))
+      single l one = absurd (omega (arith, one))
 
   pub take_runs : (depth c : ℕ) (within : Option ℕ) (condition : TermTree) (label : Label) → c + 1 < z.controls → IsAmong z.controls within → HasType (types_of z.code.profile z.declared) condition (labelled Boolean label) → base_of z + 4 * slots_to (height_of condition) ≤ z.size → depth ≤ z.depths
       → Runs z (32 * (1 + term_nodes condition)) (steps_of condition) (statement_code z.declared z.controls z.depths depth (take c within condition)) (Ready z) (Shown z depth (λ env. after env (take c within condition)))

@@ -72,9 +72,8 @@ cut_element Boolean size v h = omega (arith, h)
 cut_element kind size v h = omega (arith, h)
 
 alone : (l : List ℕ) (v : ℕ) → length l ≡ 1 → slice_set l 0 v ≡ v ∷ []
-alone [] v one = absurd (omega (arith, one))
 alone (x ∷ []) v one = refl
-alone (x ∷ y ∷ l) v one = absurd (omega (arith, one))
+alone l v one = absurd (omega (arith, one))
 
 module _ (z : Setting) where
   -- a number elsewhere is as it was

@@ -1,5 +1,5 @@
 -- States of code that keeps to its frame.
-use Rattle.std.proofs.Common.{◌≡◌, ℕ, zero, suc, ◌+◌, ◌<◌, ◌≤◌, true, ◌&&◌, Option, Some, None, is_some, refl, sym, ap, ap₂, ◌∙◌, arith}
+use Rattle.std.proofs.Common.{◌≡◌, ℕ, zero, suc, ◌+◌, ◌<◌, ◌≤◌, true, ◌&&◌, Option, Some, is_some, refl, sym, ap, ap₂, ◌∙◌, arith}
 use Rattle.rv_machine.specs.Bytes.{ByteMap, joined, number_at, with_number}
 use Rattle.rv_machine.proofs.ByteLaws.{number_at-suc, number_at-zero, is_some-with_number}
 use Rattle.rv_machine.specs.Machine.{State}
@@ -17,8 +17,7 @@ Held z env s = HeldAt z s
 
 is_some-joined : (a b : Option ℕ) → is_some (joined a b) ≡ (is_some a && is_some b)
 is_some-joined (Some x) (Some y) = refl
-is_some-joined (Some x) None = refl
-is_some-joined None b = refl
+is_some-joined a b = refl
 
 -- a number is data where each of its bytes is
 pub number_there : (bytes : ByteMap) (n a : ℕ) → ((i : ℕ) → i < n → is_some (bytes (a + i)) ≡ true) → is_some (number_at bytes n a) ≡ true

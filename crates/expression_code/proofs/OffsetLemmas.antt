@@ -6,7 +6,7 @@ use Rattle.image_fields.specs.declared.slot.Slot.{Slot}
 use Rattle.inline.specs.Flat.{declaration_of, elements_by}
 use Rattle.language.specs.Size.{held_words}
 use Rattle.language.specs.declared.signature.Form.{Form}
-use Rattle.language.specs.declared.signature.Form.TheVariants.{SingleWord, FixedArray, MutableArray}
+use Rattle.language.specs.declared.signature.Form.TheVariants.{SingleWord}
 use Rattle.language.specs.declared.signature.Kind.{Kind}
 use Rattle.language.specs.declared.signature.Label.{Label}
 use Rattle.language.specs.declared.signature.Param.{Param}
@@ -46,8 +46,7 @@ kind_listed (d ∷ ds) (suc x) e below = kind_listed ds x e (omega (arith, below
 
 words_held : (form : Form) (kind : Kind) (label : Label) (n : ℕ) → held_words form kind n ≡ words_by (record { kind = kind; label = label }) (elements_by form n)
 words_held SingleWord kind label n = refl
-words_held FixedArray kind label n = refl
-words_held MutableArray kind label n = refl
+words_held form kind label n = refl
 
 pub parameter_words : (p : Param) → held_words p.form p.kind p.length ≡ words_of (declaration_of p)
 parameter_words p = words_held p.form p.kind p.label p.length

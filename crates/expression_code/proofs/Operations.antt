@@ -17,7 +17,7 @@ use Rattle.expression_code.specs.TermCode.{upper_part, lower_part, constant_code
 use Rattle.language.specs.declared.tree.BinaryOperator.{BinaryOperator}
 use Rattle.language.specs.declared.tree.BinaryOperator.TheVariants.{Multiply}
 use Rattle.language.specs.declared.tree.PrefixOperator.{PrefixOperator}
-use Rattle.language.specs.declared.tree.PrefixOperator.TheVariants.{Not, Complement, Negate}
+use Rattle.language.specs.declared.tree.PrefixOperator.TheVariants.{Not}
 use Rattle.language.specs.Operators.{divides, operated, prefix_value}
 use Rattle.word.specs.declared.width.Width.{Width}
 use Rattle.word.specs.declared.width.Width.TheVariants.{W8, W32}
@@ -203,13 +203,11 @@ module _ (l r : ℕ) (one : IsFree l) (other : IsFree r) (apart : l ≢ r) where
 
   pub prefix_plain : (operator : PrefixOperator) (w : Width) → only_computes (either_of l r) (prefix_code l operator w) ≡ true
   prefix_plain Not w = simp (ll, l32)
-  prefix_plain Complement w = simp (ll, l32, cut_plain w)
-  prefix_plain Negate w = simp (ll, l32, cut_plain w)
+  prefix_plain operator w = simp (ll, l32, cut_plain w)
 
   prefix_composed : (operator : PrefixOperator) (w : Width) (regs : ℕ → ℕ) → registers_after (prefix_code l operator w) regs l ≡ composed_prefix operator w (regs l)
   prefix_composed Not w regs = simp (ll, l0)
-  prefix_composed Complement w regs = cut_composed w _ ∙ simp (ll, l0)
-  prefix_composed Negate w regs = cut_composed w _ ∙ simp (ll, l0)
+  prefix_composed operator w regs = cut_composed w _ ∙ simp (ll, l0)
 
   pub prefix_made : (operator : PrefixOperator) (w : Width) (regs : ℕ → ℕ) → regs l < 2 ^ 32 → registers_after (prefix_code l operator w) regs l ≡ prefix_value operator w (regs l)
   prefix_made operator w regs fits = prefix_composed operator w regs ∙ prefix_computes operator w (regs l) fits

@@ -74,8 +74,7 @@ operator_length l r o w = finish_length l r w (row_of o).finish (step_code l r (
 
 pub prefix_length : (r : ℕ) (o : PrefixOperator) (w : Width) → length (prefix_code r o w) ≤ 4
 prefix_length r prefixes.Not w = omega arith
-prefix_length r prefixes.Complement w = omega (arith, cut_length r w)
-prefix_length r prefixes.Negate w = omega (arith, cut_length r w)
+prefix_length r operator w = omega (arith, cut_length r w)
 
 around_length : (r : ℕ) (w : Width) (amount : ℕ) → length (around_code r w amount) ≤ 5
 around_length r w amount = one_of (amount == 0) _ _ 5 (omega arith) (omega (arith, cut_length r w))
