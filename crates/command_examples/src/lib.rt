@@ -9,6 +9,8 @@ mod listings;
 #[cfg(test)]
 mod memory_files;
 #[cfg(test)]
+mod one_file;
+#[cfg(test)]
 mod profiles;
 #[cfg(test)]
 mod side_by_side;

@@ -1,4 +1,4 @@
-ghost use Rattle.std.specs.Prelude.{◌≤◌};
+ghost use Rattle.std.specs.Prelude.{◌≤◌, false, None};
 
 use commands::Files;
 use std::alloc::Global;
@@ -70,6 +70,10 @@ impl MemoryFiles {
 }
 
 impl Files for MemoryFiles {
+    ghost TELLS = { false };
+
+    ghost contents = { λ _ _. None };
+
     fn read(&self, alloc: Global, path: &str, limit: usize) -> Result<Vec<u8>, ReadFault> {
         let bytes = if path == PLAN {
             self.plan.as_slice()

@@ -1,18 +1,24 @@
 // One run of an image for all values of the arguments that are not given.
 
-ghost use Rattle.std.specs.Prelude.{◌≤◌, IfOk};
+ghost use Rattle.std.specs.Prelude.{◌≡◌, ◌≢◌, ◌≤◌, ◌++◌, ℕ, List, Some, None, map, codes, IsTrue, IfOk, IfErr};
+ghost use Rattle.std.specs.Fmt.{decimal};
+ghost use Rattle.codegen.specs.Loaded.{code_at};
+ghost use Rattle.commands.specs.Certificates.{StandsInCode, PrintsCertificate, certificate_status, SaysCertificate, RefusesCertificate};
+ghost use Rattle.hepurita.specs.Bases.{code_base};
+ghost use Rattle.listing.specs.Code.{IsLineAt};
+ghost use Rattle.listing.specs.Lines.{stop_line};
+ghost use Rattle.rv_machine.specs.Machine.{word_at};
 
 use crate::fault::Fault;
 use crate::files::Files;
-use crate::images::image_of;
-use crate::performing::{DONE, MAY_DIFFER, STOPPED};
+use crate::images::{image_of, status_of};
+use crate::performing::MAY_DIFFER;
 use certificates::{Certificate, certify, read_given};
 use hepurita::params;
 use image::Image;
 use listing::{line_at, stop_line};
 use rv_machine::Stop;
 use std::alloc::{AllocError, Global};
-use std::fmt::Write;
 
 /// Whether an observer sees the same of an image for all values of the arguments that are not given, as lines, and the
 /// exit status.
@@ -23,44 +29,57 @@ pub fn certify_image<'a, F: Files>(
     files: &F,
 ) -> Result<(Vec<u8>, u8), Fault<'a>>
     ensures known { IfOk result (λ said. said.1 ≤ 5) }
+    ensures said { IsTrue F.TELLS → IfOk result (λ said. SaysCertificate (F.contents files.now) path.now (map (λ word. word.now) arguments.now) said.0.items said.1) }
+    ensures refused { IsTrue F.TELLS → IfErr result (RefusesCertificate (F.contents files.now) path.now (map (λ word. word.now) arguments.now)) }
 {
     let image = image_of(alloc, path, files)?;
     let params = params(alloc, &image)?;
     let given = read_given(alloc, params.as_slice(), arguments)?;
     let certificate = certify(alloc, &image, given.as_slice())?;
     let text = text_of(alloc, &image, certificate)?;
-    Ok((text, status_of(certificate)))
+    Ok((text, status_of_certificate(certificate)))
 }
 
 /// A certificate as lines: `same` and the stop, or where runs may begin to differ and the line of the word there.
-fn text_of(alloc: Global, image: &Image, certificate: Certificate) -> Result<Vec<u8>, AllocError> {
+fn text_of(alloc: Global, image: &Image, certificate: Certificate) -> Result<Vec<u8>, AllocError>
+    requires { StandsInCode image.now certificate }
+    ensures { IfOk result (λ text. PrintsCertificate image.now certificate text.items) }
+{
     match certificate {
-        Certificate::Same { stop, .. } => {
-            let mut text = Vec::from_slice(alloc, b"same\n")?;
-            text.extend_from_slice(stop_line(stop).as_slice())?;
-            Ok(text)
-        }
-        Certificate::MayDiffer { entry, pc } => {
-            let head = format!(in alloc; "may differ at {entry}\n")?;
-            let mut text = Vec::from_slice(alloc, head.as_bytes())?;
-            if let Some(line) = line_at(alloc, image, pc)? {
-                text.extend_from_slice(line.as_slice())?;
-            }
-            Ok(text)
-        }
+        Certificate::Same { stop, .. } => same_text(alloc, stop),
+        Certificate::MayDiffer { entry, pc } => difference_text(alloc, image, entry, pc),
     }
 }
 
+/// `same`, and the line of the stop.
+fn same_text(alloc: Global, stop: Stop) -> Result<Vec<u8>, AllocError>
+    ensures { IfOk result (λ text. text.items ≡ codes "same\n" ++ stop_line stop) }
+{
+    let mut text = Vec::from_slice(alloc, b"same\n")?;
+    text.extend_from_slice(stop_line(stop).as_slice())?;
+    Ok(text)
+}
+
+/// Where runs may begin to differ, and the line of the word there.
+fn difference_text(alloc: Global, image: &Image, entry: u64, pc: u32) -> Result<Vec<u8>, AllocError>
+    requires { word_at (code_at code_base image.now) pc ≢ None }
+    ensures { IfOk result (λ text. (line : List ℕ) × IsLineAt (code_at code_base image.now) pc (Some line) × (text.items ≡ codes "may differ at " ++ decimal entry ++ codes "\n" ++ line)) }
+{
+    let head = format!(in alloc; "may differ at {entry}\n")?;
+    let mut text = Vec::from_slice(alloc, head.as_bytes())?;
+    if let Some(line) = line_at(alloc, image, pc)? {
+        text.extend_from_slice(line.as_slice())?;
+    }
+    Ok(text)
+}
+
 /// The exit status of a certificate.
-fn status_of(certificate: Certificate) -> u8
-    ensures { result ≤ 5 }
+fn status_of_certificate(certificate: Certificate) -> u8
+    ensures exact { result ≡ certificate_status certificate }
+    ensures known { result ≤ 5 }
 {
     match certificate {
-        Certificate::Same {
-            stop: Stop::Ecall,
-            ..
-        } => DONE,
-        Certificate::Same { .. } => STOPPED,
+        Certificate::Same { stop, .. } => status_of(stop),
         Certificate::MayDiffer { .. } => MAY_DIFFER,
     }
 }

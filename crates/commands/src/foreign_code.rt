@@ -1,5 +1,9 @@
 // An image of code that another compiler made.
 
+ghost use Rattle.std.specs.Prelude.{◌≡◌, IsTrue, IfErr, OnOk};
+ghost use Rattle.commands.specs.WrappedCode.{IsImageOfCode, RefusesCode};
+ghost use Rattle.commands.specs.Written.{IsWriteFault, WritesFile, FailsToWrite};
+
 use crate::fault::Fault;
 use crate::files::Files;
 use crate::texts::{read_fault, text_of_file, write_file};
@@ -19,7 +23,12 @@ pub fn wrap_code<'a, F: Files>(
     image: &'a str,
     asked: Asked,
     files: &mut F,
-) -> Result<(), Fault<'a>> {
+) -> Result<(), Fault<'a>>
+    ensures said { IsTrue F.TELLS → OnOk result (WritesFile image.now (IsImageOfCode asked (F.contents files.old) file.now code.now) (F.contents files.old) (F.contents files.new)) }
+    ensures refused { IsTrue F.TELLS → IfErr result (FailsToWrite image.now (IsImageOfCode asked (F.contents files.old) file.now code.now)
+        (RefusesCode asked (F.contents files.old) file.now code.now) (F.contents files.old) (F.contents files.new)) }
+    ensures untouched { IfErr result (λ fault. (IsWriteFault image.now fault → ⊥) → files.new ≡ files.old) }
+{
     let text = text_of_file(alloc, file, files)?;
     let words = match files.read(alloc, code, CODE_LIMIT) {
         Ok(bytes) => bytes,

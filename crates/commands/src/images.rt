@@ -1,27 +1,44 @@
 // What is done with an image: it is run, its run is listed, two of its runs are compared, its words are listed.
 
-ghost use Rattle.std.specs.Prelude.{◌≡◌, ◌≤◌, IfOk, OnOk};
+ghost use Rattle.std.specs.Prelude.{◌≡◌, ◌≤◌, None, List, ℕ, length, map, IsTrue, IfOk, IfErr, OnOk};
+ghost use Rattle.std.specs.String.{string_bytes};
+ghost use Rattle.std.specs.Option.{option_map};
+ghost use Rattle.arguments.specs.Texts.{fault_of_texts};
+ghost use Rattle.hepurita.specs.Paired.{shifted};
+ghost use Rattle.image_fields.specs.Limits.{most_parameters};
+ghost use Rattle.streams.specs.Streams.{Writes, WritesPart};
+ghost use Rattle.commands.specs.Images.{HoldsImage, NoImage};
+ghost use Rattle.commands.specs.Leaks.{SaysLeak, RefusesLeak, IsFaultOfLeak, IsOutputFault};
+ghost use Rattle.commands.specs.Pairs.{SaysPair, RefusesPair, SaysList, pairing_text};
+ghost use Rattle.commands.specs.Runs.{SaysRun, RefusesRun};
+ghost use Rattle.commands.specs.Stops.{status_of};
+ghost use Rattle.commands.specs.Words.{AreSpelled, AreBothSpelled, IsFaultOfWords, fault_of_both};
 
 use crate::fault::{Fault, FileFault};
 use crate::files::Files;
 use crate::outcome;
 use crate::performing::{DONE, STANDARD_OUTPUT, STOPPED};
 use crate::texts::read_fault;
-use arguments::ArgumentRule;
+use arguments::ArgumentFault;
 use hepurita::{RunFault, execute, pair, params, read_args};
 use image::{Image, LONGEST_IMAGE, read};
 use language::{Args, Param};
 use listing::{LeakFault, leak, list};
 use rv_machine::{NullRecorder, Pairing, Stop};
-use std::alloc::Global;
+use std::alloc::{AllocError, Global};
 use streams::Sink;
 
 /// The image of a file. One byte more than the longest image has is read, so that a longer file is refused.
-pub fn image_of<'a, F: Files>(alloc: Global, path: &'a str, files: &F) -> Result<Image, Fault<'a>> {
-    match files.read(alloc, path, LONGEST_IMAGE + 1) {
-        Ok(bytes) => Ok(read(alloc, bytes.as_slice())?),
-        Err(fault) => Err(read_fault(path, fault)),
-    }
+pub fn image_of<'a, F: Files>(alloc: Global, path: &'a str, files: &F) -> Result<Image, Fault<'a>>
+    ensures said { IsTrue F.TELLS → IfOk result (HoldsImage (F.contents files.now) path.now) }
+    ensures refused { IsTrue F.TELLS → IfErr result (NoImage (F.contents files.now) path.now) }
+{
+    let bytes = match files.read(alloc, path, LONGEST_IMAGE + 1) {
+        Ok(bytes) => bytes,
+        Err(fault) => return Err(read_fault(path, fault)),
+    };
+    let image = read(alloc, bytes.as_slice())?;
+    Ok(image)
 }
 
 /// What an image gives on arguments, as lines.
@@ -30,12 +47,16 @@ pub fn run_image<'a, F: Files>(
     path: &'a str,
     arguments: &[&str],
     files: &F,
-) -> Result<String, Fault<'a>> {
+) -> Result<String, Fault<'a>>
+    ensures said { IsTrue F.TELLS → IfOk result (λ text. SaysRun (F.contents files.now) path.now (map (λ word. word.now) arguments.now) (string_bytes text)) }
+    ensures refused { IsTrue F.TELLS → IfErr result (RefusesRun (F.contents files.now) path.now (map (λ word. word.now) arguments.now)) }
+{
     let image = image_of(alloc, path, files)?;
     let params = params(alloc, &image)?;
     let args = read_args(alloc, params.as_slice(), arguments)?;
     let outcome = execute(alloc, &image, &args, &mut NullRecorder)?;
-    Ok(outcome::text_of(alloc, params.as_slice(), &outcome)?)
+    let text = outcome::text_of(alloc, params.as_slice(), &outcome)?;
+    Ok(text)
 }
 
 /// Prints what an observer sees of an image's run on arguments, and how the run stops. Answers the
@@ -49,19 +70,43 @@ pub fn leak_image<'a, F: Files, O: Sink>(
 ) -> Result<u8, Fault<'a>>
     ensures known { IfOk result (λ status. status ≤ 5) }
     ensures calm { OnOk result (O.failures out.new ≡ O.failures out.old) }
+    ensures said { IsTrue F.TELLS → IfOk result (λ status. (text : List ℕ) × SaysLeak (F.contents files.now) path.now (map (λ word. word.now) arguments.now) status text) }
+    ensures written { IsTrue F.TELLS → IsTrue O.TELLS → IfOk result (λ status.
+        Writes (SaysLeak (F.contents files.now) path.now (map (λ word. word.now) arguments.now) status) (O.taken out.old) (O.taken out.new)) }
+    ensures refused { IsTrue F.TELLS → IfErr result (RefusesLeak (F.contents files.now) path.now (map (λ word. word.now) arguments.now)) }
+    ensures beginning { IsTrue F.TELLS → IsTrue O.TELLS → IfErr result (λ fault. IsOutputFault fault
+        → WritesPart (λ text. (status : ℕ) × SaysLeak (F.contents files.now) path.now (map (λ word. word.now) arguments.now) status text) (O.taken out.old) (O.taken out.new)) }
+    ensures untouched { IfErr result (λ fault. (IsOutputFault fault → ⊥) → out.new ≡ out.old) }
 {
     let image = image_of(alloc, path, files)?;
     let params = params(alloc, &image)?;
     let args = read_args(alloc, params.as_slice(), arguments)?;
     match leak(alloc, &image, &args, out) {
-        Ok(Stop::Ecall) => Ok(DONE),
-        Ok(_) => Ok(STOPPED),
+        Ok(stop) => Ok(status_of(stop)),
         Err(fault) => Err(leak_fault(fault)),
     }
 }
 
+/// The exit status of a run that stops so.
+pub fn status_of(stop: Stop) -> u8
+    ensures exact { result ≡ status_of stop }
+    ensures known { result ≤ 5 }
+{
+    match stop {
+        Stop::Ecall => DONE,
+        Stop::Break
+        | Stop::Illegal
+        | Stop::AccessFault
+        | Stop::Misaligned
+        | Stop::Budget
+        | Stop::RecorderRefused => STOPPED,
+    }
+}
+
 /// Why a listing was not printed to its end.
-fn leak_fault(fault: LeakFault) -> Fault<'static> {
+fn leak_fault(fault: LeakFault) -> Fault<'static>
+    ensures { IsFaultOfLeak fault result }
+{
     match fault {
         LeakFault::Argument { rule, index } => Fault::Run(RunFault::Argument { rule, index }),
         LeakFault::Memory => Fault::Run(RunFault::Memory),
@@ -74,9 +119,13 @@ pub fn list_image<'a, F: Files>(
     alloc: Global,
     path: &'a str,
     files: &F,
-) -> Result<Vec<u8>, Fault<'a>> {
+) -> Result<Vec<u8>, Fault<'a>>
+    ensures said { IsTrue F.TELLS → IfOk result (λ lines. SaysList (F.contents files.now) path.now lines.items) }
+    ensures refused { IsTrue F.TELLS → IfErr result (NoImage (F.contents files.now) path.now) }
+{
     let image = image_of(alloc, path, files)?;
-    Ok(list(alloc, &image)?)
+    let lines = list(alloc, &image)?;
+    Ok(lines)
 }
 
 /// Whether an observer sees the same of an image on two lists of arguments, as a line.
@@ -85,49 +134,68 @@ pub fn pair_image<'a, F: Files>(
     path: &'a str,
     arguments: &[&str],
     files: &F,
-) -> Result<String, Fault<'a>> {
+) -> Result<String, Fault<'a>>
+    ensures said { IsTrue F.TELLS → IfOk result (λ text. SaysPair (F.contents files.now) path.now (map (λ word. word.now) arguments.now) (string_bytes text)) }
+    ensures refused { IsTrue F.TELLS → IfErr result (RefusesPair (F.contents files.now) path.now (map (λ word. word.now) arguments.now)) }
+{
     let image = image_of(alloc, path, files)?;
     let params = params(alloc, &image)?;
     let (first, second) = both_args(alloc, params.as_slice(), arguments)?;
-    let line = match pair(alloc, &image, &first, &second)? {
-        Pairing::Same => String::from_str(alloc, "same\n")?,
-        Pairing::Differ(place) => format!(in alloc; "differ at {place}\n")?,
-    };
+    let pairing = pair(alloc, &image, &first, &second)?;
+    let line = pairing_line(alloc, pairing)?;
     Ok(line)
+}
+
+/// A comparison as a line.
+fn pairing_line(alloc: Global, pairing: Pairing) -> Result<String, AllocError>
+    ensures { IfOk result (λ text. string_bytes text ≡ pairing_text pairing) }
+{
+    match pairing {
+        Pairing::Same => String::from_str(alloc, "same\n"),
+        Pairing::Differ(place) => format!(in alloc; "differ at {place}\n"),
+    }
 }
 
 /// The two lists of arguments that words spell, of which the first half is the first. The words are
 /// counted on from one list to the other.
-fn both_args(
-    alloc: Global,
-    params: &[Param],
-    arguments: &[&str],
-) -> Result<(Args, Args), RunFault> {
+fn both_args(alloc: Global, params: &[Param], arguments: &[&str]) -> Result<(Args, Args), RunFault>
+    requires { length params.now ≤ most_parameters }
+    ensures found { IfOk result (λ both. AreBothSpelled params.now (map (λ word. word.now) arguments.now) both.0 both.1) }
+    ensures refused { IfErr result (IsFaultOfWords (fault_of_both params.now (map (λ word. word.now) arguments.now))) }
+{
     match arguments.split_at_checked(params.len()) {
         Some((first, second)) if second.len() == params.len() => {
             let first = read_args(alloc, params, first)?;
-            match read_args(alloc, params, second) {
-                Ok(second) => Ok((first, second)),
-                Err(fault) => Err(counted_on(fault, params.len())),
-            }
+            let second = later_args(alloc, params, second)?;
+            Ok((first, second))
         }
-        _ => Err(RunFault::Argument {
-            rule: ArgumentRule::Count,
-            index: None,
-        }),
+        _ => Err(RunFault::from(ArgumentFault::count())),
     }
 }
 
-/// A fault of a later list, with its number counted on from those of the lists before.
-fn counted_on(fault: RunFault, before: usize) -> RunFault {
-    match fault {
-        RunFault::Argument {
+/// The arguments of the second of two lists, whose faults are numbered after the first's arguments.
+fn later_args(alloc: Global, params: &[Param], arguments: &[&str]) -> Result<Args, RunFault>
+    requires { length params.now ≤ most_parameters }
+    ensures found { IfOk result (AreSpelled params.now (map (λ word. word.now) arguments.now)) }
+    ensures only { OnOk result (fault_of_texts params.now (map (λ word. word.now) arguments.now) ≡ None) }
+    ensures refused { IfErr result (IsFaultOfWords (option_map (shifted (length params.now)) (fault_of_texts params.now (map (λ word. word.now) arguments.now)))) }
+{
+    match read_args(alloc, params, arguments) {
+        Ok(args) => Ok(args),
+        Err(
+            RunFault::Argument {
+                rule,
+                index: Some(index),
+            },
+        ) => Err(RunFault::Argument {
             rule,
-            index: Some(index),
-        } => RunFault::Argument {
+            index: Some(index + params.len()),
+        }),
+        Err(RunFault::Argument { rule, index: None }) => Err(RunFault::Argument {
             rule,
-            index: Some(index.saturating_add(before)),
-        },
-        _ => fault,
+            index: None,
+        }),
+        Err(RunFault::Memory) => Err(RunFault::Memory),
+        Err(RunFault::Stopped(stop)) => Err(RunFault::Stopped(stop)),
     }
 }

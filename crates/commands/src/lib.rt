@@ -6,6 +6,7 @@
 #![tactic(auto)]
 
 mod certifying;
+mod evaluating;
 mod fault;
 mod files;
 mod foreign_code;
@@ -15,6 +16,7 @@ mod performing;
 mod side_by_side;
 mod texts;
 
+pub use command_line::Request;
 pub use fault::{Fault, FileFault};
 pub use files::Files;
-pub use performing::command;
+pub use performing::{command, perform};

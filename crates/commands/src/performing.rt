@@ -1,12 +1,18 @@
-ghost use Rattle.std.specs.Prelude.{◌≡◌, ◌≤◌, IfOk, OnOk};
+// A request, done.
+
+ghost use Rattle.std.specs.Prelude.{◌≡◌, ◌≤◌, ◌++◌, IsTrue, IfOk, IfErr, OnOk, OnErr};
+ghost use Rattle.commands.specs.Leaks.{IsOutputFault};
+ghost use Rattle.commands.specs.Requests.{IsPut, IsDone, Fails, Reports, Performs};
+ghost use Rattle.streams.specs.Streams.{GainsPart};
 
 use crate::certifying::certify_image;
+use crate::evaluating::evaluate_text;
 use crate::fault::{Fault, FileFault};
 use crate::files::Files;
 use crate::foreign_code::wrap_code;
 use crate::images::{leak_image, list_image, pair_image, run_image};
 use crate::side_by_side::{run_side_by_side, whole_text};
-use crate::texts::{build_image, check_text, evaluate_text};
+use crate::texts::{build_image, check_text};
 use command_line::{NoRequest, Request, parse};
 use language::Refusal;
 use std::alloc::Global;
@@ -40,20 +46,36 @@ pub fn command<'a, F: Files, O: Sink, E: Sink>(
     ensures calm { result ≡ 0 → O.failures out.new ≡ O.failures out.old }
 {
     match parse(alloc, words) {
-        Ok(request) => {
-            let mut text = String::new(alloc);
-            match perform(alloc, request, files, &mut text, out) {
-                Ok(status) => status,
-                Err(fault) => report(alloc, &fault, err),
-            }
-        }
+        Ok(request) => perform(alloc, request, files, out, err),
         Err(said) => explain(alloc, said, out, err),
+    }
+}
+
+/// Does what is asked for, prints what answers it, or why it is not done, and answers the exit status.
+pub fn perform<F: Files, O: Sink, E: Sink>(
+    alloc: Global,
+    request: Request<'_>,
+    files: &mut F,
+    out: &mut O,
+    err: &mut E,
+) -> u8
+    ensures performed { IsTrue F.TELLS → IsTrue O.TELLS → IsTrue E.TELLS
+        → Performs request.entry (F.contents files.old) (F.contents files.new) (O.taken out.old) (O.taken out.new)
+        (E.taken err.old) (E.taken err.new) result }
+    ensures known { result ≤ 5 }
+    ensures calm { result ≡ 0 → O.failures out.new ≡ O.failures out.old }
+{
+    let mut text = String::new(alloc);
+    match answer(alloc, request, files, &mut text, out) {
+        Ok(status) => status,
+        Err(fault) => report(alloc, &fault, err),
     }
 }
 
 /// Prints the fault's line, and answers its exit status. Where there is no memory for the line, the
 /// fault is want of memory. That the line could not be printed is nowhere to be said.
 fn report<E: Sink>(alloc: Global, fault: &Fault<'_>, err: &mut E) -> u8
+    ensures reported { IsTrue E.TELLS → Reports fault.now (E.taken err.old) (E.taken err.new) result }
     ensures low { 1 ≤ result }
     ensures high { result ≤ 5 }
 {
@@ -80,58 +102,62 @@ fn explain<O: Sink, E: Sink>(alloc: Global, said: NoRequest, out: &mut O, err: &
             let _ = put_all(err, text.as_bytes());
             2
         }
-        NoRequest::Help(text) => match print(out, text.as_bytes()) {
-            Ok(()) => DONE,
+        NoRequest::Help(text) => match print(out, text.as_bytes(), DONE) {
+            Ok(status) => status,
             Err(fault) => report(alloc, &fault, err),
         },
     }
 }
 
-/// Does what is asked for, and answers the exit status. A file of harts is read into `text`, since a fault names
-/// paths that stand in it.
-fn perform<'a, F: Files, O: Sink>(
+/// Does what is asked for, prints what answers it, and answers the exit status. A file of harts is read into `text`,
+/// since a fault names paths that stand in it.
+fn answer<'a, F: Files, O: Sink>(
     alloc: Global,
     request: Request<'a>,
     files: &mut F,
     text: &'a mut String,
     out: &mut O,
 ) -> Result<u8, Fault<'a>>
+    ensures done { IsTrue F.TELLS → IsTrue O.TELLS
+        → IfOk result (IsDone request.entry (F.contents files.old) (F.contents files.new) (O.taken out.old) (O.taken out.new)) }
+    ensures failed { IsTrue F.TELLS → IsTrue O.TELLS
+        → IfErr result (Fails request.entry (F.contents files.old) (F.contents files.new) (O.taken out.old) (O.taken out.new)) }
     ensures known { IfOk result (λ status. status ≤ 5) }
     ensures calm { OnOk result (O.failures out.new ≡ O.failures out.old) }
 {
     match request {
         Request::Check { file, profile } => {
             check_text(alloc, file, profile, files)?;
-            print(out, b"accepted\n")?;
+            print(out, b"accepted\n", DONE)
         }
         Request::Build {
             file,
             image,
             profile,
-        } => build_image(alloc, file, image, profile, files)?,
+        } => {
+            build_image(alloc, file, image, profile, files)?;
+            Ok(DONE)
+        }
         Request::Eval { file, arguments } => {
             let text = evaluate_text(alloc, file, arguments, files)?;
-            print(out, text.as_bytes())?;
+            print(out, text.as_bytes(), DONE)
         }
         Request::Run { image, arguments } => {
             let text = run_image(alloc, image, arguments, files)?;
-            print(out, text.as_bytes())?;
+            print(out, text.as_bytes(), DONE)
         }
-        Request::Leak { image, arguments } => {
-            return leak_image(alloc, image, arguments, files, out);
-        }
+        Request::Leak { image, arguments } => leak_image(alloc, image, arguments, files, out),
         Request::Pair { image, arguments } => {
             let text = pair_image(alloc, image, arguments, files)?;
-            print(out, text.as_bytes())?;
+            print(out, text.as_bytes(), DONE)
         }
         Request::Certify { image, arguments } => {
             let (text, status) = certify_image(alloc, image, arguments, files)?;
-            print(out, text.as_slice())?;
-            return Ok(status);
+            print(out, text.as_slice(), status)
         }
         Request::List { image } => {
             let lines = list_image(alloc, image, files)?;
-            print(out, lines.as_slice())?;
+            print(out, lines.as_slice(), DONE)
         }
         Request::Wrap {
             file,
@@ -147,21 +173,41 @@ fn perform<'a, F: Files, O: Sink>(
                 profile,
             };
             wrap_code(alloc, file, code, image, asked, files)?;
+            Ok(DONE)
         }
-        Request::Harts { file } => {
-            *text = whole_text(alloc, file, files)?;
-            return run_side_by_side(alloc, text.as_str(), files, out);
-        }
+        Request::Harts { file } => answer_harts(alloc, file, files, text, out),
     }
-    Ok(DONE)
 }
 
-/// Prints bytes to standard output.
-pub fn print<O: Sink>(out: &mut O, bytes: &[u8]) -> Result<(), Fault<'static>>
-    ensures { OnOk result (O.failures out.new ≡ O.failures out.old) }
+/// Runs the harts that a file says, prints what is seen of them and how each ended, and answers the exit status. The file is
+/// read into `text`.
+fn answer_harts<'a, F: Files, O: Sink>(
+    alloc: Global,
+    file: &'a str,
+    files: &F,
+    text: &'a mut String,
+    out: &mut O,
+) -> Result<u8, Fault<'a>>
+    ensures known { IfOk result (λ status. status ≤ 5) }
+    ensures calm { OnOk result (O.failures out.new ≡ O.failures out.old) }
+    ensures done { IsTrue F.TELLS → IsTrue O.TELLS → IfOk result (IsDone (Request.Harts file.entry) (F.contents files.now) (F.contents files.now) (O.taken out.old) (O.taken out.new)) }
+    ensures failed { IsTrue F.TELLS → IsTrue O.TELLS → IfErr result (Fails (Request.Harts file.entry) (F.contents files.now) (F.contents files.now) (O.taken out.old) (O.taken out.new)) }
+{
+    *text = whole_text(alloc, file, files)?;
+    let (lines, status) = run_side_by_side(alloc, text.as_str(), files)?;
+    print(out, lines.as_slice(), status)
+}
+
+/// Prints bytes to standard output, and answers this exit status.
+fn print<'a, O: Sink>(out: &mut O, bytes: &[u8], status: u8) -> Result<u8, Fault<'a>>
+    ensures answer { IfOk result (λ given. given ≡ status) }
+    ensures whole { IsTrue O.TELLS → OnOk result (O.taken out.new ≡ O.taken out.old ++ bytes.now) }
+    ensures calm { OnOk result (O.failures out.new ≡ O.failures out.old) }
+    ensures beginning { IsTrue O.TELLS → OnErr result (GainsPart (O.taken out.old) (O.taken out.new) bytes.now) }
+    ensures fault { IfErr result IsOutputFault }
 {
     match put_all(out, bytes) {
-        Ok(()) => Ok(()),
+        Ok(()) => Ok(status),
         Err(_) => Err(Fault::File(FileFault::CannotWrite(STANDARD_OUTPUT))),
     }
 }

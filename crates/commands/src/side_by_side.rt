@@ -1,32 +1,39 @@
 // Harts side by side, as a file says.
 
-ghost use Rattle.std.specs.Prelude.{◌≡◌, ◌≤◌, length, vec_len, IfOk, OnOk};
+ghost use Rattle.std.specs.Prelude.{◌≡◌, ◌≤◌, ◌++◌, Some, length, map, vec_len, IsTrue, IfOk, OnOk};
+ghost use Rattle.std.specs.List.{AllZip};
+ghost use Rattle.std.specs.String.{string_bytes};
+ghost use Rattle.codegen.specs.Loaded.{params_of};
 ghost use Rattle.hepurita.specs.Bases.{most_images};
+ghost use Rattle.harts.specs.Frames.{job_of};
+ghost use Rattle.harts_file.specs.Jobs.{hart_of};
+ghost use Rattle.commands.specs.Harts.{IsJobOf, SaysPlan};
+ghost use Rattle.commands.specs.HartsText.{behind, turns_text, ended_line, ended_text, ends_text, harts_text, is_well, status_of_ends};
+ghost use Rattle.commands.specs.OutcomeText.{outcome_text};
 
 use crate::fault::{Fault, FileFault};
 use crate::files::Files;
 use crate::images::image_of;
 use crate::outcome;
-use crate::performing::{DONE, STOPPED, print};
+use crate::performing::{DONE, STOPPED};
 use crate::texts::read_fault;
-use arrayvec::ArrayString;
 use harts::{HartEnd, run_harts};
 use harts_file::{Job, read};
 use hepurita::read_args;
 use image::Image;
-use language::Args;
+use language::{Args, Outcome};
 use listing::{lines_of, stop_line};
 use rv_machine::{HartObservation, ListHartRecorder, Stop};
 use std::alloc::{AllocError, Global};
-use std::fmt::Write;
-use streams::Sink;
 
 /// The text of a file, to its end.
 pub fn whole_text<'a, F: Files>(
     alloc: Global,
     file: &'a str,
     files: &F,
-) -> Result<String, Fault<'a>> {
+) -> Result<String, Fault<'a>>
+    ensures said { IsTrue F.TELLS → IfOk result (λ text. F.contents files.now file.now ≡ Some (string_bytes text)) }
+{
     let bytes = match files.read(alloc, file, usize::MAX) {
         Ok(bytes) => bytes,
         Err(fault) => return Err(read_fault(file, fault)),
@@ -37,16 +44,15 @@ pub fn whole_text<'a, F: Files>(
     }
 }
 
-/// Runs the harts of a file with this text, prints what an observer sees of each turn and how each hart ended, and answers
-/// the exit status. All lines are made before the first is printed.
-pub fn run_side_by_side<'a, F: Files, O: Sink>(
+/// Runs the harts of a file with this text: what an observer sees of each turn and how each hart ended, as lines, and the
+/// exit status.
+pub fn run_side_by_side<'a, F: Files>(
     alloc: Global,
     text: &'a str,
     files: &F,
-    out: &mut O,
-) -> Result<u8, Fault<'a>>
-    ensures known { IfOk result (λ status. status ≤ 5) }
-    ensures calm { OnOk result (O.failures out.new ≡ O.failures out.old) }
+) -> Result<(Vec<u8>, u8), Fault<'a>>
+    ensures said { IsTrue F.TELLS → IfOk result (λ said. SaysPlan (F.contents files.now) text.now said.0.items said.1) }
+    ensures known { IfOk result (λ said. said.1 ≤ 5) }
 {
     let plan = read(alloc, text)?;
     let jobs = load_jobs(alloc, plan.jobs.as_slice(), files)?;
@@ -57,9 +63,8 @@ pub fn run_side_by_side<'a, F: Files, O: Sink>(
         plan.schedule.as_slice(),
         &mut recorder,
     )?;
-    let listing = list_harts(alloc, jobs.as_slice(), recorder.list(), ends.as_slice())?;
-    print(out, listing.as_slice())?;
-    Ok(status_of(ends.as_slice()))
+    let lines = list_harts(alloc, jobs.as_slice(), recorder.list(), ends.as_slice())?;
+    Ok((lines, status_of(ends.as_slice())))
 }
 
 /// The images of harts and their arguments, hart by hart.
@@ -68,7 +73,8 @@ fn load_jobs<'a, F: Files>(
     jobs: &[Job<'a>],
     files: &F,
 ) -> Result<Vec<(Image, Args)>, Fault<'a>>
-    ensures { IfOk result (λ loaded. vec_len loaded ≡ length jobs.now) }
+    ensures count { IfOk result (λ loaded. vec_len loaded ≡ length jobs.now) }
+    ensures said { IsTrue F.TELLS → IfOk result (λ loaded. AllZip (IsJobOf (F.contents files.now)) (map hart_of jobs.now) (map job_of loaded.items)) }
 {
     let mut loaded = Vec::new(alloc);
     for job in jobs {
@@ -88,32 +94,39 @@ fn list_harts(
     ends: &[HartEnd],
 ) -> Result<Vec<u8>, AllocError>
     requires { length jobs.now ≤ most_images }
+    ensures { IfOk result (λ text. text.items ≡ harts_text (map job_of jobs.now) seen.now ends.now) }
 {
     let mut text = Vec::new(alloc);
-    for turn in seen {
-        let lines = lines_of(&turn.observation);
-        push_lines(&mut text, turn.hart, lines.as_slice())?;
-    }
-    for (hart, ((image, _), end)) in jobs.iter().zip(ends).enumerate() {
-        push_end(alloc, &mut text, hart as u8, image, end)?;
-    }
+    push_turns(alloc, &mut text, seen)?;
+    push_ends(alloc, &mut text, jobs, ends)?;
     Ok(text)
 }
 
-/// What stands before each line of a hart: its number and a blank.
-fn front_of(hart: u8) -> ArrayString<4> {
-    let mut front = ArrayString::new();
-    // There is room for three digits and the blank.
-    let _ = write!(front, "{hart} ");
-    front
+/// Puts the lines of what turns showed at the end of a text.
+fn push_turns(alloc: Global, text: &mut Vec<u8>, seen: &[HartObservation]) -> Result<(), AllocError>
+    ensures { OnOk result (text.new.items ≡ text.old.items ++ turns_text seen.now) }
+{
+    for turn in seen {
+        let lines = lines_of(&turn.observation);
+        push_lines(alloc, text, turn.hart, lines.as_slice())?;
+    }
+    Ok(())
 }
 
-/// Puts lines of a hart at the end of a text.
-fn push_lines(text: &mut Vec<u8>, hart: u8, lines: &[u8]) -> Result<(), AllocError> {
-    let front = front_of(hart);
-    for line in lines.split_inclusive(|byte| *byte == b'\n') {
-        text.extend_from_slice(front.as_str().as_bytes())?;
-        text.extend_from_slice(line)?;
+/// Puts how each hart ended at the end of a text.
+fn push_ends(
+    alloc: Global,
+    text: &mut Vec<u8>,
+    jobs: &[(Image, Args)],
+    ends: &[HartEnd],
+) -> Result<(), AllocError>
+    requires { length jobs.now ≤ most_images }
+    ensures { OnOk result (text.new.items ≡ text.old.items ++ ends_text 0 (map job_of jobs.now) ends.now) }
+{
+    for (hart, end) in ends.iter().enumerate() {
+        if let Some((image, _)) = jobs.get(hart) {
+            push_end(alloc, text, hart as u8, image, end)?;
+        }
     }
     Ok(())
 }
@@ -125,26 +138,80 @@ fn push_end(
     hart: u8,
     image: &Image,
     end: &HartEnd,
-) -> Result<(), AllocError> {
-    match end.stop {
-        Some(stop) => push_lines(text, hart, stop_line(stop).as_slice())?,
-        None => push_lines(text, hart, b"going\n")?,
+) -> Result<(), AllocError>
+    ensures { OnOk result (text.new.items ≡ text.old.items ++ behind hart (ended_line end.now.stop) ++ behind hart (ended_text image.now end.now.outcome)) }
+{
+    push_stop(alloc, text, hart, end.stop)?;
+    match &end.outcome {
+        Some(outcome) => push_outcome(alloc, text, hart, image, outcome),
+        None => Ok(()),
     }
-    if let Some(outcome) = &end.outcome {
-        let params = hepurita::params(alloc, image)?;
-        let lines = outcome::text_of(alloc, params.as_slice(), outcome)?;
-        push_lines(text, hart, lines.as_bytes())?;
+}
+
+/// Puts the line of a hart's stop at the end, or that it is still going.
+fn push_stop(
+    alloc: Global,
+    text: &mut Vec<u8>,
+    hart: u8,
+    stop: Option<Stop>,
+) -> Result<(), AllocError>
+    ensures { OnOk result (text.new.items ≡ text.old.items ++ behind hart (ended_line stop)) }
+{
+    match stop {
+        Some(stop) => push_lines(alloc, text, hart, stop_line(stop).as_slice()),
+        None => push_lines(alloc, text, hart, b"going\n"),
+    }
+}
+
+/// Puts the lines of a hart's outcome at the end.
+fn push_outcome(
+    alloc: Global,
+    text: &mut Vec<u8>,
+    hart: u8,
+    image: &Image,
+    outcome: &Outcome,
+) -> Result<(), AllocError>
+    ensures { OnOk result (text.new.items ≡ text.old.items ++ behind hart (outcome_text (params_of image.now) outcome.now)) }
+{
+    let params = hepurita::params(alloc, image)?;
+    let lines = outcome::text_of(alloc, params.as_slice(), outcome)?;
+    push_lines(alloc, text, hart, lines.as_bytes())
+}
+
+/// Puts lines of a hart at the end of a text, each behind its number and a blank.
+fn push_lines(alloc: Global, text: &mut Vec<u8>, hart: u8, lines: &[u8]) -> Result<(), AllocError>
+    ensures { OnOk result (text.new.items ≡ text.old.items ++ behind hart lines.now) }
+{
+    let front = format!(in alloc; "{hart} ")?;
+    let mut begins = true;
+    for byte in lines {
+        if begins {
+            text.extend_from_slice(front.as_bytes())?;
+        }
+        text.push(*byte)?;
+        begins = *byte == b'\n';
     }
     Ok(())
 }
 
+/// Whether a hart has not stopped otherwise than by ECALL.
+fn is_well(stop: Option<Stop>) -> bool
+    ensures { result ≡ is_well stop }
+{
+    match stop {
+        None => true,
+        Some(stop) => stop == Stop::Ecall,
+    }
+}
+
 /// The exit status of harts that ended so.
 fn status_of(ends: &[HartEnd]) -> u8
-    ensures { result ≤ 5 }
+    ensures exact { result ≡ status_of_ends ends.now }
+    ensures known { result ≤ 5 }
 {
-    let is_well = ends.iter().all(|end| match end.stop {
-        Some(Stop::Ecall) | None => true,
-        Some(_) => false,
-    });
-    if is_well { DONE } else { STOPPED }
+    if ends.iter().all(|end| is_well(end.stop)) {
+        DONE
+    } else {
+        STOPPED
+    }
 }

@@ -1,21 +1,27 @@
 // What is done with a text: it is judged, compiled, or worked out on arguments.
 
+ghost use Rattle.std.specs.Prelude.{◌≡◌, ℕ, List, Some, IsTrue, IfOk, IfErr, OnOk, OnErr};
+ghost use Rattle.std.specs.String.{string_bytes};
+ghost use Rattle.commands.specs.Contents.{Contents, IsWritten, IsCutOff};
+ghost use Rattle.commands.specs.FileTexts.{HoldsText, NoText};
+ghost use Rattle.commands.specs.Judged.{IsAccepted, IsRefused, IsImageOf};
+ghost use Rattle.commands.specs.Unread.{NotRead};
+ghost use Rattle.commands.specs.Written.{IsWriteFault, WritesFile, FailsToWrite};
+ghost use Rattle.stream_build.specs.Faults as texts;
+
 use crate::fault::{Fault, FileFault};
 use crate::files::Files;
-use crate::outcome;
-use hepurita::{build_as, judge, judge_as, read_args};
+use hepurita::{build_as, judge_as};
 use language::{Profile, Refusal};
-use source_eval::eval;
 use std::alloc::Global;
 use stream_build::{BuildFault, text_of};
 use streams::ReadFault;
 use syntax::TEXT_LIMIT;
 
-/// How many nodes `eval` evaluates at most.
-const EVALUATION_BUDGET: u64 = 1 << 32;
-
 /// Why a file was not read.
-pub fn read_fault(path: &str, fault: ReadFault) -> Fault<'_> {
+pub fn read_fault(path: &str, fault: ReadFault) -> Fault<'_>
+    ensures { NotRead path.now result }
+{
     match fault {
         ReadFault::Source => Fault::File(FileFault::CannotRead(path)),
         ReadFault::Memory => Fault::Text(Refusal::memory()),
@@ -23,7 +29,10 @@ pub fn read_fault(path: &str, fault: ReadFault) -> Fault<'_> {
 }
 
 /// Why the bytes of a file are no text.
-fn text_fault(file: &str, fault: BuildFault<Refusal>) -> Fault<'_> {
+fn text_fault(file: &str, fault: BuildFault<Refusal>) -> Fault<'_>
+    ensures { (files : Contents) (bytes : List ℕ) → files file.now ≡ Some bytes → texts.NoText bytes fault
+        → NoText files file.now result }
+{
     match fault {
         BuildFault::Read => Fault::File(FileFault::CannotRead(file)),
         BuildFault::NotUtf8 => Fault::File(FileFault::NotUtf8(file)),
@@ -37,7 +46,10 @@ pub fn text_of_file<'a, F: Files>(
     alloc: Global,
     file: &'a str,
     files: &F,
-) -> Result<String, Fault<'a>> {
+) -> Result<String, Fault<'a>>
+    ensures said { IsTrue F.TELLS → IfOk result (λ text. HoldsText (F.contents files.now) file.now (string_bytes text)) }
+    ensures refused { IsTrue F.TELLS → IfErr result (NoText (F.contents files.now) file.now) }
+{
     let bytes = match files.read(alloc, file, TEXT_LIMIT + 1) {
         Ok(bytes) => bytes,
         Err(fault) => return Err(read_fault(file, fault)),
@@ -49,11 +61,11 @@ pub fn text_of_file<'a, F: Files>(
 }
 
 /// Writes a file.
-pub fn write_file<'a, F: Files>(
-    path: &'a str,
-    bytes: &[u8],
-    files: &mut F,
-) -> Result<(), Fault<'a>> {
+pub fn write_file<'a, F: Files>(path: &'a str, bytes: &[u8], files: &mut F) -> Result<(), Fault<'a>>
+    ensures written { IsTrue F.TELLS → OnOk result (IsWritten path.now bytes.now (F.contents files.old) (F.contents files.new)) }
+    ensures cut_off { IsTrue F.TELLS → OnErr result (IsCutOff path.now bytes.now (F.contents files.old) (F.contents files.new)) }
+    ensures fault { IfErr result (IsWriteFault path.now) }
+{
     match files.write(path, bytes) {
         Ok(()) => Ok(()),
         Err(_) => Err(Fault::File(FileFault::CannotWrite(path))),
@@ -66,7 +78,10 @@ pub fn check_text<'a, F: Files>(
     file: &'a str,
     profile: Profile,
     files: &F,
-) -> Result<(), Fault<'a>> {
+) -> Result<(), Fault<'a>>
+    ensures said { IsTrue F.TELLS → OnOk result (IsAccepted profile (F.contents files.now) file.now) }
+    ensures refused { IsTrue F.TELLS → IfErr result (IsRefused profile (F.contents files.now) file.now) }
+{
     let text = text_of_file(alloc, file, files)?;
     let _accepted = judge_as(alloc, text.as_str(), profile)?;
     Ok(())
@@ -80,23 +95,13 @@ pub fn build_image<'a, F: Files>(
     image: &'a str,
     profile: Profile,
     files: &mut F,
-) -> Result<(), Fault<'a>> {
+) -> Result<(), Fault<'a>>
+    ensures said { IsTrue F.TELLS → OnOk result (WritesFile image.now (IsImageOf profile (F.contents files.old) file.now) (F.contents files.old) (F.contents files.new)) }
+    ensures refused { IsTrue F.TELLS → IfErr result (FailsToWrite image.now (IsImageOf profile (F.contents files.old) file.now)
+        (IsRefused profile (F.contents files.old) file.now) (F.contents files.old) (F.contents files.new)) }
+    ensures untouched { IfErr result (λ fault. (IsWriteFault image.now fault → ⊥) → files.new ≡ files.old) }
+{
     let text = text_of_file(alloc, file, files)?;
     let built = build_as(alloc, text.as_str(), profile)?;
     write_file(image, built.as_slice(), files)
-}
-
-/// What an accepted text means on arguments, as lines.
-pub fn evaluate_text<'a, F: Files>(
-    alloc: Global,
-    file: &'a str,
-    arguments: &[&str],
-    files: &F,
-) -> Result<String, Fault<'a>> {
-    let text = text_of_file(alloc, file, files)?;
-    let accepted = judge(alloc, text.as_str())?;
-    let params = accepted.params.as_slice();
-    let args = read_args(alloc, params, arguments)?;
-    let outcome = eval(alloc, &accepted.program, &args, EVALUATION_BUDGET)?;
-    Ok(outcome::text_of(alloc, params, &outcome)?)
 }

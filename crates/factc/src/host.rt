@@ -1,4 +1,4 @@
-ghost use Rattle.std.specs.Prelude.{◌≡◌, false, []};
+ghost use Rattle.std.specs.Prelude.{◌≡◌, false, [], None};
 
 use commands::{Files, command};
 use std::alloc::{AllocError, Global};
@@ -64,6 +64,10 @@ struct HostFiles<'a, R> {
 }
 
 impl<R: FileSystem> Files for HostFiles<'_, R> {
+    ghost TELLS = { false };
+
+    ghost contents = { λ _ _. None };
+
     fn read(&self, alloc: Global, path: &str, limit: usize) -> Result<Vec<u8>, ReadFault> {
         match fs::open(self.rt, path) {
             Ok(file) => get_up_to(alloc, &mut Unbuffered::new(file), limit),

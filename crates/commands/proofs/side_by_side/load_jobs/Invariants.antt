@@ -1,6 +1,13 @@
--- A job loaded for each that was read.
-use Rattle.std.specs.Prelude.{◌≡◌, vec_len}
+-- A job loaded for each that was read, as its line says.
+use Rattle.std.specs.Prelude.{◌≡◌, map, take, vec_len, IsTrue}
+use Rattle.std.specs.List.{AllZip}
+use Rattle.commands.specs.Harts.{IsJobOf}
+use Rattle.harts.specs.Frames.{job_of}
+use Rattle.harts_file.specs.Jobs.{hart_of}
 use Rattle.commands.proofs.side_by_side.load_jobs.Given as goal
 
 abbrev pub invariant-loop-job : goal.invariant-loop-job
-invariant-loop-job g l = vec_len l.loaded ≡ l.job-index
+invariant-loop-job g l = record {
+  count : vec_len l.loaded ≡ l.job-index;
+  said : IsTrue g.F.Files.TELLS → AllZip (IsJobOf (g.F.Files.contents l.files)) (map hart_of (take l.job-index l.jobs)) (map job_of l.loaded.items);
+}

@@ -1,0 +1,42 @@
+-- A turn that may differ is one of a word of the image.
+use Rattle.std.proofs.Common.{◌≡◌, ◌≢◌, ℕ, List, Option, None, Result, Ok, refl, sym, subst, ◌∙◌}
+use Rattle.std.proofs.lemmas.Option.{none-some}
+use Rattle.rv_code.specs.Words.{word_of}
+use Rattle.rv_machine.specs.Machine.{Code, word_at}
+use Rattle.rv_machine.specs.declared.observation.Observation.{Observation}
+use Rattle.certified_runs.specs.Certified.{KnownEnding, depends, KnownTurn, decided, stopped, undecided, RunEnding, same, may_differ, CertifiedRun, spent, halts, cut, turns}
+use Rattle.certified_runs.specs.Known.{Known}
+use Rattle.certified_runs.specs.declared.certifying.CertifiedEnd.{CertifiedEnd}
+use Rattle.certified_runs.specs.declared.certifying.CertifiedEnd.TheVariants.{Same, MayDiffer}
+use Rattle.certificates.specs.Certified.{Certified, refused, out_of_memory, certified}
+use Rattle.codegen.specs.Loaded.{code_at}
+use Rattle.commands.specs.Certificates.{StandsInCode}
+use Rattle.hepurita.specs.Bases.{code_base}
+use Rattle.hepurita.specs.declared.fault.RunFault.{RunFault}
+use Rattle.image_fields.specs.Fields.{Fields}
+use Rattle.language.specs.declared.values.Arg.{Arg}
+
+depends_at : (code : Code) (k : Known) (ending : KnownEnding) → KnownTurn code k ending → ending ≡ depends → word_at code k.state.pc ≢ None
+depends_at code k ending (decided i at sure turn) is = cc
+depends_at code k ending (stopped known turn) is = cc
+depends_at code k ending (undecided i at unknown) is = λ none. none-some (word_of i) (sym none ∙ at.word)
+
+cut_at : (code : Code) (n : ℕ) (k : Known) (seen : List Observation) (ending : RunEnding) (pc : ℕ) → CertifiedRun code n k seen ending → ending ≡ may_differ pc → word_at code pc ≢ None
+cut_at code n k seen ending pc spent is = cc
+cut_at code n k seen ending pc (halts turn) is = cc
+cut_at code n k seen ending pc (cut turn) is =
+    let here : k.state.pc ≡ pc = cc in
+    subst (λ (p : ℕ). word_at code p ≢ None) here (depends_at code k depends turn refl)
+cut_at code n k seen ending pc (turns {n = less} {next = next} {seen = rest} turn run) is = cut_at code less next rest ending pc run is
+
+stands_at : (image : Fields) (given : List (Option Arg)) (answer : Result CertifiedEnd RunFault) (entry pc : ℕ) → Certified image given answer → answer ≡ Ok (MayDiffer entry pc) → word_at (code_at code_base image) pc ≢ None
+stands_at image given answer entry pc (refused first) is = cc
+stands_at image given answer entry pc (out_of_memory none) is = cc
+stands_at image given answer entry pc (certified {ending = same stop} none run) is = cc
+stands_at image given answer entry pc (certified {seen = seen} {ending = may_differ at} none run) is =
+    let there : at ≡ pc = cc in
+    subst (λ (p : ℕ). word_at (code_at code_base image) p ≢ None) there (cut_at (code_at code_base image) _ _ seen (may_differ at) at run refl)
+
+pub stands_in_code : (image : Fields) (given : List (Option Arg)) (certificate : CertifiedEnd) → Certified image given (Ok certificate) → StandsInCode image certificate
+stands_in_code image given (Same stop entries) h = tt
+stands_in_code image given (MayDiffer entry pc) h = stands_at image given (Ok (MayDiffer entry pc)) entry pc h refl

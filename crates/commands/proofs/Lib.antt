@@ -1,0 +1,10 @@
+pub mod Beginnings
+pub mod WordLemmas
+pub mod CertificateLemmas
+mod CodeLemmas
+mod LeakFaults
+pub mod ImageLemmas
+mod Writing
+mod RequestLemmas
+mod MeaningLemmas
+mod HartLemmas

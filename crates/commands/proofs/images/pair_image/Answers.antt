@@ -1,0 +1,43 @@
+-- Why the two runs are not compared, step by step.
+use Rattle.std.proofs.Common.{List, map, ◌∙◌, subst}
+use Rattle.std.proofs.lemmas.Result.{err_from_is_err_and}
+use Rattle.language.specs.declared.signature.Param.{Param}
+use Rattle.commands.specs.ImageRefusals.{no_image, no_arguments, no_answer, out_of_memory}
+use Rattle.commands.specs.Pairs.{RefusesPair}
+use Rattle.commands.specs.Words.{AreBothSpelled, IsFaultOfWords, fault_of_both}
+use Rattle.commands.specs.declared.fault.Fault.TheVariants.{Run}
+use Rattle.commands.proofs.ImageLemmas.{handed_on, memory_on}
+use Rattle.commands.proofs.images.pair_image.Goals as goal
+
+pub returns-in_err-image-clause-refused : goal.returns-in_err-image-clause-refused
+returns-in_err-image-clause-refused g c = λ tells.
+    let p = err_from_is_err_and c.from_residual.result c.from_residual.ensures.1 in
+    handed_on (RefusesPair (g.F.Files.contents c.args.files.now) c.args.path.now (map (λ word. word.now) c.args.arguments.now)) c.from_residual.result p.0 c.in_err-image.field-0.0 p.1 p.2
+    (no_image (c.in_err-image.ensures.refused tells))
+
+pub returns-in_err-params-clause-refused : goal.returns-in_err-params-clause-refused
+returns-in_err-params-clause-refused g c = λ tells.
+    let p = err_from_is_err_and c.from_residual-in_err-params.result c.from_residual-in_err-params.ensures.1 in
+    memory_on (RefusesPair (g.F.Files.contents c.args.files.now) c.args.path.now (map (λ word. word.now) c.args.arguments.now)) c.from_residual-in_err-params.result p.0 p.1 (out_of_memory p.2)
+
+pub returns-in_err-first-clause-refused : goal.returns-in_err-first-clause-refused
+returns-in_err-first-clause-refused g c = λ tells.
+    let words = map (λ word. word.now) c.args.arguments.now in
+    let why = c.in_err-first.field-0.0 in
+    let p = err_from_is_err_and c.from_residual-in_err-first.result c.from_residual-in_err-first.ensures.1 in
+    handed_on (RefusesPair (g.F.Files.contents c.args.files.now) c.args.path.now words) c.from_residual-in_err-first.result p.0 (Run why) p.1 p.2
+    (no_arguments (c.in_ok-image.ensures.said tells)
+    (subst (λ (params : List Param). IsFaultOfWords (fault_of_both params words) why) (c.as_slice.ensures.value ∙ c.in_ok-params.ensures.params) c.in_err-first.ensures.refused))
+
+pub returns-in_err-pairing-clause-refused : goal.returns-in_err-pairing-clause-refused
+returns-in_err-pairing-clause-refused g c = λ tells.
+    let words = map (λ word. word.now) c.args.arguments.now in
+    let p = err_from_is_err_and c.from_residual-in_err-pairing.result c.from_residual-in_err-pairing.ensures.1 in
+    let spelled = subst (λ (params : List Param). AreBothSpelled params words c.in_ok-first.first c.in_ok-first.second) (c.as_slice.ensures.value ∙ c.in_ok-params.ensures.params) c.in_ok-first.ensures.found in
+    memory_on (RefusesPair (g.F.Files.contents c.args.files.now) c.args.path.now words) c.from_residual-in_err-pairing.result p.0 p.1
+    (no_answer (c.in_ok-image.ensures.said tells) (c.in_ok-first.first, c.in_ok-first.second, c.in_err-pairing.field-0.0, spelled, c.in_err-pairing.ensures, p.2))
+
+pub returns-in_err-line-clause-refused : goal.returns-in_err-line-clause-refused
+returns-in_err-line-clause-refused g c = λ tells.
+    let p = err_from_is_err_and c.from_residual-in_err-line.result c.from_residual-in_err-line.ensures.1 in
+    memory_on (RefusesPair (g.F.Files.contents c.args.files.now) c.args.path.now (map (λ word. word.now) c.args.arguments.now)) c.from_residual-in_err-line.result p.0 p.1 (out_of_memory p.2)

@@ -1,0 +1,18 @@
+-- One job more.
+use Rattle.std.proofs.Common.{◌∙◌, arith}
+use Rattle.commands.proofs.HartLemmas.{one_job_more, job_from, spelled_by}
+use Rattle.commands.proofs.WordLemmas.{spelled_from}
+use Rattle.commands.proofs.side_by_side.load_jobs.Goals as goal
+
+pub loop-job-preserved : goal.loop-job-preserved
+loop-job-preserved g c = record {
+  count = omega (arith, c.in_ok-push.ensures.len);
+  said = λ tells.
+      let files = g.F.Files.contents c.args.files.now in
+      let texts = c.as_slice-in-loop-job.result.now in
+      let spelled = spelled_from texts (λ text. text.now) (c.as_slice.ensures.value ∙ c.in_ok-params.ensures.params) c.in_ok-args.ensures.within c.in_ok-args.ensures.found in
+      one_job_more files c.args.jobs.now c.loop-job.job-index c.job-item.result c.loop-job.loaded.items c.push.new.self.items c.in_ok-image.image c.in_ok-args.args c.loop-job-test.true c.job-item.is c.in_ok-push.ensures.items
+      (job_from files c.job-item.result c.in_ok-image.image c.in_ok-args.args (c.in_ok-image.ensures.said tells)
+      (spelled_by texts c.job-item.result.arguments.items (λ text. text.now) c.as_slice-in-loop-job.ensures.value spelled))
+      (c.loop-job.invariant.said tells);
+}

@@ -1,0 +1,27 @@
+use Rattle.std.proofs.Common.{◌≡◌, ◌⊎◌, inl, inr, ℕ, List, Some, refl, subst}
+use Rattle.commands.specs.Contents.{Contents}
+use Rattle.commands.specs.FileTexts.{NoText, not_read, too_long, not_utf8}
+use Rattle.commands.specs.Unread.{unread, out_of_memory}
+use Rattle.commands.specs.declared.fault.Fault.TheVariants.{Text}
+use Rattle.language.specs.WantOfMemory.{IsWantOfMemory}
+use Rattle.language.specs.declared.refusal.Refusal.{Refusal}
+use Rattle.stream_build.specs.Faults as texts
+use Rattle.stream_build.specs.Faults.{IsTooLong}
+use Rattle.stream_build.specs.declared.fault.BuildFault.TheVariants.{NotUtf8}
+use Rattle.commands.proofs.texts.text_fault.Goals as goal
+
+by_refusal : (files : Contents) (path bytes : List ℕ) (refusal : Refusal) → files path ≡ Some bytes → (IsWantOfMemory refusal.rule refusal.place ⊎ IsTooLong bytes refusal) → NoText files path (Text refusal)
+by_refusal files path bytes refusal held (inl memory) = not_read (out_of_memory memory)
+by_refusal files path bytes refusal held (inr long) = too_long held long
+
+pub returns-in-Read : goal.returns-in-Read
+returns-in-Read c = λ files bytes held why. not_read (unread refl)
+
+pub returns-in-NotUtf8 : goal.returns-in-NotUtf8
+returns-in-NotUtf8 c = λ files bytes held why.
+    let broken : texts.NoText bytes NotUtf8 = subst (texts.NoText bytes) c.in-NotUtf8.is why in
+    not_utf8 held broken.0 broken.1 refl
+
+pub returns-in-Refused : goal.returns-in-Refused
+returns-in-Refused c = λ files bytes held why.
+    by_refusal files c.args.file.now bytes c.in-Refused.refusal held (subst (texts.NoText bytes) c.in-Refused.is why)

@@ -1,0 +1,58 @@
+-- What is printed of a certificate.
+use Rattle.std.specs.Prelude.{◌≡◌, ◌≢◌, ℕ, ◌++◌, List, Option, Some, None, Ok, Err, codes, ⊤}
+use Rattle.std.specs.Fmt.{decimal}
+use Rattle.certificates.specs.Certified.{Certified}
+use Rattle.certificates.specs.Texts.{fault_of_given_texts}
+use Rattle.certified_runs.specs.declared.certifying.CertifiedEnd.{CertifiedEnd}
+use Rattle.certified_runs.specs.declared.certifying.CertifiedEnd.TheVariants.{Same, MayDiffer}
+use Rattle.codegen.specs.Loaded.{params_of, code_at}
+use Rattle.commands.specs.Contents.{Contents}
+use Rattle.commands.specs.ImageRefusals.{RefusesImage}
+use Rattle.commands.specs.Images.{HoldsImage}
+use Rattle.commands.specs.Stops.{status_of}
+use Rattle.commands.specs.Words.{AreGiven}
+use Rattle.commands.specs.declared.fault.Fault.{Fault}
+use Rattle.commands.specs.declared.fault.Fault.TheVariants.{Run}
+use Rattle.hepurita.specs.Bases.{code_base}
+use Rattle.hepurita.specs.declared.fault.RunFault.{RunFault}
+use Rattle.image_fields.specs.Fields.{Fields}
+use Rattle.language.specs.declared.values.Arg.{Arg}
+use Rattle.listing.specs.Code.{IsLineAt}
+use Rattle.listing.specs.Lines.{stop_line}
+use Rattle.rv_machine.specs.Machine.{word_at}
+
+-- `same` and the stop; or the entry that may differ, and the line of the word that stands where its turn is made
+abbrev pub PrintsCertificate : Fields → CertifiedEnd → List ℕ → Type 0
+PrintsCertificate image (Same stop entries) text = text ≡ codes "same\n" ++ stop_line stop
+PrintsCertificate image (MayDiffer entry pc) text =
+    (line : List ℕ) × IsLineAt (code_at code_base image) pc (Some line) × (text ≡ codes "may differ at " ++ decimal entry ++ codes "\n" ++ line)
+
+-- a word begins where the turn is made that may differ
+abbrev pub StandsInCode : Fields → CertifiedEnd → Type 0
+StandsInCode image (Same stop entries) = ⊤
+StandsInCode image (MayDiffer entry pc) = word_at (code_at code_base image) pc ≢ None
+
+-- the exit status: that of the stop; or 1
+abbrev pub certificate_status : CertifiedEnd → ℕ
+certificate_status (Same stop entries) = status_of stop
+certificate_status (MayDiffer entry pc) = 1
+
+-- whether an observer sees the same of the file's image for all arguments that have the values which the words give
+pub record SaysCertificate (files : Contents) (path : List ℕ) (words : List (List ℕ)) (text : List ℕ) (status : ℕ) : Type 0 where
+  pub image : Fields
+  pub given : List (Option Arg)
+  pub certificate : CertifiedEnd
+  pub held : HoldsImage files path image
+  pub as_said : AreGiven (params_of image) words given
+  pub certified : Certified image given (Ok certificate)
+  pub printed : PrintsCertificate image certificate text
+  pub ended : status ≡ certificate_status certificate
+
+-- the certified run on what is given has this fault
+abbrev pub FaultsByCertificate : List (List ℕ) → Fields → Fault → Type 0
+FaultsByCertificate words image fault =
+    (given : List (Option Arg)) × (why : RunFault) × AreGiven (params_of image) words given × Certified image given (Err why) × (fault ≡ Run why)
+
+-- why that is not answered
+abbrev pub RefusesCertificate : Contents → List ℕ → List (List ℕ) → Fault → Type 0
+RefusesCertificate files path words = RefusesImage files path (λ image. fault_of_given_texts (params_of image) words) (FaultsByCertificate words)

@@ -1,0 +1,98 @@
+-- The line and the exit status of each fault.
+use Rattle.std.specs.Prelude.{ℕ, List, ◌++◌, codes}
+use Rattle.std.specs.Fmt.{decimal}
+use Rattle.arguments.specs.Text as arguments
+use Rattle.commands.specs.declared.fault.Fault.{Fault}
+use Rattle.commands.specs.declared.fault.Fault.TheVariants.{Text, Image, Run, Eval, Plan, Harts, Code, File}
+use Rattle.commands.specs.declared.fault.FileFault.{FileFault}
+use Rattle.commands.specs.declared.fault.FileFault.TheVariants.{CannotRead, CannotWrite, NotUtf8}
+use Rattle.harts.specs.RuleNames as rules
+use Rattle.harts.specs.declared.fault.HartsFault.{HartsFault}
+use Rattle.harts.specs.declared.fault.HartsFault.TheVariants as harts
+use Rattle.harts_file.specs.Text.{plan_fault_text}
+use Rattle.harts_file.specs.declared.fault.PlanFault.{PlanFault}
+use Rattle.harts_file.specs.declared.fault.PlanFault.TheVariants as plans
+use Rattle.hepurita.specs.Text.{run_fault_text}
+use Rattle.hepurita.specs.declared.fault.RunFault.{RunFault}
+use Rattle.hepurita.specs.declared.fault.RunFault.TheVariants as runs
+use Rattle.image.specs.Text as images
+use Rattle.image.specs.declared.fault.ImageFault.{ImageFault}
+use Rattle.image.specs.declared.fault.ImageFault.TheVariants as image_faults
+use Rattle.language.specs.Rules.{refusal_text}
+use Rattle.language.specs.declared.rule.Rule.{Rule}
+use Rattle.language.specs.declared.rule.Rule.TheVariants.{OutOfMemory}
+use Rattle.source_eval.specs.FaultText.{eval_fault_text}
+use Rattle.source_eval.specs.declared.fault.EvalFault.{EvalFault}
+use Rattle.source_eval.specs.declared.fault.EvalFault.TheVariants as evaluations
+use Rattle.rv_machine.specs.Stops.{stop_name}
+use Rattle.wrapping.specs.RuleNames.{rule_text}
+
+-- what failed, and the path; that of standard output is `-`
+abbrev pub file_fault_text : FileFault → List ℕ
+file_fault_text (CannotRead path) = codes "cannot read " ++ path.now
+file_fault_text (CannotWrite path) = codes "cannot write " ++ path.now
+file_fault_text (NotUtf8 path) = codes "not UTF-8 " ++ path.now
+
+-- why harts are not run, without the hart's number
+abbrev pub harts_fault_text : HartsFault → List ℕ
+harts_fault_text (harts.Schedule rule at) = rules.code_of rule ++ codes " at turn " ++ decimal at ++ codes ": " ++ rules.name_of rule
+harts_fault_text (harts.Argument hart rule index) = arguments.fault_text (record { rule = rule; index = index })
+harts_fault_text harts.Memory = codes "M1: memory"
+
+-- a run that stopped otherwise than by ECALL, by its stop; else as what is refused
+abbrev pub run_line : RunFault → List ℕ
+run_line (runs.Argument rule index) = codes "refused: " ++ run_fault_text (runs.Argument rule index)
+run_line runs.Memory = codes "refused: " ++ run_fault_text runs.Memory
+run_line (runs.Stopped stop) = codes "stopped: " ++ stop_name stop
+
+-- a fault's line, without its end
+abbrev pub fault_line : Fault → List ℕ
+fault_line (Text refusal) = codes "refused: " ++ refusal_text refusal.rule refusal.place
+fault_line (Image fault) = codes "refused: " ++ images.fault_text fault
+fault_line (Run fault) = run_line fault
+fault_line (Eval fault) = codes "refused: " ++ eval_fault_text fault
+fault_line (Plan fault) = codes "refused: " ++ plan_fault_text fault
+fault_line (Harts fault) = codes "refused: " ++ harts_fault_text fault
+fault_line (Code rule) = codes "refused: " ++ rule_text rule
+fault_line (File fault) = codes "file: " ++ file_fault_text fault
+
+-- 1 refused by a rule, 4 memory
+abbrev pub rule_status : Rule → ℕ
+rule_status OutOfMemory = 4
+rule_status other = 1
+
+abbrev pub image_status : ImageFault → ℕ
+image_status (image_faults.Field rule offset) = 1
+image_status image_faults.Memory = 4
+
+-- 5 stopped otherwise than by ECALL
+abbrev pub run_status : RunFault → ℕ
+run_status (runs.Argument rule index) = 1
+run_status runs.Memory = 4
+run_status (runs.Stopped stop) = 5
+
+abbrev pub eval_status : EvalFault → ℕ
+eval_status (evaluations.Argument fault) = 1
+eval_status (evaluations.NoMeaning place) = 1
+eval_status evaluations.Budget = 1
+eval_status evaluations.Memory = 4
+
+abbrev pub plan_status : PlanFault → ℕ
+plan_status (plans.Line rule line) = 1
+plan_status plans.Memory = 4
+
+abbrev pub harts_status : HartsFault → ℕ
+harts_status (harts.Schedule rule at) = 1
+harts_status (harts.Argument hart rule index) = 1
+harts_status harts.Memory = 4
+
+-- the exit status; 3 is that of a file that failed
+abbrev pub fault_status : Fault → ℕ
+fault_status (Text refusal) = rule_status refusal.rule
+fault_status (Image fault) = image_status fault
+fault_status (Run fault) = run_status fault
+fault_status (Eval fault) = eval_status fault
+fault_status (Plan fault) = plan_status fault
+fault_status (Harts fault) = harts_status fault
+fault_status (Code rule) = 1
+fault_status (File fault) = 3

@@ -1,0 +1,62 @@
+-- What is printed of harts side by side.
+use Rattle.std.specs.Prelude.{ℕ, ◌+◌, ◌==◌, Bool, true, false, List, [], ◌∷◌, ◌++◌, codes, Option, Some, None, if◌then◌else◌}
+use Rattle.std.specs.Fmt.{decimal}
+use Rattle.std.specs.List.{flat_map, list_all}
+use Rattle.codegen.specs.Loaded.{params_of}
+use Rattle.commands.specs.OutcomeText.{outcome_text}
+use Rattle.harts.specs.SideBySide.{Job}
+use Rattle.harts.specs.declared.ends.HartEnd.{HartEnd}
+use Rattle.image_fields.specs.Fields.{Fields}
+use Rattle.language.specs.Results.{Results}
+use Rattle.listing.specs.Lines.{lines_of, stop_line}
+use Rattle.rv_machine.specs.declared.hart_recording.HartObservation.{HartObservation}
+use Rattle.rv_machine.specs.declared.stops.Stop.{Stop}
+use Rattle.rv_machine.specs.declared.stops.Stop.TheVariants.{Ecall, Break, Illegal, AccessFault, Misaligned, Budget, RecorderRefused}
+
+-- bytes with a front before each line, whose ends are the bytes 10; whether the first of them begins a line
+abbrev pub with_fronts : List ℕ → Bool → List ℕ → List ℕ
+with_fronts front begins [] = []
+with_fronts front begins (byte ∷ bytes) = (if begins then front else []) ++ byte ∷ with_fronts front (byte == 10) bytes
+
+-- lines of a hart, each behind its number and a blank
+abbrev pub behind : ℕ → List ℕ → List ℕ
+behind hart lines = with_fronts (decimal hart ++ codes " ") true lines
+
+-- what turns showed, in their order
+abbrev pub turns_text : List HartObservation → List ℕ
+turns_text seen = flat_map (λ turn. behind turn.hart (lines_of (turn.observation ∷ []))) seen
+
+-- how a hart stopped, if it did
+abbrev pub ended_line : Option Stop → List ℕ
+ended_line (Some stop) = stop_line stop
+ended_line None = codes "going\n"
+
+-- its outcome, if it has one
+abbrev pub ended_text : Fields → Option Results → List ℕ
+ended_text image (Some outcome) = outcome_text (params_of image) outcome
+ended_text image None = []
+
+-- how each hart ended, those of the first job numbered so
+abbrev pub ends_text : ℕ → List Job → List HartEnd → List ℕ
+ends_text hart jobs [] = []
+ends_text hart [] (end ∷ ends) = []
+ends_text hart (job ∷ jobs) (end ∷ ends) = behind hart (ended_line end.stop) ++ behind hart (ended_text job.image end.outcome) ++ ends_text (hart + 1) jobs ends
+
+-- what turns showed, and then how each hart ended
+abbrev pub harts_text : List Job → List HartObservation → List HartEnd → List ℕ
+harts_text jobs seen ends = turns_text seen ++ ends_text 0 jobs ends
+
+-- whether a hart has not stopped otherwise than by ECALL
+abbrev pub is_well : Option Stop → Bool
+is_well None = true
+is_well (Some Ecall) = true
+is_well (Some Break) = false
+is_well (Some Illegal) = false
+is_well (Some AccessFault) = false
+is_well (Some Misaligned) = false
+is_well (Some Budget) = false
+is_well (Some RecorderRefused) = false
+
+-- the exit status: 0 where none has, else 5
+abbrev pub status_of_ends : List HartEnd → ℕ
+status_of_ends ends = if list_all (λ end. is_well end.stop) ends then 0 else 5

@@ -1,0 +1,52 @@
+-- What is printed of what the text of a file means.
+use Rattle.std.specs.Prelude.{◌≡◌, ℕ, List, map, Some, Ok}
+use Rattle.arguments.specs.Texts.{fault_of_texts}
+use Rattle.commands.specs.Contents.{Contents}
+use Rattle.commands.specs.FileTexts.{NoText}
+use Rattle.commands.specs.OutcomeText.{outcome_text}
+use Rattle.commands.specs.Unread.{IsOutOfMemory}
+use Rattle.commands.specs.Words.{AreSpelled, IsFaultOfWords}
+use Rattle.commands.specs.declared.fault.Fault.{Fault}
+use Rattle.commands.specs.declared.fault.Fault.TheVariants.{Text, Run}
+use Rattle.hepurita.specs.Built.{Judges, IsRefusal, accepts}
+use Rattle.hepurita.specs.Compiled.{Means}
+use Rattle.hepurita.specs.declared.fault.RunFault.{RunFault}
+use Rattle.inline.specs.Numbering.{param_of}
+use Rattle.language.specs.Results.{Results}
+use Rattle.language.specs.Tree.{ProcedureTree, ProgramTree}
+use Rattle.language.specs.declared.refusal.Refusal.{Refusal}
+use Rattle.language.specs.declared.values.Arg.{Arg}
+use Rattle.source_eval.specs.Answer.{answer}
+use Rattle.stream_build.specs.Faults.{IsText}
+use Rattle.word.specs.declared.profile.Profile.TheVariants.{P1}
+
+-- how many nodes are evaluated at most
+abbrev pub evaluation_budget : ℕ
+evaluation_budget = 4294967296
+
+-- the file's bytes are a text that is accepted, with this export
+pub record HoldsProgram (files : Contents) (path : List ℕ) (program : ProgramTree) (export : ProcedureTree) : Type 0 where
+  pub bytes : List ℕ
+  pub before : List ProcedureTree
+  pub held : files path ≡ Some bytes
+  pub is_text : IsText bytes
+  pub accepted : Judges P1 bytes (accepts program before export)
+
+-- the text of the one outcome that the file's program means on the arguments that the words spell, worked out within the budget
+pub record SaysMeaning (files : Contents) (path : List ℕ) (words : List (List ℕ)) (text : List ℕ) : Type 0 where
+  pub program : ProgramTree
+  pub export : ProcedureTree
+  pub args : List Arg
+  pub outcome : Results
+  pub held : HoldsProgram files path program export
+  pub spelled : AreSpelled (map param_of export.parameters) words args
+  pub means : Means program args outcome
+  pub within : answer program args evaluation_budget ≡ Ok outcome
+  pub printed : text ≡ outcome_text (map param_of export.parameters) outcome
+
+-- why there is none: no text, a text that is refused, no arguments
+pub data RefusesMeaning (files : Contents) (path : List ℕ) (words : List (List ℕ)) : Fault → Type 0 where
+  no_text : {fault : Fault} → NoText files path fault → RefusesMeaning files path words fault
+  not_accepted : {bytes : List ℕ} {refusal : Refusal} → files path ≡ Some bytes → IsText bytes → IsRefusal (Judges P1 bytes) refusal → RefusesMeaning files path words (Text refusal)
+  no_arguments : {program : ProgramTree} {export : ProcedureTree} {fault : RunFault} → HoldsProgram files path program export → IsFaultOfWords (fault_of_texts (map param_of export.parameters) words) fault → RefusesMeaning files path words (Run fault)
+  out_of_memory : {fault : Fault} → IsOutOfMemory fault → RefusesMeaning files path words fault

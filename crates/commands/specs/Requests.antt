@@ -1,0 +1,91 @@
+-- What is asked for, done: what is printed, the exit status, and what files hold then.
+use Rattle.std.specs.Prelude.{◌≡◌, ◌⊎◌, ℕ, List, [], ◌++◌, map, codes}
+use Rattle.command_line.specs.declared.words.Request.{Request}
+use Rattle.command_line.specs.declared.words.Request.TheVariants as requests
+use Rattle.commands.specs.Certificates.{SaysCertificate, RefusesCertificate}
+use Rattle.commands.specs.Contents.{Contents}
+use Rattle.commands.specs.FaultText.{fault_line, fault_status}
+use Rattle.commands.specs.Harts.{SaysHarts}
+use Rattle.commands.specs.Images.{NoImage}
+use Rattle.commands.specs.Judged.{IsAccepted, IsRefused, IsImageOf}
+use Rattle.commands.specs.Leaks.{SaysLeak, RefusesLeak, IsOutputFault}
+use Rattle.commands.specs.Meanings.{SaysMeaning, RefusesMeaning}
+use Rattle.commands.specs.Pairs.{SaysPair, RefusesPair, SaysList}
+use Rattle.commands.specs.Runs.{SaysRun, RefusesRun}
+use Rattle.commands.specs.WrappedCode.{IsImageOfCode, RefusesCode}
+use Rattle.commands.specs.Written.{WritesFile, FailsToWrite}
+use Rattle.commands.specs.declared.fault.Fault.{Fault}
+use Rattle.streams.specs.Streams.{GainsPart}
+use Rattle.wrapping.specs.declared.asked.Asked.{Asked}
+
+-- the text that answers a request, and the exit status, by what files hold
+abbrev pub Answers : Request → Contents → List ℕ → ℕ → Type 0
+Answers (requests.Check file profile) files text status = IsAccepted profile files file.now × (text ≡ codes "accepted\n") × (status ≡ 0)
+Answers (requests.Build file image profile) files text status = (text ≡ []) × (status ≡ 0)
+Answers (requests.Eval file arguments) files text status = SaysMeaning files file.now (map (λ word. word.now) arguments.now) text × (status ≡ 0)
+Answers (requests.Run image arguments) files text status = SaysRun files image.now (map (λ word. word.now) arguments.now) text × (status ≡ 0)
+Answers (requests.Leak image arguments) files text status = SaysLeak files image.now (map (λ word. word.now) arguments.now) status text
+Answers (requests.Pair image arguments) files text status = SaysPair files image.now (map (λ word. word.now) arguments.now) text × (status ≡ 0)
+Answers (requests.Certify image arguments) files text status = SaysCertificate files image.now (map (λ word. word.now) arguments.now) text status
+Answers (requests.List image) files text status = SaysList files image.now text × (status ≡ 0)
+Answers (requests.Wrap file code image frame steps profile) files text status = (text ≡ []) × (status ≡ 0)
+Answers (requests.Harts file) files text status = SaysHarts files file.now text status
+
+-- what files hold once a request is done: an image that was written, and else what they held
+abbrev pub Leaves : Request → Contents → Contents → Type 0
+Leaves (requests.Check file profile) before after = after ≡ before
+Leaves (requests.Build file image profile) before after = WritesFile image.now (IsImageOf profile before file.now) before after
+Leaves (requests.Eval file arguments) before after = after ≡ before
+Leaves (requests.Run image arguments) before after = after ≡ before
+Leaves (requests.Leak image arguments) before after = after ≡ before
+Leaves (requests.Pair image arguments) before after = after ≡ before
+Leaves (requests.Certify image arguments) before after = after ≡ before
+Leaves (requests.List image) before after = after ≡ before
+Leaves (requests.Wrap file code image frame steps profile) before after =
+    WritesFile image.now (IsImageOfCode (record { frame_bytes = frame; max_steps = steps; profile = profile }) before file.now code.now) before after
+Leaves (requests.Harts file) before after = after ≡ before
+
+-- why a request is not done, and what files hold then
+abbrev pub Refuses : Request → Contents → Contents → Fault → Type 0
+Refuses (requests.Check file profile) before after fault = IsRefused profile before file.now fault × (after ≡ before)
+Refuses (requests.Build file image profile) before after fault =
+    FailsToWrite image.now (IsImageOf profile before file.now) (IsRefused profile before file.now) before after fault
+Refuses (requests.Eval file arguments) before after fault = RefusesMeaning before file.now (map (λ word. word.now) arguments.now) fault × (after ≡ before)
+Refuses (requests.Run image arguments) before after fault = RefusesRun before image.now (map (λ word. word.now) arguments.now) fault × (after ≡ before)
+Refuses (requests.Leak image arguments) before after fault = RefusesLeak before image.now (map (λ word. word.now) arguments.now) fault × (after ≡ before)
+Refuses (requests.Pair image arguments) before after fault = RefusesPair before image.now (map (λ word. word.now) arguments.now) fault × (after ≡ before)
+Refuses (requests.Certify image arguments) before after fault =
+    RefusesCertificate before image.now (map (λ word. word.now) arguments.now) fault × (after ≡ before)
+Refuses (requests.List image) before after fault = NoImage before image.now fault × (after ≡ before)
+Refuses (requests.Wrap file code image frame steps profile) before after fault =
+    let asked : Asked = record { frame_bytes = frame; max_steps = steps; profile = profile } in
+    FailsToWrite image.now (IsImageOfCode asked before file.now code.now) (RefusesCode asked before file.now code.now) before after fault
+Refuses (requests.Harts file) before after fault = after ≡ before
+
+-- bytes went out, all of them, or where a call failed a beginning of them
+abbrev pub IsPut : List ℕ → List ℕ → List ℕ → Type 0
+IsPut bytes before after = (after ≡ before ++ bytes) ⊎ GainsPart before after bytes
+
+-- how a fault is reported on standard error, with which exit status: by its line; or, where there is no memory for that, as want of memory
+pub data Reports (fault : Fault) (before after : List ℕ) : ℕ → Type 0 where
+  by_line : IsPut (fault_line fault ++ codes "\n") before after → Reports fault before after (fault_status fault)
+  no_memory : IsPut (codes "refused: M1: memory\n") before after → Reports fault before after 4
+
+-- a request is done, with this exit status: standard output gains its text
+pub record IsDone (request : Request) (before after : Contents) (out out' : List ℕ) (status : ℕ) : Type 0 where
+  pub text : List ℕ
+  pub answered : Answers request before text status
+  pub left : Leaves request before after
+  pub printed : out' ≡ out ++ text
+
+-- a request fails by a fault: it is refused, and nothing is printed; or it is done, and standard output failed
+pub data Fails (request : Request) (before after : Contents) (out out' : List ℕ) : Fault → Type 0 where
+  refused : {fault : Fault} → Refuses request before after fault → out' ≡ out → Fails request before after out out' fault
+  unprinted : {text : List ℕ} {fault : Fault} (status : ℕ) → Answers request before text status → Leaves request before after → GainsPart out out' text
+      → IsOutputFault fault → Fails request before after out out' fault
+
+-- what comes of a request, with the exit status
+pub data Performs (request : Request) (before after : Contents) (out out' err err' : List ℕ) : ℕ → Type 0 where
+  done : {status : ℕ} → IsDone request before after out out' status → err' ≡ err → Performs request before after out out' err err' status
+  failed : {fault : Fault} {status : ℕ} → Fails request before after out out' fault → Reports fault err err' status
+      → Performs request before after out out' err err' status
