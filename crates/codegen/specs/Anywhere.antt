@@ -1,0 +1,67 @@
+-- What is promised of an image's code wherever its words stand, but for the last, ECALL: among whatever other code, over
+-- whatever other data, and whatever the other registers hold. It runs to behind its words, writes its frame alone, and
+-- leaves the outcome in its slots. So it can be the body of a function.
+use Rattle.std.specs.Prelude.{◌≡◌, ◌⊎◌, ℕ, ◌+◌, ◌*◌, ◌%◌, ◌^◌, ◌<◌, ◌≤◌, true, List, [], ◌∷◌, length, All, Some, is_some}
+use Rattle.arguments.specs.Within.{AreWithin}
+use Rattle.branch_removal.specs.Straight.{StraightProgram}
+use Rattle.branch_removal.specs.StraightMeaning.{outcome_of, path_of}
+use Rattle.codegen.specs.Bases.{IsInside}
+use Rattle.codegen.specs.Loaded.{loaded_at, results_in}
+use Rattle.image_fields.specs.Fields.{Fields}
+use Rattle.inline.specs.Path.{Path, AreFine, seen}
+use Rattle.language.specs.declared.values.Arg.{Arg}
+use Rattle.rv_machine.specs.Leakage.{Leads}
+use Rattle.rv_machine.specs.Machine.{State, Code, word_at}
+use Rattle.rv_machine.specs.declared.observation.Observation.{Observation}
+
+-- the words of code but the last
+abbrev pub body_words : List ℕ → List ℕ
+body_words [] = []
+body_words (word ∷ []) = []
+body_words (word ∷ next ∷ words) = word ∷ body_words (next ∷ words)
+
+-- these words stand in code from an address on
+abbrev pub Stand : Code → ℕ → List ℕ → Type 0
+Stand code p [] = Unit {0}
+Stand code p (word ∷ words) = (p % 4 ≡ 0) × (p + 4 < 2 ^ 32) × (word_at code p ≡ Some word) × Stand code (p + 4) words
+
+-- where an image's body stands, and where its frame lies
+pub record IsPlaced (image : Fields) (code : Code) (start frame : ℕ) : Type 0 where
+  pub observed : code.profile ≡ image.profile
+  pub words : Stand code start (body_words image.words)
+  pub frame_aligned : frame % 4 ≡ 0
+  pub frame_ends : frame + image.frame_bytes < 2 ^ 32
+
+-- the frame's base in x2, and in the frame what a loaded image has there: the arguments in their slots, zeros elsewhere
+pub record IsLoaded (image : Fields) (frame : ℕ) (args : List Arg) (s : State) : Type 0 where
+  pub base : s.regs 2 ≡ frame
+  pub frame_there : (o : ℕ) → o < image.frame_bytes → s.bytes (frame + o) ≡ (loaded_at 0 frame image args).bytes (frame + o)
+
+-- ra, gp and tp, which no code of a body touches
+abbrev pub IsUntouched : ℕ → Type 0
+IsUntouched r = (r ≡ 1) ⊎ (r ≡ 3) ⊎ (r ≡ 4)
+
+-- an address before the frame or behind it
+abbrev pub IsBeside : Fields → ℕ → ℕ → Type 0
+IsBeside image frame a = (a < frame) ⊎ (frame + image.frame_bytes ≤ a)
+
+-- a run of the body, which shows this list
+pub record RunsBehind (p : StraightProgram) (image : Fields) (code : Code) (start frame : ℕ) (args : List Arg) (s : State) (list : List Observation) : Type 0 where
+  pub turns : ℕ
+  pub end : State
+  pub leads : Leads code turns s list end
+  -- ECALL would be one turn more
+  pub within_steps : turns < image.max_steps
+  pub within_frame : All (λ (o : Observation). IsInside frame image.frame_bytes o.event) list
+  pub behind : end.pc ≡ start + 4 * length (body_words image.words)
+  pub base : end.regs 2 ≡ frame
+  pub untouched : (r : ℕ) → IsUntouched r → end.regs r ≡ s.regs r
+  pub beside : (a : ℕ) → IsBeside image frame a → end.bytes a ≡ s.bytes a
+  pub frame_there : (o : ℕ) → o < image.frame_bytes → is_some (end.bytes (frame + o)) ≡ true
+  pub outcome : results_in frame image end.bytes ≡ outcome_of p args
+
+-- one list for what is seen of each path, whatever the arguments and the rest of the state
+pub record IsFollowedIn (p : StraightProgram) (image : Fields) (code : Code) (start frame : ℕ) : Type 0 where
+  pub shown : Path → List Observation
+  pub runs : (args : List Arg) (s : State) → s.pc ≡ start → IsLoaded image frame args s → AreWithin p.parameters args → AreFine p.turns (path_of p args)
+      → RunsBehind p image code start frame args s (shown (seen p.profile (path_of p args)))

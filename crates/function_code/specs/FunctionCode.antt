@@ -1,0 +1,185 @@
+-- The words of a function for C: the code of an image, between code that takes arguments as C passes them and code that
+-- hands results back and goes back to the caller. They may stand anywhere.
+--
+-- The room of a call lies below the caller's sp: the image's frame at its lower end, in whole blocks of 16 bytes, then the
+-- caller's s0 to s11, then a0 to a7, so that argument i stands in the i-th word from there on, also where C passes it on the stack.
+use Rattle.std.specs.Prelude.{ℕ, zero, suc, ◌+◌, ◌-◌, ◌*◌, ◌^◌, ◌==◌, List, [], ◌∷◌, ◌++◌, length, map, Option, Some, None, if◌then◌else◌}
+use Rattle.codegen.specs.Anywhere.{body_words}
+use Rattle.codegen.specs.private.Emitted.{store_by}
+use Rattle.expression_code.specs.TermCode.{load_code, store_code, constant_code, cut_code, is_not_zero_code, load_by}
+use Rattle.function_code.specs.Convention.{link_register, stack_register, saved_registers, argument_registers, result_register, scratch_registers, whole_blocks}
+use Rattle.image_fields.specs.Fields.{Fields}
+use Rattle.image_fields.specs.declared.slot.ResultSlot.{ResultSlot}
+use Rattle.image_fields.specs.declared.slot.Slot.{Slot}
+use Rattle.language.specs.Operators.{width_of}
+use Rattle.language.specs.Size.{element_bytes}
+use Rattle.language.specs.declared.signature.Form.{Form}
+use Rattle.language.specs.declared.signature.Form.TheVariants.{SingleWord, FixedArray, MutableArray}
+use Rattle.language.specs.declared.signature.Kind.{Kind}
+use Rattle.language.specs.declared.signature.Kind.TheVariants.{Boolean, Uint8, Uint16, Uint32}
+use Rattle.rv_code.specs.Words.{word_of}
+use Rattle.rv_code.specs.declared.instructions.Instr.{Instr}
+use Rattle.rv_code.specs.declared.instructions.Instr.TheVariants.{Immediate, Register, Branch, JumpRegister, Load, Store}
+use Rattle.rv_code.specs.declared.operations.BranchTest.TheVariants.{Bne}
+use Rattle.rv_code.specs.declared.operations.ImmediateOperation.TheVariants.{Addi}
+use Rattle.rv_code.specs.declared.operations.LoadOperation.TheVariants.{Lw}
+use Rattle.rv_code.specs.declared.operations.RegisterOperation.TheVariants.{Add, Sub}
+use Rattle.rv_code.specs.declared.operations.StoreOperation.TheVariants.{Sw}
+
+-- Sizes.
+
+-- the bytes of the frame, in whole blocks
+abbrev pub frame_room : Fields → ℕ
+frame_room image = whole_blocks image.frame_bytes
+
+-- the bytes above it: 12 saved registers and 8 arguments
+abbrev pub above_frame : ℕ
+above_frame = 80
+
+-- how many bytes of stack a call takes
+abbrev pub room_of : Fields → ℕ
+room_of image = frame_room image + above_frame
+
+-- where argument i stands, from x2 on
+abbrev pub argument_offset : Fields → ℕ → ℕ
+argument_offset image i = frame_room image + 48 + 4 * i
+
+-- Pieces.
+
+-- registers into one word after another, from an offset of a base on; and back
+abbrev pub stores_code : ℕ → ℕ → List ℕ → List Instr
+stores_code base offset [] = []
+stores_code base offset (r ∷ rs) = Store Sw r base offset ∷ stores_code base (offset + 4) rs
+
+abbrev pub loads_code : ℕ → ℕ → List ℕ → List Instr
+loads_code base offset [] = []
+loads_code base offset (r ∷ rs) = Load Lw r base offset ∷ loads_code base (offset + 4) rs
+
+-- these instructions, and again from the first on as long as two registers differ
+abbrev pub until_equal : ℕ → ℕ → List Instr → List Instr
+until_equal one other body = body ++ Branch Bne one other (2 ^ 12 - 2 * length body) ∷ []
+
+-- a number added to a register; 4096 - n takes n away
+abbrev pub added : ℕ → ℕ → Instr
+added r n = Immediate Addi r r n
+
+-- four words of zeros from x2 on
+abbrev pub zeros_code : List Instr
+zeros_code = stores_code stack_register 0 (0 ∷ 0 ∷ 0 ∷ 0 ∷ [])
+
+-- Entry.
+
+-- room above the frame: what the caller has in s0 to s11, and the arguments in a0 to a7
+abbrev pub entry_code : List Instr
+entry_code =
+    added stack_register (4096 - above_frame) ∷ stores_code stack_register 0 saved_registers ++ stores_code stack_register 48 argument_registers
+
+-- the frame, zeroed block by block downward, so that nothing live ever lies below x2
+abbrev pub frame_code : ℕ → List Instr
+frame_code room =
+    if room == 0 then [] else
+    constant_code 5 room ++ Register Sub 5 stack_register 5 ∷ until_equal stack_register 5 (added stack_register (4096 - 16) ∷ zeros_code)
+
+-- what a raw word means by its kind: a bool is whether it is not 0, a number its low bits
+abbrev pub meant_code : ℕ → Kind → List Instr
+meant_code r Boolean = is_not_zero_code r
+meant_code r Uint8 = cut_code r (width_of Uint8)
+meant_code r Uint16 = cut_code r (width_of Uint16)
+meant_code r Uint32 = []
+
+-- an argument that is a word into its slot
+abbrev pub word_code : Fields → ℕ → Slot → List Instr
+word_code image i slot = load_code 5 (argument_offset image i) ++ meant_code 5 slot.param.kind ++ store_code 5 slot.offset
+
+-- how many bytes the array of a slot has
+abbrev pub array_bytes : Slot → ℕ
+array_bytes slot = element_bytes slot.param.kind * slot.param.length
+
+-- the caller's array from x5 to x7, and its slot from x6 on
+abbrev pub bounds_code : Fields → ℕ → Slot → List Instr
+bounds_code image i slot =
+    load_code 5 (argument_offset image i)
+    ++ constant_code 6 slot.offset ++ Register Add 6 6 stack_register ∷ []
+    ++ constant_code 7 (array_bytes slot) ++ Register Add 7 7 5 ∷ []
+
+-- one element more is done
+abbrev pub next_code : Kind → List Instr
+next_code kind = added 5 (element_bytes kind) ∷ added 6 (element_bytes kind) ∷ []
+
+-- a bool element as 0 or 1; numbers have their width
+abbrev pub element_meant_code : Kind → List Instr
+element_meant_code Boolean = is_not_zero_code 28
+element_meant_code Uint8 = []
+element_meant_code Uint16 = []
+element_meant_code Uint32 = []
+
+-- an array that the argument points to into its slot
+abbrev pub copy_in_code : Fields → ℕ → Slot → List Instr
+copy_in_code image i slot =
+    let kind = slot.param.kind in
+    bounds_code image i slot
+    ++ until_equal 5 7 (Load (load_by kind) 28 5 0 ∷ element_meant_code kind ++ Store (store_by kind) 28 6 0 ∷ next_code kind)
+
+abbrev pub argument_code : Fields → ℕ → Slot → Form → List Instr
+argument_code image i slot SingleWord = word_code image i slot
+argument_code image i slot FixedArray = copy_in_code image i slot
+argument_code image i slot MutableArray = copy_in_code image i slot
+
+-- all arguments from the i-th on
+abbrev pub arguments_code : Fields → ℕ → List Slot → List Instr
+arguments_code image i [] = []
+arguments_code image i (slot ∷ slots) = argument_code image i slot slot.param.form ++ arguments_code image (i + 1) slots
+
+abbrev pub enter_code : Fields → List Instr
+enter_code image = entry_code ++ frame_code (frame_room image) ++ arguments_code image 0 image.slots
+
+-- The way back.
+
+-- the result into a0, which is 0 where there is none
+abbrev pub result_code : Option ResultSlot → List Instr
+result_code None = Immediate Addi result_register 0 0 ∷ []
+result_code (Some slot) = load_code result_register slot.offset
+
+-- an array from its slot to where the argument points
+abbrev pub copy_out_code : Fields → ℕ → Slot → Form → List Instr
+copy_out_code image i slot SingleWord = []
+copy_out_code image i slot FixedArray = []
+copy_out_code image i slot MutableArray =
+    let kind = slot.param.kind in
+    bounds_code image i slot ++ until_equal 5 7 (Load (load_by kind) 28 6 0 ∷ Store (store_by kind) 28 5 0 ∷ next_code kind)
+
+-- all arrays that may be changed, from the i-th argument on
+abbrev pub results_code : Fields → ℕ → List Slot → List Instr
+results_code image i [] = []
+results_code image i (slot ∷ slots) = copy_out_code image i slot slot.param.form ++ results_code image (i + 1) slots
+
+-- the caller's s0 to s11, and its x2 in x5
+abbrev pub restore_code : ℕ → List Instr
+restore_code room =
+    constant_code 5 room ++ Register Add 5 5 stack_register ∷ loads_code 5 0 saved_registers ++ added 5 above_frame ∷ []
+
+-- all the room, zeroed block by block upward
+abbrev pub wipe_code : List Instr
+wipe_code = until_equal stack_register 5 (zeros_code ++ added stack_register 16 ∷ [])
+
+-- registers become 0
+abbrev pub clear_registers_code : List ℕ → List Instr
+clear_registers_code rs = map (λ r. Immediate Addi r 0 0) rs
+
+abbrev pub leave_code : Fields → List Instr
+leave_code image =
+    result_code image.returned ++ results_code image 0 image.slots ++ restore_code (frame_room image)
+    ++ wipe_code ++ clear_registers_code scratch_registers ++ JumpRegister 0 link_register 0 ∷ []
+
+-- The function.
+
+unfoldable pub function_words : Fields → List ℕ
+function_words image = map word_of (enter_code image) ++ body_words image.words ++ map word_of (leave_code image)
+
+-- Turns: those of the code around the body, of which each loop makes so many as there are blocks or elements.
+
+abbrev pub load_turns : ℕ → ℕ
+load_turns offset = length (load_code 5 offset)
+
+abbrev pub constant_turns : ℕ → ℕ
+constant_turns n = length (constant_code 5 n)
