@@ -12,18 +12,12 @@ use Rattle.rv_machine.specs.Machine.{State}
 use Rattle.rv_machine.specs.declared.observation.Observation.{Observation}
 use Rattle.rv_machine.specs.declared.stops.Stop.TheVariants.{Ecall}
 use Rattle.language.specs.declared.values.Arg.{Arg}
-use Rattle.language.specs.Meaning.{Ending, Gives, gives}
-use Rattle.language.specs.Results.{Results}
 use Rattle.language.specs.Size.{extents_of, nodes_of}
 use Rattle.language.specs.Tree.{ProcedureTree, ProgramTree}
 use Rattle.arguments.specs.Agreement.{Agree}
 use Rattle.codegen.specs.Bases.{AreBases, IsInside}
 use Rattle.codegen.specs.Loaded.{params_of, code_at, loaded_at, results_in}
-
--- on these arguments the program gives these results, and nothing else: it meets no fault
-pub record Means (program : ProgramTree) (args : List Arg) (results : Results) : Type 0 where
-  pub given : Gives program args (gives results)
-  pub alone : (other : Ending Results) → Gives program args other → other ≡ gives results
+pub use Rattle.hepurita.specs.Meant.{Means}
 
 -- the image's run on arguments, at these bases: from where it is loaded to the ECALL that stops it
 pub record WholeRun (image : Fields) (code frame : ℕ) (args : List Arg) : Type 0 where
