@@ -132,9 +132,9 @@ module _ (p : StraightProgram) (room : HasRoom p) (code : Code) (start frame : �
 
   -- among the other words of the code
   among : {n : ℕ} {s t : machine.State} {seen : List Observation} → Leads setting.code n s seen t → Leads code n s seen t
-  among leads =
+  among {n} {s} {t} {seen} leads =
       let same : p.profile ≡ code.profile = sym there.observed in
-      leads_among code start (map word_of (body_code p)) standing (subst (λ (profile : Profile). Leads (words_alone profile start (map word_of (body_code p))) _ _ _ _) same leads)
+      leads_among code start (map word_of (body_code p)) standing (subst (λ (profile : Profile). Leads (words_alone profile start (map word_of (body_code p))) n s seen t) same leads)
 
   runs_behind : (args : List Arg) (s : machine.State) → s.pc ≡ start → IsLoaded (image_of p) frame args s → AreWithin p.parameters args → AreFine p.turns (path_of p args)
       → RunsBehind p (image_of p) code start frame args s ((straight.leak (seen_by setting (path_of p args) ++ [])).0)
