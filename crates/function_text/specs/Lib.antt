@@ -1,0 +1,5 @@
+pub mod Names
+pub mod Functions
+pub mod FaultText
+pub mod AssemblerText
+pub mod HeaderText

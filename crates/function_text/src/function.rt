@@ -1,0 +1,106 @@
+// The function of a text.
+
+ghost use Rattle.std.specs.Prelude.{◌≡◌, ℕ, List, map, IfOk, IfErr};
+ghost use Rattle.std.specs.String.{string_bytes};
+ghost use Rattle.function_text.specs.Functions.{IsFunctionOf, IsFaultOf, named, parts_of, written_parameter};
+ghost use Rattle.function_text.specs.Names.{guard_name, stack_name};
+ghost use Rattle.language.specs.Tree.{parameter_tree};
+
+use crate::fault::FunctionFault;
+use crate::names::{Macros, is_taken_name, macros_of, written_name};
+use hepurita::build_as;
+use image::{Image, read};
+use image_fields::ImageFields;
+use language::{Param, Parameter, Procedure, Profile, Program, Refusal};
+use std::alloc::{AllocError, Global};
+use syntax::{one_answer_for_a_text, parse};
+
+/// A parameter under the name that is written for it.
+#[derive(Debug, Drop)]
+pub struct NamedParam {
+    pub name: String,
+    pub param: Param,
+}
+
+/// A function for C: the code of the image of an accepted text, under the names of its export.
+#[derive(Debug, Drop)]
+pub struct Function<'a> {
+    pub name: &'a str,
+    pub parameters: Vec<NamedParam>,
+    pub image: ImageFields,
+}
+
+/// The fields of an image that was read.
+fn fields_of(alloc: Global, image: &Image) -> Result<ImageFields, AllocError>
+    ensures { IfOk result (λ fields. fields ≡ image.now) }
+{
+    let slots = image.slots().to_vec(alloc)?;
+    let words = image.words().to_vec(alloc)?;
+    Ok(ImageFields::new(
+        image.profile(),
+        slots,
+        image.returned(),
+        image.frame_bytes(),
+        image.max_steps(),
+        words,
+    ))
+}
+
+/// Parameters under the names that are written for them.
+fn named_params(
+    alloc: Global,
+    macros: &Macros,
+    parameters: &[Parameter<'_>],
+) -> Result<Vec<NamedParam>, AllocError>
+    ensures { (function : List ℕ) → string_bytes macros.now.guard ≡ guard_name function → string_bytes macros.now.stack ≡ stack_name function
+        → IfOk result (λ named_params. map named named_params.items ≡ map (λ p. written_parameter function (parameter_tree p)) parameters.now) }
+{
+    let mut params = Vec::with_capacity(alloc, parameters.len())?;
+    for parameter in parameters {
+        let name = written_name(alloc, macros, parameter.name)?;
+        params.push(NamedParam {
+            name,
+            param: parameter.param(),
+        })?;
+    }
+    Ok(params)
+}
+
+/// The export of the program of a text that is accepted.
+fn export_of<'p, 'a>(program: &'p Program<'a>) -> &'p Procedure<'a>
+{
+    match program.exported() {
+        Some((_, export)) => export,
+        None => unreachable!(),
+    }
+}
+
+/// The function of a text that is accepted for an observer of this profile. A text that is not is refused as by
+/// `build_as`, before its names are looked at; then an export's name that C, C++ or an assembler cannot take.
+pub fn function_of<'a>(
+    alloc: Global,
+    text: &'a str,
+    profile: Profile,
+) -> Result<Function<'a>, FunctionFault<Refusal>>
+    ensures made { IfOk result (λ function. IsFunctionOf profile text.now (parts_of function)) }
+    ensures fault { IfErr result (IsFaultOf profile text.now) }
+{
+    let bytes = build_as(alloc, text, profile)?;
+    let program = parse(alloc, text)?;
+    let export = export_of(&program);
+    if is_taken_name(export.name) {
+        return Err(FunctionFault::Name(export.place));
+    }
+    let image = match read(alloc, bytes.as_slice()) {
+        Ok(image) => image,
+        Err(_) => return Err(FunctionFault::Text(Refusal::memory())),
+    };
+    let macros = macros_of(alloc, export.name)?;
+    let parameters = named_params(alloc, &macros, export.parameters.as_slice())?;
+    let image = fields_of(alloc, &image)?;
+    Ok(Function {
+        name: export.name,
+        parameters,
+        image,
+    })
+}

@@ -1,0 +1,117 @@
+// Names that a function for C, or a parameter of one, cannot have.
+
+ghost use Rattle.std.specs.Prelude.{◌≡◌, ◌||◌, ℕ, List, codes, IfOk};
+ghost use Rattle.std.specs.List.{list_any};
+ghost use Rattle.std.specs.String.{string_bytes};
+ghost use Rattle.function_text.specs.Names.{is_word, c_words, cpp_words, register_words, other_words, is_compilers, is_integers, ends, is_taken_name, guard_name, stack_name, written_name};
+
+use std::alloc::{AllocError, Global};
+
+/// Keywords of C11, those that GNU C adds, and what `<stdbool.h>` defines.
+const C_WORDS: [&str; 39] = [
+    "auto", "break", "case", "char", "const", "continue", "default", "do", "double", "else", "enum",
+    "extern", "float", "for", "goto", "if", "inline", "int", "long", "register", "restrict",
+    "return", "short", "signed", "sizeof", "static", "struct", "switch", "typedef", "union",
+    "unsigned", "void", "volatile", "while", "asm", "typeof", "bool", "true", "false",
+];
+
+/// Keywords that C++17 has beside these.
+const CPP_WORDS: [&str; 47] = [
+    "alignas", "alignof", "and", "and_eq", "bitand", "bitor", "catch", "char16_t", "char32_t",
+    "class", "compl", "const_cast", "constexpr", "decltype", "delete", "dynamic_cast", "explicit",
+    "export", "friend", "mutable", "namespace", "new", "noexcept", "not", "not_eq", "nullptr",
+    "operator", "or", "or_eq", "private", "protected", "public", "reinterpret_cast",
+    "static_assert", "static_cast", "template", "this", "thread_local", "throw", "try", "typeid",
+    "typename", "using", "virtual", "wchar_t", "xor", "xor_eq",
+];
+
+/// The registers of RV32, by number and by use.
+const REGISTERS: [&str; 66] = [
+    "x0", "x1", "x2", "x3", "x4", "x5", "x6", "x7", "x8", "x9", "x10", "x11", "x12", "x13", "x14",
+    "x15", "x16", "x17", "x18", "x19", "x20", "x21", "x22", "x23", "x24", "x25", "x26", "x27",
+    "x28", "x29", "x30", "x31", "zero", "ra", "sp", "gp", "tp", "fp", "pc", "t0", "t1", "t2", "t3",
+    "t4", "t5", "t6", "s0", "s1", "s2", "s3", "s4", "s5", "s6", "s7", "s8", "s9", "s10", "s11",
+    "a0", "a1", "a2", "a3", "a4", "a5", "a6", "a7",
+];
+
+/// The function that a program begins with, names that compilers for Unix define, and limits of `<stdint.h>`.
+const OTHER_WORDS: [&str; 12] = [
+    "main", "linux", "unix", "PTRDIFF_MIN", "PTRDIFF_MAX", "SIG_ATOMIC_MIN", "SIG_ATOMIC_MAX",
+    "SIZE_MAX", "WCHAR_MIN", "WCHAR_MAX", "WINT_MIN", "WINT_MAX",
+];
+
+/// `_` and a capital letter, or two `_`, which are the compiler's own.
+fn is_compilers(name: &[u8]) -> bool
+    ensures { result ≡ is_compilers name.now }
+{
+    match name {
+        [b'_', second, ..] => *second == b'_' || second.is_ascii_uppercase(),
+        _ => false,
+    }
+}
+
+/// What `<stdint.h>` may define: `intN_t` and `uintN_t` in all their forms, and their limits.
+fn is_integers(name: &[u8]) -> bool
+    ensures { result ≡ is_integers name.now }
+{
+    let is_type = name.starts_with(b"int") || name.starts_with(b"uint");
+    let is_limit = name.starts_with(b"INT") || name.starts_with(b"UINT");
+    (is_type && name.ends_with(b"_t"))
+        || (is_limit
+            && (name.ends_with(b"_MIN") || name.ends_with(b"_MAX") || name.ends_with(b"_C")))
+}
+
+/// Whether C, C++ or an assembler cannot take a name for a function.
+pub fn is_taken_name(name: &str) -> bool
+    ensures { result ≡ is_taken_name name.now }
+{
+    C_WORDS.contains(&name)
+        || CPP_WORDS.contains(&name)
+        || REGISTERS.contains(&name)
+        || OTHER_WORDS.contains(&name)
+        || is_compilers(name.as_bytes())
+        || is_integers(name.as_bytes())
+}
+
+/// The macros that the header of a function defines.
+#[derive(Debug, Drop)]
+pub(crate) struct Macros {
+    pub guard: String,
+    pub stack: String,
+}
+
+/// Those of the function of a name.
+pub(crate) fn macros_of(alloc: Global, function: &str) -> Result<Macros, AllocError>
+    ensures guard { IfOk result (λ macros. string_bytes macros.guard ≡ guard_name function.now) }
+    ensures stack { IfOk result (λ macros. string_bytes macros.stack ≡ stack_name function.now) }
+{
+    let guard = format!(in alloc; "FACT_{function}_H")?;
+    let stack = format!(in alloc; "{function}_STACK_BYTES")?;
+    Ok(Macros { guard, stack })
+}
+
+/// Whether a parameter's name is not written as it is: it is taken, or ends in `_`.
+fn is_extended(macros: &Macros, name: &str) -> bool
+    ensures { result ≡ (is_taken_name name.now || (is_word name.now (string_bytes macros.now.guard) || is_word name.now (string_bytes macros.now.stack))) || ends name.now (codes "_") }
+{
+    is_taken_name(name)
+        || name == macros.guard.as_str()
+        || name == macros.stack.as_str()
+        || name.as_bytes().ends_with(b"_")
+}
+
+/// The name that is written for a parameter of the function with these macros: with `_` behind where it is taken or
+/// ends in one, so that different names are written differently.
+pub(crate) fn written_name(
+    alloc: Global,
+    macros: &Macros,
+    name: &str,
+) -> Result<String, AllocError>
+    ensures { (function : List ℕ) → string_bytes macros.now.guard ≡ guard_name function → string_bytes macros.now.stack ≡ stack_name function → IfOk result (λ written. string_bytes written ≡ written_name function name.now) }
+{
+    let mut written = String::from_str(alloc, name)?;
+    if is_extended(macros, name) {
+        written.push_str("_")?;
+    }
+    Ok(written)
+}
