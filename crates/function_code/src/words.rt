@@ -48,6 +48,7 @@ pub fn body(image: &ImageFields) -> &[u32]
 }
 
 /// The words of the function of an image. Want of memory alone refuses them.
+#[tactic(auto, using(crate::proofs::SectionLemmas::words_of_sections))]
 pub fn function_words(alloc: Global, image: &ImageFields) -> Result<Vec<u32>, AllocError>
     ensures { IfOk result (λ words. words.items ≡ function_words image.now) }
 {

@@ -3,3 +3,4 @@ pub mod Functions
 pub mod FaultText
 pub mod AssemblerText
 pub mod HeaderText
+pub mod Texts

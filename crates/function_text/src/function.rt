@@ -1,10 +1,9 @@
 // The function of a text.
 
-ghost use Rattle.std.specs.Prelude.{◌≡◌, ℕ, List, map, IfOk, IfErr};
-ghost use Rattle.std.specs.String.{string_bytes};
+ghost use Rattle.std.specs.Prelude.{◌≡◌, List, [], Some, map, IfOk, IfErr};
 ghost use Rattle.function_text.specs.Functions.{IsFunctionOf, IsFaultOf, named, parts_of, written_parameter};
-ghost use Rattle.function_text.specs.Names.{guard_name, stack_name};
-ghost use Rattle.language.specs.Tree.{parameter_tree};
+ghost use Rattle.language.specs.Signature.{exported};
+ghost use Rattle.language.specs.Tree.{ProcedureTree, parameter_tree, procedure_tree, program_tree};
 
 use crate::fault::FunctionFault;
 use crate::names::{Macros, is_taken_name, macros_of, written_name};
@@ -49,11 +48,10 @@ fn fields_of(alloc: Global, image: &Image) -> Result<ImageFields, AllocError>
 /// Parameters under the names that are written for them.
 fn named_params(
     alloc: Global,
-    macros: &Macros,
+    macros: &Macros<'_>,
     parameters: &[Parameter<'_>],
 ) -> Result<Vec<NamedParam>, AllocError>
-    ensures { (function : List ℕ) → string_bytes macros.now.guard ≡ guard_name function → string_bytes macros.now.stack ≡ stack_name function
-        → IfOk result (λ named_params. map named named_params.items ≡ map (λ p. written_parameter function (parameter_tree p)) parameters.now) }
+    ensures { IfOk result (λ params. map named params.items ≡ map (λ parameter. written_parameter macros.now.function.now (parameter_tree parameter)) parameters.now) }
 {
     let mut params = Vec::with_capacity(alloc, parameters.len())?;
     for parameter in parameters {
@@ -66,8 +64,10 @@ fn named_params(
     Ok(params)
 }
 
-/// The export of the program of a text that is accepted.
+/// The export of a program that has one.
 fn export_of<'p, 'a>(program: &'p Program<'a>) -> &'p Procedure<'a>
+    requires { (before : List ProcedureTree) × (export : ProcedureTree) × (exported [] (program_tree program.now).procedures ≡ Some (before, export)) }
+    ensures { (before : List ProcedureTree) × (exported [] (program_tree program.now).procedures ≡ Some (before, procedure_tree result.now)) }
 {
     match program.exported() {
         Some((_, export)) => export,

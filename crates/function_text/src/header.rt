@@ -51,10 +51,12 @@ fn push_length(text: &mut String, param: Param) -> Result<(), AllocError>
 {
     let length = param.length;
     match param.form {
-        Form::SingleWord => {}
-        Form::FixedArray | Form::MutableArray => write!(text, "[{length}]")?,
+        Form::SingleWord => Ok(()),
+        Form::FixedArray | Form::MutableArray => {
+            write!(text, "[{length}]")?;
+            Ok(())
+        }
     }
-    Ok(())
 }
 
 /// A parameter, at the end of a text.

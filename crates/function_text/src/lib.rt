@@ -11,6 +11,7 @@ mod lines;
 mod names;
 #[cfg(test)]
 mod tests;
+mod texts;
 
 pub use assembler::assembler_text;
 pub use fault::FunctionFault;
@@ -18,3 +19,4 @@ pub use function::{Function, NamedParam, function_of};
 pub use header::header_text;
 pub use laws::functions_agree;
 pub use names::is_taken_name;
+pub use texts::{Texts, texts_of};

@@ -1,9 +1,8 @@
 // Names that a function for C, or a parameter of one, cannot have.
 
-ghost use Rattle.std.specs.Prelude.{◌≡◌, ◌||◌, ℕ, List, codes, IfOk};
-ghost use Rattle.std.specs.List.{list_any};
+ghost use Rattle.std.specs.Prelude.{◌≡◌, IfOk};
 ghost use Rattle.std.specs.String.{string_bytes};
-ghost use Rattle.function_text.specs.Names.{is_word, c_words, cpp_words, register_words, other_words, is_compilers, is_integers, ends, is_taken_name, guard_name, stack_name, written_name};
+ghost use Rattle.function_text.specs.Names.{is_compilers, is_integers, is_taken_name, guard_name, stack_name, is_taken_in, written_name};
 
 use std::alloc::{AllocError, Global};
 
@@ -75,42 +74,45 @@ pub fn is_taken_name(name: &str) -> bool
 
 /// The macros that the header of a function defines.
 #[derive(Debug, Drop)]
-pub(crate) struct Macros {
+pub(crate) struct Macros<'a> {
+    pub function: &'a str,
     pub guard: String,
     pub stack: String,
+    ghost guards: { string_bytes guard ≡ guard_name function.now },
+    ghost stacks: { string_bytes stack ≡ stack_name function.now },
 }
 
 /// Those of the function of a name.
-pub(crate) fn macros_of(alloc: Global, function: &str) -> Result<Macros, AllocError>
-    ensures guard { IfOk result (λ macros. string_bytes macros.guard ≡ guard_name function.now) }
-    ensures stack { IfOk result (λ macros. string_bytes macros.stack ≡ stack_name function.now) }
+pub(crate) fn macros_of<'a>(alloc: Global, function: &'a str) -> Result<Macros<'a>, AllocError>
+    ensures { IfOk result (λ macros. macros.function.now ≡ function.now) }
 {
     let guard = format!(in alloc; "FACT_{function}_H")?;
     let stack = format!(in alloc; "{function}_STACK_BYTES")?;
-    Ok(Macros { guard, stack })
+    Ok(Macros {
+        function,
+        guard,
+        stack,
+    })
 }
 
-/// Whether a parameter's name is not written as it is: it is taken, or ends in `_`.
-fn is_extended(macros: &Macros, name: &str) -> bool
-    ensures { result ≡ (is_taken_name name.now || (is_word name.now (string_bytes macros.now.guard) || is_word name.now (string_bytes macros.now.stack))) || ends name.now (codes "_") }
+/// Whether a parameter of the function with these macros cannot have a name.
+fn is_taken_in(macros: &Macros<'_>, name: &str) -> bool
+    ensures { result ≡ is_taken_in macros.now.function.now name.now }
 {
-    is_taken_name(name)
-        || name == macros.guard.as_str()
-        || name == macros.stack.as_str()
-        || name.as_bytes().ends_with(b"_")
+    is_taken_name(name) || name == macros.guard.as_str() || name == macros.stack.as_str()
 }
 
 /// The name that is written for a parameter of the function with these macros: with `_` behind where it is taken or
 /// ends in one, so that different names are written differently.
 pub(crate) fn written_name(
     alloc: Global,
-    macros: &Macros,
+    macros: &Macros<'_>,
     name: &str,
 ) -> Result<String, AllocError>
-    ensures { (function : List ℕ) → string_bytes macros.now.guard ≡ guard_name function → string_bytes macros.now.stack ≡ stack_name function → IfOk result (λ written. string_bytes written ≡ written_name function name.now) }
+    ensures { IfOk result (λ written. string_bytes written ≡ written_name macros.now.function.now name.now) }
 {
     let mut written = String::from_str(alloc, name)?;
-    if is_extended(macros, name) {
+    if is_taken_in(macros, name) || name.as_bytes().ends_with(b"_") {
         written.push_str("_")?;
     }
     Ok(written)
