@@ -21,15 +21,16 @@ c_words =
     ∷ codes "switch" ∷ codes "typedef" ∷ codes "union" ∷ codes "unsigned" ∷ codes "void" ∷ codes "volatile"
     ∷ codes "while" ∷ codes "asm" ∷ codes "typeof" ∷ codes "bool" ∷ codes "true" ∷ codes "false" ∷ []
 
--- keywords that C++17 has beside these
+-- keywords that C++20 has beside these
 abbrev pub cpp_words : List (List ℕ)
 cpp_words =
     codes "alignas" ∷ codes "alignof" ∷ codes "and" ∷ codes "and_eq" ∷ codes "bitand" ∷ codes "bitor" ∷ codes "catch"
-    ∷ codes "char16_t" ∷ codes "char32_t" ∷ codes "class" ∷ codes "compl" ∷ codes "const_cast" ∷ codes "constexpr"
+    ∷ codes "char8_t" ∷ codes "char16_t" ∷ codes "char32_t" ∷ codes "class" ∷ codes "co_await" ∷ codes "co_return"
+    ∷ codes "co_yield" ∷ codes "compl" ∷ codes "concept" ∷ codes "const_cast" ∷ codes "consteval" ∷ codes "constexpr" ∷ codes "constinit"
     ∷ codes "decltype" ∷ codes "delete" ∷ codes "dynamic_cast" ∷ codes "explicit" ∷ codes "export" ∷ codes "friend"
     ∷ codes "mutable" ∷ codes "namespace" ∷ codes "new" ∷ codes "noexcept" ∷ codes "not" ∷ codes "not_eq"
     ∷ codes "nullptr" ∷ codes "operator" ∷ codes "or" ∷ codes "or_eq" ∷ codes "private" ∷ codes "protected"
-    ∷ codes "public" ∷ codes "reinterpret_cast" ∷ codes "static_assert" ∷ codes "static_cast" ∷ codes "template"
+    ∷ codes "public" ∷ codes "reinterpret_cast" ∷ codes "requires" ∷ codes "static_assert" ∷ codes "static_cast" ∷ codes "template"
     ∷ codes "this" ∷ codes "thread_local" ∷ codes "throw" ∷ codes "try" ∷ codes "typeid" ∷ codes "typename"
     ∷ codes "using" ∷ codes "virtual" ∷ codes "wchar_t" ∷ codes "xor" ∷ codes "xor_eq" ∷ []
 

@@ -14,8 +14,8 @@ const C_WORDS: [&str; 39] = [
     "union", "unsigned", "void", "volatile", "while", "asm", "typeof", "bool", "true", "false",
 ];
 
-/// Keywords that C++17 has beside these.
-const CPP_WORDS: [&str; 47] = [
+/// Keywords that C++20 has beside these.
+const CPP_WORDS: [&str; 55] = [
     "alignas",
     "alignof",
     "and",
@@ -23,12 +23,19 @@ const CPP_WORDS: [&str; 47] = [
     "bitand",
     "bitor",
     "catch",
+    "char8_t",
     "char16_t",
     "char32_t",
     "class",
+    "co_await",
+    "co_return",
+    "co_yield",
     "compl",
+    "concept",
     "const_cast",
+    "consteval",
     "constexpr",
+    "constinit",
     "decltype",
     "delete",
     "dynamic_cast",
@@ -49,6 +56,7 @@ const CPP_WORDS: [&str; 47] = [
     "protected",
     "public",
     "reinterpret_cast",
+    "requires",
     "static_assert",
     "static_cast",
     "template",
