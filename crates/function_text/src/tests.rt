@@ -37,9 +37,15 @@ fn keeps_names_of_parameters_apart(rt: HostRuntime) -> Result<(), Fail> {
         "export void f(secret uint8[2] int, secret mut bool[3] int_, public uint16 n) { int_[0] = n == 0u16; }";
     match texts_of(rt.alloc(), text, Profile::P2) {
         Ok(texts) => {
-            let expected = "void f(\n    const uint8_t int_[2] /* secret */,\n    bool int__[3] /* secret */,\n    uint16_t n /* public */);\n";
+            let expected =
+                "void f(\n    const uint8_t int_[2] /* secret */,\n    bool int__[3] /* secret */,\n    uint16_t n /* public */);\n";
             assert!(rt; texts.header.as_str().contains(expected));
-            assert!(rt; texts.header.as_str().contains("for an observer of profile 2. */\n"));
+            assert!(rt;
+                texts
+                    .header
+                    .as_str()
+                    .contains("for an observer of profile 2. */\n")
+            );
         }
         Err(_) => assert!(rt; false),
     }
