@@ -1,5 +1,5 @@
 -- The function that adds one to its argument, as it is worked out by hand: 72 words, and 98 turns around the 4 of its body.
-use Rattle.std.proofs.Common.{◌≡◌, List, [], ◌∷◌, length, Some, refl}
+use Rattle.std.proofs.Common.{◌≡◌, [], ◌∷◌, length, Some, refl}
 use Rattle.function_code.specs.FunctionCode.{function_words, room_of}
 use Rattle.function_code.specs.Sections.{around_turns}
 use Rattle.image_fields.specs.Fields.{Fields}

@@ -1,5 +1,5 @@
 -- The export of an accepted text, and the function that is made of it.
-use Rattle.std.proofs.Common.{◌≡◌, ℕ, List, [], map, Bool, true, false, Option, Some, sym, ap, subst, inl, ◌∙◌}
+use Rattle.std.proofs.Common.{◌≡◌, ℕ, List, [], map, true, false, Option, Some, sym, ap, subst, inl, ◌∙◌}
 use Rattle.std.proofs.lemmas.Option.{same_Some}
 use Rattle.function_text.specs.Functions.{Parts, IsFunctionOf, HasTakenName, IsFaultOf, IsUnlessMemory, written_parameter}
 use Rattle.function_text.specs.Names.{is_taken_name}

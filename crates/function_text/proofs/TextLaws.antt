@@ -1,6 +1,5 @@
 -- Of a text there is one function, and of a function one text for an assembler.
-use Rattle.std.proofs.Common.{◌≡◌, ℕ, List, [], ◌∷◌, ◌++◌, map, codes, refl, sym, ap, subst, absurd, ◌∙◌}
-use Rattle.codegen.specs.Anywhere.{body_words}
+use Rattle.std.proofs.Common.{◌≡◌, ℕ, List, ◌++◌, map, codes, refl, sym, ap, subst, ◌∙◌}
 use Rattle.function_code.specs.Sections.{enter_sections, leave_sections}
 use Rattle.function_text.specs.AssemblerText.{ListsWords, nothing, line, IsAssemblerText, word_line, head_lines, tail_lines, sections_lines, title_line}
 use Rattle.function_text.specs.Functions.{Named, Parts, IsFunctionOf, written_parameter}
@@ -16,7 +15,7 @@ use Rattle.listing.specs.Code.{IsTextOf, of_instruction, of_no_instruction}
 use Rattle.rv_code.specs.Text.{text_of}
 use Rattle.rv_code.specs.Words.{word_of, IsInstr}
 use Rattle.rv_code.specs.declared.instructions.Instr.{Instr}
-use Rattle.std.specs.Prelude.{Result, Ok}
+use Rattle.std.specs.Prelude.{Ok}
 use Rattle.syntax.specs.Reading.{OneAnswer}
 use Rattle.word.specs.declared.profile.Profile.{Profile}
 
