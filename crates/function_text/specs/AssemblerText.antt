@@ -128,5 +128,5 @@ tail_lines f = codes "    .cfi_endproc\n    .size " ++ f.name ++ codes ", . - " 
 pub record IsAssemblerText (f : Parts) (text : List ℕ) : Type 0 where
   pub body : List ℕ
   pub listed : ListsWords (body_words f.image.words) body
-  pub whole : text ≡ head_lines f ++ sections_lines f.image (enter_sections f.image) ++ title_line (codes "the body") ++ body
+  pub whole : text ≡ head_lines f ++ sections_lines f.image (enter_sections f.image) ++ (title_line (codes "the body") ++ body)
       ++ sections_lines f.image (leave_sections f.image) ++ tail_lines f

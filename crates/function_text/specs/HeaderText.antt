@@ -41,10 +41,13 @@ parameter_text p =
     const_text p.param.form ++ type_text p.param.kind ++ codes " " ++ p.name ++ length_text p.param.form p.param.length
     ++ codes " " ++ label_text p.param.label
 
--- a line each
+-- a line each, behind another one
+abbrev pub later_text : List Named → List ℕ
+later_text later = flat_map (λ next. codes ",\n    " ++ parameter_text next) later
+
 abbrev pub parameters_text : List Named → List ℕ
 parameters_text [] = codes "void"
-parameters_text (p ∷ later) = parameter_text p ++ flat_map (λ next. codes ",\n    " ++ parameter_text next) later
+parameters_text (p ∷ later) = parameter_text p ++ later_text later
 
 abbrev pub result_text : Option ResultSlot → List ℕ
 result_text None = codes "void"

@@ -1,5 +1,6 @@
 -- Names that C, C++ or an assembler cannot take for a function, and the names of its parameters.
-use Rattle.std.specs.Prelude.{ℕ, Bool, false, ◌&&◌, ◌||◌, ◌==◌, nat_eq, nat_le, List, [], ◌∷◌, ◌++◌, codes, if◌then◌else◌}
+use Rattle.std.specs.Char.{is_ascii_uppercase}
+use Rattle.std.specs.Prelude.{ℕ, Bool, ◌&&◌, ◌||◌, ◌==◌, nat_eq, nat_le, List, [], ◌∷◌, ◌++◌, length, slice_index, codes, if◌then◌else◌}
 use Rattle.std.specs.List.{list_any, starts_with, ends_with, pointwise}
 
 abbrev pub is_word : List ℕ → List ℕ → Bool
@@ -53,23 +54,34 @@ other_words =
     codes "main" ∷ codes "linux" ∷ codes "unix" ∷ codes "PTRDIFF_MIN" ∷ codes "PTRDIFF_MAX" ∷ codes "SIG_ATOMIC_MIN"
     ∷ codes "SIG_ATOMIC_MAX" ∷ codes "SIZE_MAX" ∷ codes "WCHAR_MIN" ∷ codes "WCHAR_MAX" ∷ codes "WINT_MIN" ∷ codes "WINT_MAX" ∷ []
 
+unfoldable pub is_c_word : List ℕ → Bool
+is_c_word name = list_any (is_word name) c_words
+
+unfoldable pub is_cpp_word : List ℕ → Bool
+is_cpp_word name = list_any (is_word name) cpp_words
+
+unfoldable pub is_register : List ℕ → Bool
+is_register name = list_any (is_word name) register_words
+
+unfoldable pub is_other_word : List ℕ → Bool
+is_other_word name = list_any (is_word name) other_words
+
 -- `_` and a capital letter, or two `_`, which are the compiler's own
-abbrev pub is_compilers : List ℕ → Bool
-is_compilers [] = false
-is_compilers (first ∷ []) = false
-is_compilers (first ∷ second ∷ rest) = (first == 95) && ((second == 95) || (nat_le 65 second && nat_le second 90))
+unfoldable pub is_compilers : List ℕ → Bool
+is_compilers name =
+    nat_le 2 (length name) && ((slice_index name 0 == 95)
+    && ((slice_index name 1 == 95) || is_ascii_uppercase (slice_index name 1)))
 
 -- what <stdint.h> may define: `intN_t` and `uintN_t` in all their forms, and their limits
-abbrev pub is_integers : List ℕ → Bool
+unfoldable pub is_integers : List ℕ → Bool
 is_integers name =
     ((begins name (codes "int") || begins name (codes "uint")) && ends name (codes "_t"))
     || ((begins name (codes "INT") || begins name (codes "UINT"))
     && (ends name (codes "_MIN") || (ends name (codes "_MAX") || ends name (codes "_C"))))
 
-abbrev pub is_taken_name : List ℕ → Bool
+unfoldable pub is_taken_name : List ℕ → Bool
 is_taken_name name =
-    list_any (is_word name) c_words || (list_any (is_word name) cpp_words || (list_any (is_word name) register_words
-    || (list_any (is_word name) other_words || (is_compilers name || is_integers name))))
+    is_c_word name || (is_cpp_word name || (is_register name || (is_other_word name || (is_compilers name || is_integers name))))
 
 -- Parameters. A name that is taken is written with `_` behind, and one that ends in `_` with one more: so different names are
 -- written differently.

@@ -3,6 +3,8 @@
 ghost use Rattle.std.specs.Prelude.{◌≡◌, ℕ, ◌++◌, List, codes, OnOk, IfOk};
 ghost use Rattle.std.specs.List.{flat_map};
 ghost use Rattle.std.specs.String.{string_bytes};
+ghost use Rattle.codegen.specs.Anywhere.{body_words};
+ghost use Rattle.function_code.specs.Sections.{enter_sections, leave_sections};
 ghost use Rattle.function_text.specs.AssemblerText.{ListsWords, IsAssemblerText, instruction_lines, section_lines, sections_lines, profile_text, first_line, head_lines, tail_lines, title_line};
 ghost use Rattle.function_text.specs.Functions.{parts_of};
 
@@ -124,20 +126,40 @@ fn push_tail(text: &mut String, function: &Function<'_>) -> Result<(), AllocErro
     Ok(())
 }
 
+/// The sections before the body, at the end of a text.
+fn push_entry(alloc: Global, text: &mut String, image: &ImageFields) -> Result<(), AllocError>
+    ensures { OnOk result (string_bytes text.new ≡ string_bytes text.old ++ sections_lines image.now (enter_sections image.now)) }
+{
+    let sections = enter_sections(alloc, image)?;
+    push_sections(alloc, text, image, sections.as_slice())
+}
+
+/// The body, at the end of a text.
+fn push_body(text: &mut String, image: &ImageFields) -> Result<(), AllocError>
+    ensures { OnOk result ((lines : List ℕ) × ListsWords (body_words image.now.words) lines × (string_bytes text.new ≡ string_bytes text.old ++ (title_line (codes "the body") ++ lines))) }
+{
+    text.push_str("    # the body\n")?;
+    push_words(text, body(image))
+}
+
+/// The sections behind the body, at the end of a text.
+fn push_exit(alloc: Global, text: &mut String, image: &ImageFields) -> Result<(), AllocError>
+    ensures { OnOk result (string_bytes text.new ≡ string_bytes text.old ++ sections_lines image.now (leave_sections image.now)) }
+{
+    let sections = leave_sections(alloc, image)?;
+    push_sections(alloc, text, image, sections.as_slice())
+}
+
 /// The text of a function for a GNU or LLVM assembler: its words as numbers, each with its instruction as a comment, with
 /// the function's symbol, and what a debugger has to know at each word. Want of memory alone refuses it.
 pub fn assembler_text(alloc: Global, function: &Function<'_>) -> Result<String, AllocError>
     ensures { IfOk result (λ text. IsAssemblerText (parts_of function.now) (string_bytes text)) }
 {
-    let image = &function.image;
-    let enter = enter_sections(alloc, image)?;
-    let leave = leave_sections(alloc, image)?;
     let mut text = String::new(alloc);
     push_head(alloc, &mut text, function)?;
-    push_sections(alloc, &mut text, image, enter.as_slice())?;
-    text.push_str("    # the body\n")?;
-    push_words(&mut text, body(image))?;
-    push_sections(alloc, &mut text, image, leave.as_slice())?;
+    push_entry(alloc, &mut text, &function.image)?;
+    push_body(&mut text, &function.image)?;
+    push_exit(alloc, &mut text, &function.image)?;
     push_tail(&mut text, function)?;
     Ok(text)
 }

@@ -10,7 +10,7 @@ ghost use Rattle.language.specs.Tree.{ProcedureTree, parameter_tree, procedure_t
 ghost use Rattle.language.specs.WantOfMemory.{IsWantOfMemory};
 
 use crate::fault::FunctionFault;
-use crate::names::{Macros, is_taken_name, macros_of, written_name};
+use crate::naming::{Macros, is_taken_name, macros_of, written_name};
 use hepurita::build_as;
 use image::{Image, read};
 use image_fields::ImageFields;

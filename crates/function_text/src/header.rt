@@ -3,7 +3,7 @@
 ghost use Rattle.std.specs.Prelude.{◌≡◌, ◌++◌, map, OnOk, IfOk};
 ghost use Rattle.std.specs.String.{string_bytes};
 ghost use Rattle.function_text.specs.Functions.{named, parts_of};
-ghost use Rattle.function_text.specs.HeaderText.{type_text, label_text, const_text, length_text, parameter_text, parameters_text, result_text, comment_lines, guard_lines, prototype_lines, header_text};
+ghost use Rattle.function_text.specs.HeaderText.{type_text, label_text, const_text, length_text, parameter_text, later_text, parameters_text, result_text, comment_lines, guard_lines, prototype_lines, header_text};
 
 use crate::assembler::profile_text;
 use crate::function::{Function, NamedParam};
@@ -73,21 +73,28 @@ fn push_parameter(text: &mut String, parameter: &NamedParam) -> Result<(), Alloc
     text.push_str(label_text(param.label))
 }
 
+/// Parameters behind another one, at the end of a text.
+fn push_later(text: &mut String, later: &[NamedParam]) -> Result<(), AllocError>
+    ensures { OnOk result (string_bytes text.new ≡ string_bytes text.old ++ later_text (map named later.now)) }
+{
+    for parameter in later {
+        text.push_str(",\n    ")?;
+        push_parameter(text, parameter)?;
+    }
+    Ok(())
+}
+
 /// Parameters, a line each, at the end of a text.
 fn push_parameters(text: &mut String, parameters: &[NamedParam]) -> Result<(), AllocError>
     ensures { OnOk result (string_bytes text.new ≡ string_bytes text.old ++ parameters_text (map named parameters.now)) }
 {
     match parameters.split_first() {
-        None => text.push_str("void")?,
+        None => text.push_str("void"),
         Some((first, later)) => {
             push_parameter(text, first)?;
-            for parameter in later {
-                text.push_str(",\n    ")?;
-                push_parameter(text, parameter)?;
-            }
+            push_later(text, later)
         }
     }
-    Ok(())
 }
 
 /// The type of a result, at the end of a text.

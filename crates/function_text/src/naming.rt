@@ -2,7 +2,7 @@
 
 ghost use Rattle.std.specs.Prelude.{◌≡◌, IfOk};
 ghost use Rattle.std.specs.String.{string_bytes};
-ghost use Rattle.function_text.specs.Names.{is_compilers, is_integers, is_taken_name, guard_name, stack_name, is_taken_in, written_name};
+ghost use Rattle.function_text.specs.Names.{is_c_word, is_cpp_word, is_register, is_other_word, is_compilers, is_integers, is_taken_name, guard_name, stack_name, is_taken_in, written_name};
 
 use std::alloc::{AllocError, Global};
 
@@ -98,17 +98,48 @@ const OTHER_WORDS: [&str; 12] = [
     "WINT_MAX",
 ];
 
-/// `_` and a capital letter, or two `_`, which are the compiler's own.
+/// Whether C has a name as a word.
+#[tactic(auto, unfolding(crate::specs::Names::is_c_word))]
+fn is_c_word(name: &str) -> bool
+    ensures { result ≡ is_c_word name.now }
+{
+    C_WORDS.contains(&name)
+}
+
+/// Whether C++ has it.
+#[tactic(auto, unfolding(crate::specs::Names::is_cpp_word))]
+fn is_cpp_word(name: &str) -> bool
+    ensures { result ≡ is_cpp_word name.now }
+{
+    CPP_WORDS.contains(&name)
+}
+
+/// Whether it is a register's name.
+#[tactic(auto, unfolding(crate::specs::Names::is_register))]
+fn is_register(name: &str) -> bool
+    ensures { result ≡ is_register name.now }
+{
+    REGISTERS.contains(&name)
+}
+
+/// Whether it is a name of the other words.
+#[tactic(auto, unfolding(crate::specs::Names::is_other_word))]
+fn is_other_word(name: &str) -> bool
+    ensures { result ≡ is_other_word name.now }
+{
+    OTHER_WORDS.contains(&name)
+}
+
+/// Whether it is `_` and a capital letter, or two `_`, which are the compiler's own, and what follows.
+#[tactic(auto, unfolding(crate::specs::Names::is_compilers))]
 fn is_compilers(name: &[u8]) -> bool
     ensures { result ≡ is_compilers name.now }
 {
-    match name {
-        [b'_', second, ..] => *second == b'_' || second.is_ascii_uppercase(),
-        _ => false,
-    }
+    name.len() >= 2 && name[0] == b'_' && (name[1] == b'_' || name[1].is_ascii_uppercase())
 }
 
-/// What `<stdint.h>` may define: `intN_t` and `uintN_t` in all their forms, and their limits.
+/// Whether `<stdint.h>` may define it: `intN_t` and `uintN_t` in all their forms, and their limits.
+#[tactic(auto, unfolding(crate::specs::Names::is_integers))]
 fn is_integers(name: &[u8]) -> bool
     ensures { result ≡ is_integers name.now }
 {
@@ -120,13 +151,14 @@ fn is_integers(name: &[u8]) -> bool
 }
 
 /// Whether C, C++ or an assembler cannot take a name for a function.
+#[tactic(auto, unfolding(crate::specs::Names::is_taken_name))]
 pub fn is_taken_name(name: &str) -> bool
     ensures { result ≡ is_taken_name name.now }
 {
-    C_WORDS.contains(&name)
-        || CPP_WORDS.contains(&name)
-        || REGISTERS.contains(&name)
-        || OTHER_WORDS.contains(&name)
+    is_c_word(name)
+        || is_cpp_word(name)
+        || is_register(name)
+        || is_other_word(name)
         || is_compilers(name.as_bytes())
         || is_integers(name.as_bytes())
 }
