@@ -1,5 +1,5 @@
 -- The code of a program but for its end, run wherever its words stand.
-use Rattle.std.proofs.Common.{◌≡◌, ◌⊎◌, ◌≢◌, ℕ, ◌+◌, ◌*◌, ◌%◌, ◌^◌, ◌<◌, ◌≤◌, true, List, [], ◌∷◌, ◌++◌, length, map, All, Some, slice_get, slice_index, is_some, refl, sym, ap, ap₂, ◌∙◌, subst, arith}
+use Rattle.std.proofs.Common.{◌≡◌, ℕ, ◌+◌, ◌*◌, ◌<◌, ◌≤◌, List, [], ◌∷◌, ◌++◌, length, map, Some, slice_index, is_some, refl, sym, ap, ap₂, ◌∙◌, subst, arith}
 use Rattle.std.proofs.lemmas.List.{length-map}
 use Rattle.std.proofs.Math.Nat.{le-max_left, le-max_right}
 use Rattle.arguments.specs.Within.{AreWithin}
@@ -18,7 +18,7 @@ use Rattle.codegen.proofs.StatementRuns.{block_runs}
 use Rattle.codegen.proofs.Untouched.{IsFree, leads_keep, leads_beside}
 use Rattle.codegen.proofs.WorkingRegisters.{Works, works_then, calm_keeps, calm_word}
 use Rattle.codegen.proofs.WorkingStatements.{block_works, result_works}
-use Rattle.expression_code.proofs.Logic.{bytes_of, Setting, seen_by, Straight, Steps, Runs, Ends, seq, gives, cheaper, beside, Ready, ready_below}
+use Rattle.expression_code.proofs.Logic.{bytes_of, Setting, seen_by, Straight, Steps, Runs, seq, gives, cheaper, beside, Ready, ready_below}
 use Rattle.inline.specs.FlatTyping.{types_of}
 use Rattle.inline.specs.Path.{Path, AreFine}
 use Rattle.language.specs.declared.values.Arg.{Arg}
@@ -26,7 +26,7 @@ use Rattle.rv_code.specs.declared.instructions.Instr.{Instr}
 use Rattle.rv_code.specs.declared.instructions.Instr.TheVariants as instr
 use Rattle.rv_code.specs.Words.{word_of}
 use Rattle.rv_machine.specs.declared.observation.Observation.{Observation}
-use Rattle.rv_machine.specs.Bytes.{ByteMap, number_at}
+use Rattle.rv_machine.specs.Bytes.{number_at}
 use Rattle.rv_machine.specs.Leakage.{Leads}
 use Rattle.rv_machine.specs.Machine as machine
 use Rattle.rv_machine.specs.Machine.{Code}

@@ -1,5 +1,5 @@
 -- Words that stand among others run as they do alone.
-use Rattle.std.proofs.Common.{◌≡◌, ℕ, zero, suc, ◌+◌, ◌-◌, ◌*◌, ◌/◌, ◌%◌, ◌^◌, ◌<◌, ◌≤◌, ◌==◌, ◌&&◌, Bool, true, false, cond, nat_le, List, [], ◌∷◌, ◌++◌, length, map, None, Some, slice_get, refl, sym, ap, ◌∙◌, subst, arith}
+use Rattle.std.proofs.Common.{◌≡◌, ℕ, zero, suc, ◌+◌, ◌-◌, ◌*◌, ◌/◌, ◌%◌, ◌^◌, ◌<◌, ◌==◌, ◌&&◌, Bool, true, false, cond, nat_le, List, [], ◌∷◌, ◌++◌, length, map, None, Some, slice_get, refl, sym, ap, ◌∙◌, subst, arith}
 use Rattle.std.proofs.lemmas.Bool.Decides.{nat_tests}
 use Rattle.std.proofs.lemmas.Option.{none-some}
 use Rattle.codegen.specs.Anywhere.{body_words, Stand}
@@ -8,9 +8,8 @@ use Rattle.expression_code.proofs.Logic.{Placed}
 use Rattle.rv_code.specs.declared.instructions.Instr.{Instr}
 use Rattle.rv_code.specs.Words.{word_of}
 use Rattle.rv_machine.specs.declared.observation.Observation.{Observation}
-use Rattle.rv_machine.specs.Effects.{effect_of}
 use Rattle.rv_machine.specs.Leakage.{Leads, stays, turns}
-use Rattle.rv_machine.specs.Machine.{State, Code, Ending, goes_on, word_at, ending_of, Turn, executes}
+use Rattle.rv_machine.specs.Machine.{State, Code, goes_on, word_at, Turn, executes}
 use Rattle.word.specs.declared.profile.Profile.{Profile}
 
 -- these words and no others, from an address on

@@ -1,20 +1,18 @@
 -- The image of straight code, loaded and run: its body, and then the end.
-use Rattle.std.proofs.Common.{◌≡◌, ℕ, ◌+◌, ◌*◌, ◌≤◌, List, [], ◌∷◌, ◌++◌, length, map, All, None, refl, sym, ap, ◌∙◌, subst, arith}
+use Rattle.std.proofs.Common.{◌≡◌, ℕ, ◌+◌, ◌*◌, List, [], ◌∷◌, ◌++◌, length, All, None, refl, sym, ap, ◌∙◌, subst, arith}
 use Rattle.std.proofs.lemmas.List.Elements.{All-append}
-use Rattle.arguments.specs.Within.{AreWithin}
 use Rattle.branch_removal.specs.Straight.{StraightProgram}
 use Rattle.branch_removal.specs.StraightMeaning.{path_of}
-use Rattle.codegen.specs.Anywhere.{body_words, Stand, IsPlaced, IsLoaded, IsFollowedIn}
+use Rattle.codegen.specs.Anywhere.{body_words, Stand, IsPlaced, IsFollowedIn}
 use Rattle.codegen.specs.Bases.{IsInside, AreBases}
-use Rattle.codegen.specs.Followed.{RunsAs, IsFollowed}
+use Rattle.codegen.specs.Followed.{IsFollowed}
 use Rattle.codegen.specs.Loaded.{code_at, loaded_at}
 use Rattle.codegen.specs.private.Generated.{program_code, image_of}
 use Rattle.codegen.proofs.BodyRuns.{body_code, program_code-body, body_words-image, body_length}
 use Rattle.codegen.proofs.Placing.{placed}
 use Rattle.codegen.proofs.Standing.{stand_placed}
 use Rattle.expression_code.proofs.Logic.{All-one, Placed, Placed-left, Placed-right}
-use Rattle.inline.specs.Path.{AreFine, seen}
-use Rattle.language.specs.declared.values.Arg.{Arg}
+use Rattle.inline.specs.Path.{seen}
 use Rattle.rv_code.specs.declared.instructions.Instr.{Instr}
 use Rattle.rv_code.specs.declared.instructions.Instr.TheVariants as instr
 use Rattle.rv_machine.specs.declared.observation.Observation.{Observation}

@@ -1,5 +1,5 @@
 -- What is emitted for statements and for the result writes working registers alone.
-use Rattle.std.proofs.Common.{ℕ, ◌+◌, ◌*◌, ◌≤◌, ◌<◌, List, [], ◌∷◌, ◌++◌, length, Option, None, Some, refl, arith}
+use Rattle.std.proofs.Common.{ℕ, ◌+◌, ◌*◌, List, [], ◌∷◌, Option, None, Some, refl, arith}
 use Rattle.branch_removal.specs.Straight.{StraightTree, set, clear, fill, put, take, set_under, put_under, branch, repeats, StraightBlock, nothing, first}
 use Rattle.codegen.specs.private.Emitted.{masks_code, within_code, merge_code, element_store_code, clear_code, fill_code, index_code, put_code, put_under_code, bounds_code, test_code, count_code, statement_code, block_code}
 use Rattle.codegen.specs.private.Generated.{result_code}
