@@ -1,7 +1,8 @@
 -- Names that C, C++ or an assembler cannot take for a function, and the names of its parameters.
 use Rattle.std.specs.Char.{is_ascii_uppercase}
 use Rattle.std.specs.Prelude.{ℕ, Bool, ◌&&◌, ◌||◌, ◌==◌, nat_eq, nat_le, List, [], ◌∷◌, ◌++◌, length, slice_index, codes, if◌then◌else◌}
-use Rattle.std.specs.List.{list_any, starts_with, ends_with, pointwise}
+use Rattle.std.specs.Cmp.Lexicographic.{pointwise}
+use Rattle.std.specs.List.{list_any, starts_with, ends_with}
 
 abbrev pub is_word : List ℕ → List ℕ → Bool
 is_word name word = pointwise nat_eq word name

@@ -34,7 +34,7 @@ fn push_code(text: &mut String, section: Section, code: &[Instr]) -> Result<(), 
     ensures { OnOk result (string_bytes text.new ≡ string_bytes text.old ++ flat_map (instruction_lines section) code.now) }
 {
     for instruction in code {
-        push_instruction(text, section, *instruction)?;
+        push_instruction(text, section, instruction)?;
     }
     Ok(())
 }

@@ -15,8 +15,8 @@ use std::alloc::{AllocError, Global};
 use std::fmt::Write;
 
 /// A word with its instruction as a comment.
-fn push_told(text: &mut String, word: u32, instruction: Instr) -> Result<(), AllocError>
-    ensures { OnOk result (string_bytes text.new ≡ string_bytes text.old ++ word_line word (text_of instruction)) }
+fn push_told(text: &mut String, word: u32, instruction: &Instr) -> Result<(), AllocError>
+    ensures { OnOk result (string_bytes text.new ≡ string_bytes text.old ++ word_line word (text_of instruction.now)) }
 {
     writeln!(text, "    .word 0x{word:08x}  # {instruction}")?;
     Ok(())
@@ -35,7 +35,7 @@ pub fn push_word(text: &mut String, word: u32) -> Result<(), AllocError>
     ensures { OnOk result ((told : List ℕ) × IsTextOf word told × (string_bytes text.new ≡ string_bytes text.old ++ word_line word told)) }
 {
     match decode(word) {
-        Some(instruction) => push_told(text, word, instruction),
+        Some(instruction) => push_told(text, word, &instruction),
         None => push_illegal(text, word),
     }
 }
@@ -107,10 +107,10 @@ pub fn push_title(text: &mut String, section: Section) -> Result<(), AllocError>
 }
 
 /// Where a register of the caller is kept, below the caller's x2.
-fn push_kept(text: &mut String, instruction: Instr) -> Result<(), AllocError>
-    ensures { OnOk result (string_bytes text.new ≡ string_bytes text.old ++ kept_line instruction) }
+fn push_kept(text: &mut String, instruction: &Instr) -> Result<(), AllocError>
+    ensures { OnOk result (string_bytes text.new ≡ string_bytes text.old ++ kept_line instruction.now) }
 {
-    match instruction {
+    match *instruction {
         Instr::Store(_, register, _, offset) => {
             let register = register.number();
             let below = ABOVE_FRAME.saturating_sub(u32::from(offset.field()));
@@ -122,10 +122,10 @@ fn push_kept(text: &mut String, instruction: Instr) -> Result<(), AllocError>
 }
 
 /// That a register is the caller's again.
-fn push_restored(text: &mut String, instruction: Instr) -> Result<(), AllocError>
-    ensures { OnOk result (string_bytes text.new ≡ string_bytes text.old ++ restored_line instruction) }
+fn push_restored(text: &mut String, instruction: &Instr) -> Result<(), AllocError>
+    ensures { OnOk result (string_bytes text.new ≡ string_bytes text.old ++ restored_line instruction.now) }
 {
-    match instruction {
+    match *instruction {
         Instr::Load(_, register, _, _) => {
             let register = register.number();
             writeln!(text, "    .cfi_restore {register}")?;
@@ -136,8 +136,8 @@ fn push_restored(text: &mut String, instruction: Instr) -> Result<(), AllocError
 }
 
 /// What changes for a debugger by an instruction of a section.
-fn push_change(text: &mut String, section: Section, instruction: Instr) -> Result<(), AllocError>
-    ensures { OnOk result (string_bytes text.new ≡ string_bytes text.old ++ change_lines section instruction) }
+fn push_change(text: &mut String, section: Section, instruction: &Instr) -> Result<(), AllocError>
+    ensures { OnOk result (string_bytes text.new ≡ string_bytes text.old ++ change_lines section instruction.now) }
 {
     match section {
         Section::SavedRegisters => push_kept(text, instruction),
@@ -150,11 +150,11 @@ fn push_change(text: &mut String, section: Section, instruction: Instr) -> Resul
 pub fn push_instruction(
     text: &mut String,
     section: Section,
-    instruction: Instr,
+    instruction: &Instr,
 ) -> Result<(), AllocError>
-    ensures { OnOk result (string_bytes text.new ≡ string_bytes text.old ++ instruction_lines section instruction) }
+    ensures { OnOk result (string_bytes text.new ≡ string_bytes text.old ++ instruction_lines section instruction.now) }
 {
-    let word = encode(instruction);
+    let word = encode(*instruction);
     push_told(text, word, instruction)?;
     push_change(text, section, instruction)
 }
