@@ -1,0 +1,8 @@
+pub mod PlacedLaws
+pub mod StraightRuns
+pub mod Pieces
+pub mod Symbols
+pub mod Marks
+pub mod Jumps
+pub mod Loops
+pub mod Face
