@@ -25,7 +25,7 @@ use Rattle.rv_machine.specs.Machine.{IsAt}
 use Rattle.rv_machine.proofs.RunLaws.{Halts-after}
 use Rattle.rv_machine.proofs.TurnLaws.{ecall_halts}
 use Rattle.codegen.proofs.Arguments.{loaded}
-use Rattle.expression_code.proofs.Logic.{bytes_of, All-one, Setting, seen_by, Placed, Placed-left, Placed-right, Straight, Steps, Runs, seq, gives, cheaper, beside, Ready}
+use Rattle.expression_code.proofs.Logic.{setting as pieces_of, bytes_of, All-one, Setting, seen_by, Placed, Placed-left, Placed-right, Straight, Steps, Runs, seq, gives, cheaper, beside, Ready}
 use Rattle.codegen.proofs.Placing.{placed}
 use Rattle.codegen.proofs.ResultRuns.{steps_of_result, Given, result_runs}
 use Rattle.codegen.proofs.Results.{arrays_are, returned_is}
@@ -68,20 +68,20 @@ module _ (p : StraightProgram) (room : HasRoom p) (code frame : ℕ) (bases : Ar
       let worked = room.worked in
       let counted = room.counted in
       let nodes = room.nodes in
-      cheaper setting (omega (arith, worked))
-      (gives setting
+      cheaper (omega (arith, worked))
+      (gives
       (λ env s t fine ready done. record { ready = done.second.ready; left = done.second.left })
-      (seq setting
+      (seq
       (block_runs setting 0 p.body room.typed.body (omega (arith, l)) (omega arith) (omega (arith, counted, nodes)))
-      (beside setting (last_state p) (result_runs setting p.returned p.value room.typed.result (omega (arith, r))))
+      (beside (last_state p) (result_runs setting p.returned p.value room.typed.result (omega (arith, r))))
       (λ env s t ready done. done.ready)))
 
   all_placed : Placed setting.code code (body ++ instr.Ecall ∷ [])
   unfolding body
   all_placed = placed p.profile code (image_of p).words [] (program_code p) code bases.code_aligned bases.code_ends refl (omega arith)
 
-  straight : Straight setting code (32 * p.work) steps body (Ready setting) Finished
-  straight = body_runs code (Placed-left setting.code code body (instr.Ecall ∷ []) all_placed)
+  straight : Straight (pieces_of setting) code (32 * p.work) steps body (Ready setting) Finished
+  straight = body_runs.placed_at code (Placed-left setting.code code body (instr.Ecall ∷ []) all_placed)
 
   last : ℕ
   last = code + 4 * length body
