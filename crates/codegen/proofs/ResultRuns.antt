@@ -1,5 +1,5 @@
 -- The code of a result puts it into its slot; without a result there is no code.
-use Rattle.std.proofs.Common.{[], ◌∷◌, ap, ◌∙◌, ◌+◌, ◌*◌, ◌≤◌, Option, Some, None, arith}
+use Rattle.std.proofs.Common.{[], ◌∷◌, refl, ap, ◌∙◌, ◌+◌, ◌*◌, ◌≤◌, Option, Some, None, arith}
 use Rattle.inline.specs.Flat.{TermTree}
 use Rattle.inline.specs.FlatMeaning.{value_in, path_of_result}
 use Rattle.inline.specs.FlatSize.{value_nodes}
