@@ -18,7 +18,7 @@ use Rattle.codegen.proofs.StatementRuns.{block_runs}
 use Rattle.codegen.proofs.Untouched.{IsFree, leads_keep, leads_beside}
 use Rattle.codegen.proofs.WorkingRegisters.{Works, works_then, calm_keeps, calm_word}
 use Rattle.codegen.proofs.WorkingStatements.{block_works, result_works}
-use Rattle.expression_code.proofs.Logic.{bytes_of, Setting, seen_by, Straight, Steps, Runs, seq, gives, cheaper, beside, Ready, ready_below}
+use Rattle.expression_code.proofs.Logic.{setting as pieces_of, bytes_of, Setting, seen_by, Straight, Steps, Runs, seq, gives, cheaper, beside, Ready, ready_below}
 use Rattle.inline.specs.FlatTyping.{types_of}
 use Rattle.inline.specs.Path.{Path, AreFine}
 use Rattle.language.specs.declared.values.Arg.{Arg}
@@ -95,19 +95,19 @@ module _ (p : StraightProgram) (room : HasRoom p) (code : Code) (start frame : �
       let worked = room.worked in
       let counted = room.counted in
       let nodes = room.nodes in
-      cheaper setting (omega (arith, worked))
-      (gives setting
+      cheaper (omega (arith, worked))
+      (gives
       (λ env s t fine ready done. record { ready = done.second.ready; left = done.second.left })
-      (seq setting
+      (seq
       (block_runs setting 0 p.body room.typed.body (omega (arith, l)) (omega arith) (omega (arith, counted, nodes)))
-      (beside setting (last_state p) (result_runs setting p.returned p.value room.typed.result (omega (arith, r))))
+      (beside (last_state p) (result_runs setting p.returned p.value room.typed.result (omega (arith, r))))
       (λ env s t ready done. done.ready)))
 
   standing : Stand code start (map word_of (body_code p))
   standing = subst (λ (ws : List ℕ). Stand code start ws) (body_words-image p) there.words
 
-  straight : Straight setting start (32 * p.work) steps (body_code p) (Ready setting) Finished
-  straight = body_runs start (placed_alone p.profile code start (body_code p) standing)
+  straight : Straight (pieces_of setting) start (32 * p.work) steps (body_code p) (Ready setting) Finished
+  straight = body_runs.placed_at start (placed_alone p.profile code start (body_code p) standing)
 
   begins : (args : List Arg) (s : machine.State) → IsLoaded (image_of p) frame args s → AreWithin p.parameters args → Ready setting (start_of p args) s
   begins args s laid within =

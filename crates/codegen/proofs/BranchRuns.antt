@@ -1,5 +1,5 @@
 -- The code of a branch on what is public.
-use Rattle.std.proofs.Common.{◌≡◌, ◌≢◌, ℕ, ◌+◌, ◌*◌, ◌^◌, ◌<◌, ◌≤◌, ◌==◌, cond, List, ◌++◌, length, sym, ap, subst, ne_eqb}
+use Rattle.std.proofs.Common.{◌≡◌, ◌≢◌, ℕ, ◌+◌, ◌*◌, ◌^◌, ◌<◌, ◌≤◌, ◌==◌, cond, List, ◌++◌, length, sym, ap, subst, arith, ne_eqb}
 use Rattle.inline.specs.Flat.{TermTree}
 use Rattle.inline.specs.FlatMeaning.{value_in}
 use Rattle.inline.specs.FlatSize.{term_nodes}
@@ -12,10 +12,9 @@ use Rattle.expression_code.specs.TermCode.{expr_code, height_of}
 use Rattle.language.specs.declared.typing.WordType.{WordType}
 use Rattle.rv_code.specs.declared.instructions.Instr.{Instr}
 use Rattle.rv_machine.specs.Machine as machine
-use Rattle.codegen.proofs.Jumps.{Still, branching}
 use Rattle.codegen.proofs.Showing.{Shown, first_runs, ready_valued, ready_still}
 use Rattle.codegen.proofs.Slots.{hidden_then, hidden_by, hidden_kept}
-use Rattle.expression_code.proofs.Logic.{Setting, base_of, Runs, seq, gives, Ready}
+use Rattle.expression_code.proofs.Logic.{Setting, setting, base_of, Runs, Still, Known, by_mark, branching_at, condition_kind, seq, gives, Ready}
 
 -- the condition is known
 record Tested (z : Setting) (condition : TermTree) (env : StraightState) (s : machine.State) : Type 0 where
@@ -45,18 +44,20 @@ module _ (z : Setting) (depth : ℕ) (condition : TermTree) (word : WordType) (a
   -- the condition, and then one of both arms
   pub branch_runs : Runs z (16 * term_nodes condition + (2 + m + n)) (λ env. path_at env (branch condition accepted otherwise)) (expr_code z.declared (base_of z) 0 condition ++ branch_code xs ys) (Ready z) (Shown z depth (λ env. after env (branch condition accepted otherwise)))
   branch_runs =
-      gives z
+      gives
       (λ env s t fine ready done. record {
         ready = done.second.ready;
         hidden = hidden_then z depth s done.middle t (hidden_kept z depth s done.middle within done.first.kept) done.second.hidden;
       })
-      (seq z
+      (seq
       (first_runs z has room)
-      (branching z {P = Tested z condition} {S = Shown z depth (λ env. after env (branch condition accepted otherwise))} value near
-      (λ env s tested. tested.there)
-      (λ env s t some tested still. ready_still z env s t tested.ready still)
-      first_arm
-      (λ env s t none tested still. ready_still z env s t tested.ready still)
-      second_arm
-      one two)
+      (by_mark (condition_kind z) {P = Tested z condition} value
+      (λ v.
+      branching_at {z = setting z} 5 (omega arith) (λ e. omega arith) {P = Known (setting z) ℕ (λ w. Unit {0}) (Tested z condition) value v} {S = Shown z depth (λ env. after env (branch condition accepted otherwise))} value near
+      (λ env s known. known.given.there)
+      (λ env s t some known still. ready_still z env s t known.given.ready still)
+      (λ env s t u w some known still done back. first_arm env s t u w some known.given still done back)
+      (λ env s t none known still. ready_still z env s t known.given.ready still)
+      (λ env s t u none known still done. second_arm env s t u none known.given still done)
+      one two v (λ env s known. known.is)))
       (λ env s t ready valued. record { ready = ready_valued z condition env s t ready valued; there = valued.there }))

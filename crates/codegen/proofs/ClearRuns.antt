@@ -27,9 +27,7 @@ use Rattle.rv_machine.specs.Machine as machine
 use Rattle.rv_machine.specs.Registers.{with_register}
 use Rattle.rv_machine.proofs.ByteLaws.{with_number-suc, with_byte_same, with_byte_other, with_number_below, with_number_above}
 use Rattle.codegen.proofs.Arguments.{zero_at, held_zeros}
-use Rattle.expression_code.proofs.Logic.{registers_after, only_computes, is_working, computing_runs, plain_append, after_append, constant_plain, constant_after, constant_length, kind_known, HeldAt, Held, held_regs, held_store, frame_there, bytes_of, place_of, place_within, ends_before_result, computing, storing, Setting, none, Runs, seq, quiet, weaken, gives, cheaper, along, as_code, Ready, number_same}
-use Rattle.codegen.proofs.Jumps.{Still, looping_for}
-use Rattle.codegen.proofs.Marks.{never}
+use Rattle.expression_code.proofs.Logic.{registers_after, only_computes, is_free, computing_within, frame_runs, plain_append, after_append, constant_plain, constant_after, constant_length, kind_known, HeldAt, Held, held_regs, frame_there, bytes_of, place_of, place_within, ends_before_result, Setting, setting, none, Runs, Still, looping, never, seq, quiet, weaken, gives, cheaper, along, as_code, Ready, number_same}
 use Rattle.codegen.proofs.Numbers.{zero_number}
 use Rattle.codegen.proofs.Showing.{Shown}
 use Rattle.codegen.proofs.Slots.{ready_changed}
@@ -86,12 +84,12 @@ module _ (z : Setting) (offset words : ℕ) (aligned : offset % 4 ≡ 0) (inside
   abbrev begin_code : List Instr
   begin_code = constant_code 6 offset ++ first_sum ++ constant_code 7 (4 * words) ++ last_sum
 
-  begin_plain : only_computes is_working begin_code ≡ true
+  begin_plain : only_computes is_free begin_code ≡ true
   begin_plain =
-      let six = constant_plain is_working 6 offset refl (omega arith) in
-      let seven = constant_plain is_working 7 (4 * words) refl (omega arith) in
-      let front = plain_append is_working (constant_code 6 offset) first_sum six refl in
-      plain_append is_working (constant_code 6 offset ++ first_sum ++ constant_code 7 (4 * words)) last_sum (plain_append is_working (constant_code 6 offset ++ first_sum) (constant_code 7 (4 * words)) front seven) refl
+      let six = constant_plain is_free 6 offset refl (omega arith) in
+      let seven = constant_plain is_free 7 (4 * words) refl (omega arith) in
+      let front = plain_append is_free (constant_code 6 offset) first_sum six refl in
+      plain_append is_free (constant_code 6 offset ++ first_sum ++ constant_code 7 (4 * words)) last_sum (plain_append is_free (constant_code 6 offset ++ first_sum) (constant_code 7 (4 * words)) front seven) refl
 
   begin_length : length begin_code ≤ 6
   begin_length = simp length-append (omega (arith, constant_length 6 offset, constant_length 7 (4 * words)))
@@ -107,8 +105,8 @@ module _ (z : Setting) (offset words : ℕ) (aligned : offset % 4 ≡ 0) (inside
   begin_runs : Runs z 6 none (begin_code) (Held z) Begun
   begin_runs =
       let ends = z.ends in
-      cheaper z begin_length
-      (gives z
+      cheaper begin_length
+      (gives
       (λ env s t fine held done.
       let all = done.registers ∙ begin_after s.regs in
       let to = λ (n : ℕ). ap (λ base. sum_of n base) held.base in
@@ -120,7 +118,7 @@ module _ (z : Setting) (offset words : ℕ) (aligned : offset % 4 ≡ 0) (inside
         };
         same = done.same;
       })
-      (computing_runs z (begin_code) begin_plain))
+      (computing_within z is_free begin_code begin_plain refl))
 
   -- The loop.
 
@@ -135,7 +133,7 @@ module _ (z : Setting) (offset words : ℕ) (aligned : offset % 4 ≡ 0) (inside
   test_runs : (left i : ℕ) → Runs z 1 none (instr.Register Sub 5 7 6 ∷ []) (Turning left i) (TestedFor left i)
   test_runs left i =
       let ends = z.ends in
-      weaken z {P' = Turning left i}
+      weaken {P' = Turning left i}
       (λ env s fine given. given.0.held)
       (λ env s t fine given done.
       let count = given.1 in
@@ -148,7 +146,7 @@ module _ (z : Setting) (offset words : ℕ) (aligned : offset % 4 ≡ 0) (inside
             ∙ (ap (λ a. difference_of a (s.regs 6)) given.0.seven ∙ (ap (λ b. difference_of (z.frame + (offset + 4 * words)) b) given.0.six ∙ omega (arith, ends, inside, count)));
         same = done.same;
       })
-      (computing_runs z (instr.Register Sub 5 7 6 ∷ []) refl)
+      (computing_within z is_free (instr.Register Sub 5 7 6 ∷ []) refl refl)
 
   record Turned (i : ℕ) (env : StraightState) (u v : machine.State) : Type 0 where
     bounds : Bounded (i + 1) env v
@@ -158,38 +156,31 @@ module _ (z : Setting) (offset words : ℕ) (aligned : offset % 4 ≡ 0) (inside
   body_below left i below =
       let ends = z.ends in
       let even = z.even in
-      gives z
-      (λ env s t fine given done.
-      let m = done.middle in
-      let one = done.first in
-      let two = done.second in
-      let written : t.bytes ≡ with_number s.bytes 4 (z.frame + (offset + 4 * i)) 0 = two.same ∙ one.written in
-      let six : m.regs 6 ≡ z.frame + (offset + 4 * i) = ap (λ (regs : ℕ → ℕ). regs 6) one.same ∙ given.0.six in
-      record {
+      gives
+      (λ env s t fine given done. record {
         bounds = record {
-          held = held_store z s t 4 (offset + 4 * i) 0 (omega (arith, inside, below)) (two.others 2 (λ e. omega arith) ∙ ap (λ (regs : ℕ → ℕ). regs 2) one.same) written given.0.held;
-          six = two.there ∙ (ap (λ a. sum_of a 4) six ∙ omega (arith, ends, inside, below));
-          seven = two.others 7 (λ e. omega arith) ∙ (ap (λ (regs : ℕ → ℕ). regs 7) one.same ∙ given.0.seven);
+          held = done.0;
+          six = ap (λ (regs : ℕ → ℕ). regs 6) done.1.regs ∙ (ap (λ a. sum_of a 4) given.0.six ∙ omega (arith, ends, inside, below));
+          seven = ap (λ (regs : ℕ → ℕ). regs 7) done.1.regs ∙ given.0.seven;
         };
-        written = written;
+        written = done.1.bytes;
       })
-      (seq z
-      (weaken z {P' = Turning (suc left) i}
-      (λ env s fine given. record {
-        address = ap (λ a. sum_of a 0) given.0.six ∙ omega (arith, ends, inside, below);
-        data_there = frame_there z s given.0.held 4 (offset + 4 * i) (omega (arith, inside, below));
-      })
-      (λ env s t fine given done. done)
-      (storing z Sw 0 6 0 (z.frame + (offset + 4 * i)) (omega arith, omega arith, omega arith) (record { even = omega (arith, even, aligned); low = omega arith; high = omega (arith, inside, below) })))
-      (computing z (instr.Immediate Addi 6 6 4) 6 (λ regs. sum_of (regs 6) 4) (omega arith, omega arith, omega arith) (λ e. omega arith) (λ pc regs. refl))
-      (λ env s t given done. tt))
+      (frame_runs z {P = Turning (suc left) i} is_free (instr.Store Sw 0 6 0 ∷ instr.Immediate Addi 6 6 4 ∷ []) ((z.frame + (offset + 4 * i)) ∷ []) refl refl
+      (record { even = omega (arith, even, aligned); allowed = (omega arith, omega (arith, inside, below)) }, tt)
+      (λ env s given. (
+        given.0.held,
+        (record {
+          address = ap (λ a. sum_of a 0) given.0.six ∙ omega (arith, ends, inside, below);
+          data_there = frame_there z s given.0.held 4 (offset + 4 * i) (omega (arith, inside, below));
+        }, tt),
+      )))
 
   body_runs : (left i : ℕ) → Runs z 2 none (instr.Store Sw 0 6 0 ∷ instr.Immediate Addi 6 6 4 ∷ []) (Turning (suc left) i) (Turned i)
   body_runs left i = by_case (nat_lt i words) refl
     where
       by_case : (b : Bool) → nat_lt i words ≡ b → Runs z 2 none (instr.Store Sw 0 6 0 ∷ instr.Immediate Addi 6 6 4 ∷ []) (Turning (suc left) i) (Turned i)
       by_case true e = body_below left i (grind (arith, nat_tests))
-      by_case false e = never z (λ env s given. beyond e given.1)
+      by_case false e = never (λ env s given. beyond e given.1)
         where
           beyond : nat_lt i words ≡ false → i + suc left ≡ words → ⊥
           beyond e h = grind (arith, nat_tests)
@@ -235,12 +226,12 @@ module _ (z : Setting) (offset words : ℕ) (aligned : offset % 4 ≡ 0) (inside
 
   zeros_runs : Runs z ((words + 1) * 5) none (loop_code (instr.Register Sub 5 7 6 ∷ []) (instr.Store Sw 0 6 0 ∷ instr.Immediate Addi 6 6 4 ∷ [])) (Bounded 0) (λ env s t. Over env s t)
   zeros_runs =
-      cheaper z (omega arith)
-      (along z (λ env. sym (path_none words 0 env))
-      (weaken z
+      cheaper (omega arith)
+      (along (λ env. sym (path_none words 0 env))
+      (weaken
       (λ env s fine given. ((given, omega arith), record { zeros_there = λ b low high. absurd (omega (arith, low, high)); others = λ b side. refl }))
       (λ env s t fine given over. over)
-      (looping_for z {A = Turning} {B = TestedFor} {C = λ left i. Turning (suc left) i} {D = λ left i. Turned i}
+      (looping {z = setting z} 5 (omega arith) (λ e. omega arith) {A = Turning} {B = TestedFor} {C = λ left i. Turning (suc left) i} {D = λ left i. Turned i}
       nothing_more as_before Inv Over (omega arith)
       (λ left i env o s inv. inv.0)
       (λ left i env o s t inv tested e. let f = tested.five in omega (arith, e, f))
@@ -257,7 +248,7 @@ module _ (z : Setting) (offset words : ℕ) (aligned : offset % 4 ≡ 0) (inside
 
   pub clear_bytes : Runs z (6 + (words + 1) * 5) none (clear_code offset words) (Held z) (λ env s t. HeldAt z t × Cleared z offset words s t)
   clear_bytes =
-      gives z
+      gives
       (λ env s t fine held done. (
         done.second.0,
         record {
@@ -265,7 +256,7 @@ module _ (z : Setting) (offset words : ℕ) (aligned : offset % 4 ≡ 0) (inside
           others = λ b side. done.second.1.others b side ∙ ap (λ (m : ByteMap). m (z.frame + b)) done.first.same;
         },
       ))
-      (quiet z begin_runs zeros_runs (λ env s t held begun. begun.bounds))
+      (quiet begin_runs zeros_runs (λ env s t held begun. begun.bounds))
 
 -- no more words than elements
 words_few : (kind : Kind) (size : ℕ) → array_words kind size ≤ size
@@ -305,9 +296,9 @@ module _ (z : Setting) (depth x size : ℕ) (typed : IsFilled z.code.profile z.d
       let first = ends_first in
       let room = z.room in
       let few = words_few typed.word.kind size in
-      as_code z (ap (λ k. clear_code offset (array_words k size)) (kind_known z.declared x d typed.known))
-      (cheaper z (omega (arith, few))
-      (weaken z
+      as_code (ap (λ k. clear_code offset (array_words k size)) (kind_known z.declared x d typed.known))
+      (cheaper (omega (arith, few))
+      (weaken
       (λ env s fine ready. ready.held)
       (λ env s t fine ready done. record {
         ready = ready_cleared env s t ready done.0 done.1;

@@ -14,7 +14,7 @@ use Rattle.language.specs.declared.signature.Kind.{Kind}
 use Rattle.language.specs.Size.{element_bytes, array_words}
 use Rattle.rv_code.specs.declared.instructions.Instr.{Instr}
 use Rattle.rv_code.specs.declared.instructions.Instr.TheVariants.{Load, Store}
-use Rattle.expression_code.proofs.TermLengths.{height, one_of, load_length, store_length, constant_length, address_length, expr_length}
+use Rattle.expression_code.proofs.Logic.{height, one_of, load_length, store_length, constant_length, address_length, expr_length}
 
 -- Pieces.
 

@@ -1,5 +1,5 @@
 -- The code that fills an array with values.
-use Rattle.std.proofs.Common.{◌≡◌, ℕ, ◌+◌, ◌*◌, ◌<◌, ◌≤◌, ◌==◌, Bool, true, false, cond, nat_lt, List, [], ◌∷◌, ◌++◌, length, map, None, Some, slice_get, refl, sym, ap, ◌∙◌, subst, arith, eq-eqb, append_assoc, length-append}
+use Rattle.std.proofs.Common.{◌≡◌, ℕ, ◌+◌, ◌*◌, ◌%◌, ◌<◌, ◌≤◌, ◌==◌, Bool, true, false, cond, nat_lt, List, [], ◌∷◌, ◌++◌, length, map, None, Some, slice_get, refl, sym, ap, ◌∙◌, subst, arith, eq-eqb, append_assoc, length-append}
 use Rattle.std.specs.Prelude.{slice_set}
 use Rattle.std.proofs.Math.Nat.{le-max_left, le-max_right}
 use Rattle.std.proofs.Math.Seq.{set-append_seam}
@@ -23,20 +23,20 @@ use Rattle.language.specs.declared.signature.Kind.{Kind}
 use Rattle.language.specs.declared.typing.WordType.{WordType}
 use Rattle.language.specs.Size.{element_bytes}
 use Rattle.word.specs.declared.profile.Profile.{Profile}
-use Rattle.expression_code.proofs.Logic.{steps_of, kind_known, Held, place_of, Put, put_by, Setting, base_of, none, Runs, seq, quiet, gives, cheaper, beside, along, as_code, idle, height, Ready, place_before, place_ends, place_inside, Inside}
+use Rattle.expression_code.proofs.Logic.{steps_of, kind_known, Held, place_of, place_even, put, move_runs, Setting, base_of, none, Runs, seq, quiet, gives, cheaper, beside, along, as_code, idle, height, Ready, Wrote, place_before, place_ends}
+use Rattle.rv_machine.specs.Bytes.{with_number}
 use Rattle.codegen.proofs.PutRuns.{store_bytes}
 use Rattle.codegen.proofs.Showing.{Shown, suits_fits, value_runs, ready_valued, wrote_as}
-use Rattle.codegen.proofs.Slots.{Wrote, put_wrote, hidden_then, hidden_kept, hidden_wrote, cut_element, ready_same, ready_put}
+use Rattle.codegen.proofs.Slots.{hidden_then, hidden_kept, hidden_wrote, cut_element, ready_same, ready_put}
 
 -- the value's register into an element of a fixed place
-element_runs : (z : Setting) (kind : Kind) (o : ℕ) → o + element_bytes kind ≤ z.size → Inside z (element_bytes kind) (z.frame + o)
+element_runs : (z : Setting) (kind : Kind) (o : ℕ) → o % element_bytes kind ≡ 0 → o + element_bytes kind ≤ z.size
     → Runs z 3 none (element_store_code kind o) (Held z) (λ env s t. Wrote z (element_bytes kind) o (s.regs 5) s t)
-element_runs z kind o room inside =
+element_runs z kind o even room =
     let bytes = store_bytes kind in
-    gives z
-    (λ env s t fine held put. put_wrote z (element_bytes kind) 5 o env s t (subst (λ n. Put z n 5 o env s t) bytes put))
-    (put_by z 5 (omega arith) (λ e. omega arith) (λ e. omega arith) o (store_by kind) (omega (arith, room, bytes))
-    (subst (λ n. Inside z n (z.frame + o)) (sym bytes) inside) (nat_lt o 2048) refl)
+    gives
+    (λ env s t fine held put. record { held = put.held; written = put.bytes ∙ ap (λ n. with_number s.bytes n (z.frame + o) (s.regs 5)) bytes })
+    (move_runs z (put (store_by kind) 5 o) refl (ap (λ n. o % n) bytes ∙ even, omega (arith, room, bytes)))
 
 -- a variable that is not known by its type is not read
 unread : (profile : Profile) (declared : List FlatVariable) (x : ℕ) (m : Values) (l : List ℕ) (y : ℕ) (d : FlatVariable) → (types_but profile declared x).at y ≡ Some d → m y ≡ with_value m x l y
@@ -67,7 +67,7 @@ module _ (z : Setting) (depth : ℕ) (within : depth ≤ z.depths) (x size : ℕ
       let every = suits_among (types_but z.code.profile z.declared x) (types_of z.code.profile z.declared) (but_among z.code.profile z.declared x) word e suits in
       let before = place_before z x d k known below in
       let n = element_bytes word.kind in
-      gives z
+      gives
       (λ env s t fine ready done.
       let m = done.middle in
       let v = value_in env.variables e in
@@ -77,28 +77,28 @@ module _ (z : Setting) (depth : ℕ) (within : depth ≤ z.depths) (x size : ℕ
         ready = ready_put z x k v v d known below fits env m t (ready_valued z e env s m ready done.first) wrote (cut_element word.kind size v fits);
         hidden = hidden_then z depth s m t (hidden_kept z depth s m within done.first.kept) (hidden_wrote z depth n (at k) v m t (omega (arith, before)) wrote);
       })
-      (quiet z (value_runs z word e every room)
-      (element_runs z word.kind (at k) (place_ends z x d k known below) (place_inside z x d k known below))
+      (quiet (value_runs z word e every room)
+      (element_runs z word.kind (at k) (place_even z.declared x d k) (place_ends z x d k known below))
       (λ env s t ready valued. valued.held))
 
   fill_from : (k o : ℕ) (es : List TermTree) → o ≡ at k → AllSuit (types_but z.code.profile z.declared x) word es → k + length es ≤ size → base_of z + 4 * slots_to (height_of_all es) ≤ z.size
       → Runs z (32 * terms_nodes es) (λ env. path_in_all env.variables es) (fill_code z.declared (base_of z) word.kind o es) (Ready z) (Shown z depth (filled k es))
   fill_from k o [] is suits few room =
-      idle z (λ env s ready. record { ready = ready; hidden = λ a low high. refl })
+      idle (λ env s ready. record { ready = ready; hidden = λ a low high. refl })
   fill_from k o (e ∷ es) is suits few room =
       let a = le-max_left (height_of e) (height_of_all es) in
       let b = le-max_right (height_of e) (height_of_all es) in
       let h = height e in
-      cheaper z (omega (arith, h))
-      (gives z
+      cheaper (omega (arith, h))
+      (gives
       (λ env s t fine ready done. record {
         ready = done.second.ready;
         hidden = hidden_then z depth s done.middle t done.first.hidden done.second.hidden;
       })
-      (seq z
-      (as_code z (ap (λ p. expr_code z.declared (base_of z) 0 e ++ element_store_code word.kind p) is) (one_runs k e (omega (arith, few)) suits.0 (omega (arith, room, a))))
-      (along z (λ env. one_path_all (types_but z.code.profile z.declared x) env.variables (step k e env).variables (λ y f there seen. unread z.code.profile z.declared x env.variables _ y f there) word es suits.1)
-      (beside z (step k e) (fill_from (k + 1) (o + element_bytes word.kind) es (omega (arith, is)) suits.1 (omega (arith, few)) (omega (arith, room, b)))))
+      (seq
+      (as_code (ap (λ p. expr_code z.declared (base_of z) 0 e ++ element_store_code word.kind p) is) (one_runs k e (omega (arith, few)) suits.0 (omega (arith, room, a))))
+      (along (λ env. one_path_all (types_but z.code.profile z.declared x) env.variables (step k e env).variables (λ y f there seen. unread z.code.profile z.declared x env.variables _ y f there) word es suits.1)
+      (beside (step k e) (fill_from (k + 1) (o + element_bytes word.kind) es (omega (arith, is)) suits.1 (omega (arith, few)) (omega (arith, room, b)))))
       (λ env s t ready done. done.ready)))
 
   -- What is held then.
@@ -139,9 +139,9 @@ pub fill_runs : (z : Setting) (depth x : ℕ) (values : List TermTree) → IsFil
     → Runs z (32 * (1 + length values + terms_nodes values)) (λ env. path_at env (fill x values)) (statement_code z.declared z.controls z.depths depth (fill x values)) (Ready z) (Shown z depth (λ env. after env (fill x values)))
 fill_runs z depth x values typed room within =
     let d : FlatVariable = array_as typed.word typed.mutable (length values) in
-    as_code z (ap (λ k. fill_code z.declared (base_of z) k (variable_offset z.declared x) values) (kind_known z.declared x d typed.known))
-    (cheaper z (omega arith)
-    (gives z
+    as_code (ap (λ k. fill_code z.declared (base_of z) k (variable_offset z.declared x) values) (kind_known z.declared x d typed.known))
+    (cheaper (omega arith)
+    (gives
     (λ env s t fine ready done. record {
       ready =
           ready_same z (filled z depth within x (length values) typed.word typed.mutable typed.known 0 values env) (with_variable env x (map (value_at env) values)) t

@@ -19,7 +19,7 @@ use Rattle.language.specs.declared.signature.Param.{Param}
 use Rattle.language.specs.declared.typing.WordType.{WordType}
 use Rattle.language.specs.Size.{held_words, array_words}
 use Rattle.word.specs.declared.profile.Profile.{Profile}
-use Rattle.expression_code.proofs.OffsetLemmas.{parameter_words}
+use Rattle.expression_code.proofs.Logic.{parameter_words}
 use Rattle.codegen.specs.private.Generated.{program_base, program_code, program_slots, result_slot, step_limit}
 use Rattle.expression_code.specs.Layout.{slots_from, result_offset}
 use Rattle.codegen.specs.private.Room.{HasRoom}

@@ -1,7 +1,5 @@
-pub mod Jumps
 pub mod Slots
 pub mod Showing
-pub mod Marks
 pub mod Numbers
 pub mod SetRuns
 pub mod PutRuns

@@ -1,10 +1,10 @@
 -- The code of a loop.
-use Rattle.std.proofs.Common.{◌≡◌, ℕ, zero, suc, ◌+◌, ◌-◌, ◌*◌, ◌%◌, ◌^◌, ◌<◌, ◌≤◌, true, false, nat_lt, List, [], ◌∷◌, ◌++◌, length, Some, slice_get, slice_index, refl, sym, ap, ap₂, ◌∙◌, arith, inr, append_assoc}
+use Rattle.std.proofs.Common.{◌≡◌, ℕ, zero, suc, ◌+◌, ◌-◌, ◌*◌, ◌%◌, ◌^◌, ◌<◌, ◌≤◌, true, false, nat_lt, List, [], ◌∷◌, ◌++◌, length, Some, slice_get, slice_index, refl, sym, ap, ap₂, ◌∙◌, subst, arith, inr, append_assoc}
 use Rattle.std.proofs.lemmas.Bool.Decides.{nat_tests}
-use Rattle.std.proofs.lemmas.Option.{same_Some}
+use Rattle.std.proofs.lemmas.Nat.{mul-le}
 use Rattle.inline.specs.Flat.{TermTree, word_as}
 use Rattle.inline.specs.FlatMeaning.{value_in, path_in, turns, path_of_turns}
-use Rattle.inline.specs.Path.{bounded}
+use Rattle.inline.specs.Path.{Path, bounded}
 use Rattle.inline.specs.FlatSize.{term_nodes}
 use Rattle.inline.specs.FlatTyping.{types_of, HasType, counter_type}
 use Rattle.branch_removal.specs.Straight.{StraightBlock, repeats}
@@ -19,13 +19,14 @@ use Rattle.rv_code.specs.declared.instructions.Instr.{Instr}
 use Rattle.rv_code.specs.declared.instructions.Instr.TheVariants as instr
 use Rattle.rv_code.specs.declared.operations.ImmediateOperation.TheVariants.{Addi}
 use Rattle.rv_code.specs.declared.operations.RegisterOperation.TheVariants.{Sltu}
-use Rattle.rv_machine.specs.Bytes.{ByteMap, number_at}
+use Rattle.rv_code.specs.declared.operations.StoreOperation.TheVariants.{Sw}
+use Rattle.rv_machine.specs.Bytes.{ByteMap, number_at, with_number}
 use Rattle.rv_machine.specs.Effects.{sum_of}
 use Rattle.rv_machine.specs.Machine as machine
-use Rattle.expression_code.proofs.Logic.{computing_runs, value_word, HeldAt, held_regs, load_runs, store_runs, Setting, base_of, none, Runs, seq, quiet, quietly, weaken, gives, as_code, beside, Kept, Ready, kept_number, kept_less, kept_then, put_kept, put_there, ready_below}
-use Rattle.codegen.proofs.Jumps.{Still, looping}
-use Rattle.codegen.proofs.Showing.{Shown, first_runs, ready_with, ready_behind, word_before, wrote_as}
-use Rattle.codegen.proofs.Slots.{Hidden, hidden_then, hidden_less, hidden_by, hidden_wrote, hidden_beyond, hidden_number, put_wrote, other_number, ready_set}
+use Rattle.expression_code.proofs.Logic.{value_word, HeldAt, held_regs, take, put, does, moves_run, then_moves, number_or_zero, Setting, setting, base_of, Known, by_bounds, none, Runs, Still, looping, along_fit, seq, quietly, weaken, gives, cheaper, as_code, beside, Kept, Ready, Wrote, wrote_kept, wrote_there, kept_number, kept_less, kept_then, ready_below}
+use Rattle.codegen.proofs.SetRuns.{set_word}
+use Rattle.codegen.proofs.Showing.{Shown, first_runs, ready_with, ready_behind, word_before}
+use Rattle.codegen.proofs.Slots.{Hidden, hidden_then, hidden_less, hidden_by, hidden_wrote, hidden_beyond, hidden_number, other_number, ready_set}
 
 -- So many turns are left, the next of them for this number: both of the loop's words tell it.
 pub record AtLoop (z : Setting) (next left i : ℕ) (env : StraightState) (s : machine.State) : Type 0 where
@@ -83,31 +84,17 @@ module _ (z : Setting) (depth : ℕ) (within : depth < z.depths) where
   test_runs : (left i : ℕ) → Runs z 7 none (test_code next) (AtLoop z next left i) (TestedFor z left i)
   test_runs left i =
       let inside = next_inside in
-      gives z
-      (λ env s t fine at done.
-      let m2 = done.middle in
-      let m1 = done.first.middle in
-      let one = done.first.first in
-      let two = done.first.second in
-      let three = done.second in
-      let x6 : m2.regs 6 ≡ i = two.others 6 (λ e. omega arith) ∙ same_Some (m1.regs 6) i (sym one.there ∙ at.next_there) in
-      let x5 : m2.regs 5 ≡ at.bound = same_Some (m2.regs 5) at.bound (sym two.there ∙ (ap (λ (b : ByteMap). number_at b 4 (z.frame + (next + 4))) one.same ∙ at.bound_there)) in
-      record {
-        held = three.held;
-        six = ap (λ (regs : ℕ → ℕ). regs 6) three.registers ∙ x6;
-        five = ap (λ (regs : ℕ → ℕ). regs 5) three.registers ∙ (ap₂ (λ a b. word_of (nat_lt a b)) x6 x5 ∙ ap word_of (is_left at.bound i left at.left_is));
-        same = three.same ∙ (two.same ∙ one.same);
-      })
-      (quiet z
-      (quiet z
-      (weaken z {P' = AtLoop z next left i}
+      weaken
       (λ env s fine at. at.ready.held)
-      (λ env s t fine at took. took)
-      (load_runs z 6 next (omega arith) (omega (arith, inside)) (omega arith) (λ e. omega arith) (λ e. omega arith)))
-      (load_runs z 5 (next + 4) (omega arith) (omega (arith, inside)) (omega arith) (λ e. omega arith) (λ e. omega arith))
-      (λ env s t at took. took.held))
-      (computing_runs z (instr.Register Sltu 5 6 5 ∷ []) refl)
-      (λ env s t at done. done.second.held))
+      (λ env s t fine at moved. record {
+        held = moved.held;
+        six = ap (λ (regs : ℕ → ℕ). regs 6) moved.regs ∙ ap number_or_zero at.next_there;
+        five =
+            ap (λ (regs : ℕ → ℕ). regs 5) moved.regs
+            ∙ (ap₂ (λ a b. word_of (nat_lt a b)) (ap number_or_zero at.next_there) (ap number_or_zero at.bound_there) ∙ ap word_of (is_left at.bound i left at.left_is));
+        same = moved.bytes;
+      })
+      (moves_run z (take 6 next) (take 5 (next + 4) ∷ does (instr.Register Sltu 5 6 5 ∷ []) ∷ []) refl ((omega arith, omega (arith, inside)), ((omega arith, omega (arith, inside)), (tt, tt))))
 
   -- The counter.
 
@@ -123,48 +110,38 @@ module _ (z : Setting) (depth : ℕ) (within : depth < z.depths) where
       let before = word_before z x counter_type false known in
       let inside = next_inside in
       let room = z.room in
-      gives z
+      gives
       (λ env u v fine given done.
       let at = given.0 in
-      let m2 = done.middle in
-      let m1 = done.first.middle in
-      let one = done.first.first in
-      let two = done.first.second in
-      let three = done.second in
+      let m = done.middle in
+      let one = done.first in
+      let two = done.second in
       let small = at.bound_small in
       let more = at.left_is in
       let below : i < 2 ^ 32 = omega (arith, small, more) in
       let below' : i + 1 < 2 ^ 32 = omega (arith, small, more) in
-      let wrote1 = wrote_as z 4 o (u.regs 6) i u m1 given.1 (put_wrote z 4 6 o env u m1 one) in
-      let ready1 = ready_set z x i counter_type false known below env u m1 at.ready wrote1 in
-      let ready2 = ready_with z (counted x i env) m1 m2 ready1 two.held two.same in
-      let six : m2.regs 6 ≡ i + 1 = ap (λ (regs : ℕ → ℕ). regs 6) two.registers ∙ (ap (λ a. sum_of a 1) (one.others 6 (λ e. omega arith) ∙ given.1) ∙ omega (arith, below')) in
-      let wrote2 = wrote_as z 4 next (m2.regs 6) (i + 1) m2 v six (put_wrote z 4 6 next env m2 v three) in (
+      let wrote1 : Wrote z 4 o i u m = record { held = one.held; written = one.bytes ∙ ap (λ w. with_number u.bytes 4 (z.frame + o) w) given.1 } in
+      let ready1 = ready_set z x i counter_type false known below env u m at.ready wrote1 in
+      let six : m.regs 6 ≡ i + 1 = ap (λ (regs : ℕ → ℕ). regs 6) one.regs ∙ (ap (λ a. sum_of a 1) given.1 ∙ omega (arith, below')) in
+      let wrote2 : Wrote z 4 next (i + 1) m v = record { held = two.held; written = two.bytes ∙ ap (λ w. with_number m.bytes 4 (z.frame + next) w) six } in (
         record {
-          ready = ready_behind z 4 next (i + 1) (omega arith) (counted x i env) m2 v ready2 wrote2;
-          next_there = put_there z 6 next (i + 1) env m2 v three six below';
+          ready = ready_behind z 4 next (i + 1) (omega arith) (counted x i env) m v ready1 wrote2;
+          next_there = wrote_there z next (i + 1) m v wrote2 below';
           bound = at.bound;
           left_is = omega (arith, more);
           bound_small = at.bound_small;
           bound_there =
-              other_number z 4 next (i + 1) 4 (next + 4) m2 v wrote2 (inr (omega arith))
-              ∙ (ap (λ (b : ByteMap). number_at b 4 (z.frame + (next + 4))) two.same
-              ∙ (other_number z 4 o i 4 (next + 4) u m1 wrote1 (inr (omega (arith, before))) ∙ at.bound_there));
+              other_number z 4 next (i + 1) 4 (next + 4) m v wrote2 (inr (omega arith))
+              ∙ (other_number z 4 o i 4 (next + 4) u m wrote1 (inr (omega (arith, before))) ∙ at.bound_there);
         },
-        hidden_then z depth u m2 v
-            (hidden_then z depth u m1 m2 (hidden_wrote z depth 4 o i u m1 (omega (arith, before)) wrote1) (hidden_by z depth m1 m2 two.same))
-            (hidden_beyond z depth 4 next (i + 1) m2 v (omega arith) wrote2),
+        hidden_then z depth u m v (hidden_wrote z depth 4 o i u m (omega (arith, before)) wrote1) (hidden_beyond z depth 4 next (i + 1) m v (omega arith) wrote2),
       ))
-      (quiet z
-      (quiet z
-      (weaken z {P' = Turns left i}
+      (then_moves z (put Sw 6 next ∷ []) refl ((omega arith, omega (arith, inside)), tt)
+      (weaken {P' = Turns left i}
       (λ env s fine given. given.0.ready.held)
-      (λ env s t fine given put. put)
-      (store_runs z 6 (omega arith) (λ e. omega arith) (λ e. omega arith) o (omega arith) (omega (arith, before, room))))
-      (computing_runs z (instr.Immediate Addi 6 6 1 ∷ []) refl)
-      (λ env s t given put. put.held))
-      (store_runs z 6 (omega arith) (λ e. omega arith) (λ e. omega arith) next (omega arith) (omega (arith, inside)))
-      (λ env s t given done. done.second.held))
+      (λ env s t fine given moved. moved)
+      (moves_run z (put Sw 6 o) (does (instr.Immediate Addi 6 6 1 ∷ []) ∷ []) refl ((omega arith, omega (arith, before, room)), (tt, tt))))
+      (λ env s t given moved. moved.held))
 
   -- Both bounds.
 
@@ -177,19 +154,19 @@ module _ (z : Setting) (depth : ℕ) (within : depth < z.depths) where
   pushed : (e : TermTree) (o : ℕ) → HasType (types_of z.code.profile z.declared) e counter_type → base_of z + 4 * slots_to (height_of e) ≤ z.size → o ≤ base_of z → o % 4 ≡ 0 → o + 4 ≤ z.size
       → Runs z (16 * term_nodes e + 3) (λ env. path_in env.variables e) (expr_code z.declared (base_of z) 0 e ++ store_code 5 o) (Ready z) (Pushed e o)
   pushed e o has room below aligned inside =
-      gives z
+      gives
       (λ env s t fine ready done.
       let m = done.middle in
-      let one = done.first in
-      let two = done.second in
+      let v = value_in env.variables e in
+      let wrote = set_word z e o v env s m t done.first done.second refl in
       record {
-        held = two.held;
-        there = put_there z 5 o (value_in env.variables e) env m t two one.there (value_word z.code.profile z.declared e counter_type env.variables ready.fits has);
-        kept = kept_then z o s m t (kept_less z o (base_of z) s m below one.kept) (put_kept z 4 5 o env m t two);
+        held = wrote.held;
+        there = wrote_there z o v m t wrote (value_word z.code.profile z.declared e counter_type env.variables ready.fits has);
+        kept = kept_then z o s m t (kept_less z o (base_of z) s m below done.first.kept) (wrote_kept z 4 o v m t wrote);
       })
-      (quiet z (first_runs z has room)
-      (store_runs z 5 (omega arith) (λ e. omega arith) (λ e. omega arith) o aligned inside)
-      (λ env s t ready valued. valued.held))
+      (cheaper (omega arith)
+      (then_moves z (put Sw 5 o ∷ []) refl ((aligned, inside), tt) (first_runs z has room)
+      (λ env s t ready valued. valued.held)))
 
   abbrev Begun : TermTree → TermTree → StraightState → machine.State → machine.State → Type 0
   Begun low high env s t = AtLoop z next (value_in env.variables high - value_in env.variables low) (value_in env.variables low) env t × Hidden z depth s t
@@ -199,7 +176,7 @@ module _ (z : Setting) (depth : ℕ) (within : depth < z.depths) where
   bounds_runs low high has_low has_high room_low room_high =
       let inside = next_inside in
       let base : next + 8 ≤ base_of z = omega (arith, within) in
-      gives z
+      gives
       (λ env s t fine ready done.
       let m = done.middle in
       let one = done.first in
@@ -215,8 +192,8 @@ module _ (z : Setting) (depth : ℕ) (within : depth < z.depths) where
         },
         hidden_then z depth s m t (hidden_below z depth next s m (omega arith) one.kept) (hidden_below z depth (next + 4) m t (omega arith) two.kept),
       ))
-      (as_code z (append_assoc (expr_code z.declared (base_of z) 0 low ++ store_code 5 next) (expr_code z.declared (base_of z) 0 high) (store_code 5 (next + 4)))
-      (seq z
+      (as_code (append_assoc (expr_code z.declared (base_of z) 0 low ++ store_code 5 next) (expr_code z.declared (base_of z) 0 high) (store_code 5 (next + 4)))
+      (seq
       (pushed low next has_low room_low (omega (arith, base)) (omega arith) (omega (arith, inside)))
       (pushed high (next + 4) has_high room_high (omega (arith, base)) (omega arith) (omega (arith, inside)))
       (λ env s t ready done. ready_below z next (omega arith) env s t ready done.held done.kept)))
@@ -236,7 +213,7 @@ module _ (z : Setting) (depth : ℕ) (within : depth < z.depths) where
     -- a turn
     body_runs : (left i : ℕ) → Runs z (7 + n) (λ env. path_along (counted x i env) body) (count_code next (variable_offset z.declared x) ++ ys) (Turns left i) (Done left i)
     body_runs left i =
-        gives z
+        gives
         (λ env u v fine given done.
         let m = done.middle in
         let first = done.first in
@@ -251,7 +228,7 @@ module _ (z : Setting) (depth : ℕ) (within : depth < z.depths) where
           },
           hidden_then z depth u m v first.1 (hidden_less z depth (depth + 1) m v (omega arith) shown.hidden),
         ))
-        (quietly z (count_runs x left i known) (beside z (counted x i) inner)
+        (quietly (count_runs x left i known) (beside (counted x i) inner)
         (λ env s t given first. first.0.ready))
 
     abbrev Inv : ℕ → ℕ → StraightState → machine.State → machine.State → Type 0
@@ -266,11 +243,24 @@ module _ (z : Setting) (depth : ℕ) (within : depth < z.depths) where
       hidden_then z depth o s w inv.1 (hidden_then z depth s u w (hidden_by z depth s u (still.bytes ∙ tested.same)) (hidden_then z depth u v w done.1 (hidden_by z depth v w back.bytes))),
     )
 
-    loop_runs : Runs z ((slice_index z.counts x + 1) * (7 + (7 + n) + 2)) (λ env. bounded x (value_in env.variables low) (value_in env.variables high) ∷ path_of_turns (value_in env.variables high - value_in env.variables low) (value_in env.variables low) one_turn (λ i e. path_along (counted x i e) body) env) (loop_code (test_code next) (count_code next (variable_offset z.declared x) ++ ys))
-        (λ env s. Inv (value_in env.variables high - value_in env.variables low) (value_in env.variables low) env s s)
-        (λ env s t. Over (turns (value_in env.variables high - value_in env.variables low) (value_in env.variables low) one_turn env) s t)
-    loop_runs =
-        looping z {A = λ left i. AtLoop z next left i} {B = λ left i. TestedFor z left i} {C = Turns} {D = Done}
+    abbrev bounds : StraightState → ℕ × ℕ
+    bounds env = (value_in env.variables low, value_in env.variables high)
+
+    abbrev Beginning : StraightState → machine.State → Type 0
+    Beginning env s = Inv ((bounds env).1 - (bounds env).0) (bounds env).0 env s s
+
+    abbrev path_by : StraightState → ℕ × ℕ → Path
+    path_by env b = path_of_turns (b.1 - b.0) b.0 one_turn (λ i e. path_along (counted x i e) body) env
+
+    -- with bounds that are known beforehand
+    loop_at : (b : ℕ × ℕ) → Runs z ((b.1 - b.0 + 1) * (7 + (7 + n) + 2)) (λ env. path_by env (bounds env)) (loop_code (test_code next) (count_code next (variable_offset z.declared x) ++ ys))
+        (Known (setting z) (ℕ × ℕ) (λ c. c.1 - c.0 ≤ slice_index z.counts x) Beginning bounds b) (λ env s t. Over (turns ((bounds env).1 - (bounds env).0) (bounds env).0 one_turn env) s t)
+    loop_at b =
+        along_fit (λ env s known. ap (path_by env) known.is)
+        (weaken
+        (λ env s fine known. subst (λ (c : ℕ × ℕ). Inv (c.1 - c.0) c.0 env s s) known.is known.given)
+        (λ env s t fine known over. subst (λ (c : ℕ × ℕ). Over (turns (c.1 - c.0) c.0 one_turn env) s t) (sym known.is) over)
+        (looping {z = setting z} 5 (omega arith) (λ e. omega arith) {A = λ left i. AtLoop z next left i} {B = λ left i. TestedFor z left i} {C = Turns} {D = Done}
         (λ i env. path_along (counted x i env) body) one_turn Inv Over near
         (λ left i env o s inv. inv.0)
         (λ left i env o s t inv tested e. let f = tested.five ∙ some_left left in omega (arith, e, f))
@@ -278,17 +268,20 @@ module _ (z : Setting) (depth : ℕ) (within : depth < z.depths) where
         (λ left i env o s t u inv tested still. (at_same (suc left) i env s u inv.0 (held_still t u tested.held still) (still.bytes ∙ tested.same), ap (λ (regs : ℕ → ℕ). regs 6) still.regs ∙ tested.six))
         turned
         (λ i env o s t u inv tested still. (ready_with z env s u inv.0.ready (held_still t u tested.held still) (still.bytes ∙ tested.same), hidden_then z depth o s u inv.1 (hidden_by z depth s u (still.bytes ∙ tested.same))))
-        test_runs body_runs
-        x (λ env. value_in env.variables low) (λ env. value_in env.variables high)
+        test_runs body_runs (b.1 - b.0) b.0))
+
+    loop_runs : Runs z ((slice_index z.counts x + 1) * (7 + (7 + n) + 2)) (λ env. bounded x (bounds env).0 (bounds env).1 ∷ path_by env (bounds env)) (loop_code (test_code next) (count_code next (variable_offset z.declared x) ++ ys))
+        Beginning (λ env s t. Over (turns ((bounds env).1 - (bounds env).0) (bounds env).0 one_turn env) s t)
+    loop_runs = by_bounds z x bounds (λ b few. cheaper (mul-le (b.1 - b.0 + 1) (7 + (7 + n) + 2) (slice_index z.counts x + 1) (7 + (7 + n) + 2) (omega (arith, few)) (omega arith)) (loop_at b))
 
     -- both bounds, and then the turns
     pub repeats_runs : Runs z (16 * term_nodes low + 3 + (16 * term_nodes high + 3) + (slice_index z.counts x + 1) * (7 + (7 + n) + 2)) (λ env. path_at env (repeats x low high body))
         (bounds_code z.declared next (base_of z) low high ++ loop_code (test_code next) (count_code next (variable_offset z.declared x) ++ ys)) (Ready z) (Shown z depth (λ env. after env (repeats x low high body)))
     repeats_runs =
-        gives z
+        gives
         (λ env s t fine ready done. record {
           ready = done.second.0;
           hidden = hidden_then z depth s done.middle t done.first.1 done.second.1;
         })
-        (seq z (bounds_runs low high has_low has_high room_low room_high) loop_runs
+        (seq (bounds_runs low high has_low has_high room_low room_high) loop_runs
         (λ env s t ready begun. (begun.0, λ o from to. refl)))

@@ -5,7 +5,7 @@ use Rattle.rv_code.specs.declared.instructions.Instr.{Instr}
 use Rattle.rv_code.specs.Words.{word_of}
 use Rattle.word.specs.declared.profile.Profile.{Profile}
 use Rattle.rv_machine.specs.Machine.{word_at}
-use Rattle.expression_code.proofs.Straight.{Placed}
+use Rattle.expression_code.proofs.Logic.{Placed}
 
 slice_at : (before : List ℕ) (w : ℕ) (rest : List ℕ) → slice_get (before ++ w ∷ rest) (length before) ≡ Some w
 slice_at [] w rest = refl

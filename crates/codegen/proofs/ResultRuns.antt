@@ -1,5 +1,5 @@
 -- The code of a result puts it into its slot; without a result there is no code.
-use Rattle.std.proofs.Common.{◌+◌, ◌*◌, ◌≤◌, Option, Some, None, arith}
+use Rattle.std.proofs.Common.{[], ◌∷◌, refl, ap, ◌∙◌, ◌+◌, ◌*◌, ◌≤◌, Option, Some, None, arith}
 use Rattle.inline.specs.Flat.{TermTree}
 use Rattle.inline.specs.FlatMeaning.{value_in, path_of_result}
 use Rattle.inline.specs.FlatSize.{value_nodes}
@@ -10,10 +10,11 @@ use Rattle.codegen.specs.private.Generated.{result_code, result_height}
 use Rattle.expression_code.specs.Layout.{result_offset}
 use Rattle.expression_code.specs.Registers.{slots_to}
 use Rattle.rv_machine.specs.Machine as machine
-use Rattle.expression_code.proofs.Logic.{value_word, store_runs, Setting, base_of, Steps, Runs, quiet, gives, cheaper, idle, Ready, put_there}
+use Rattle.expression_code.proofs.Logic.{value_word, then_moves, put, Setting, base_of, Steps, Runs, gives, cheaper, idle, Ready, Wrote, wrote_there}
+use Rattle.rv_code.specs.declared.operations.StoreOperation.TheVariants.{Sw}
+use Rattle.rv_machine.specs.Bytes.{with_number}
 use Rattle.codegen.proofs.Results.{Left}
 use Rattle.codegen.proofs.Showing.{value_runs, ready_valued, ready_result}
-use Rattle.codegen.proofs.Slots.{put_wrote}
 
 -- what a result puts on the path
 abbrev pub steps_of_result : Option TermTree → Steps
@@ -27,20 +28,21 @@ pub record Given (z : Setting) (value : Option TermTree) (env : StraightState) (
 module _ (z : Setting) where
   pub result_runs : (returned : Option WordType) (value : Option TermTree) → IsResult (types_of z.code.profile z.declared) returned value → base_of z + 4 * slots_to (result_height value) ≤ z.size → Runs z (32 * value_nodes value) (steps_of_result value) (result_code z.declared (base_of z) value) (Ready z) (Given z value)
   result_runs returned None typed room =
-      idle z (λ env s ready. record { ready = ready; left = tt })
+      idle (λ env s ready. record { ready = ready; left = tt })
   result_runs None (Some value) typed room = absurd typed
   result_runs (Some word) (Some value) typed room =
       let o = result_offset z.declared in
       let space = z.room in
-      cheaper z (omega arith)
-      (gives z
+      cheaper (omega arith)
+      (gives
       (λ env s t fine ready done.
       let m = done.middle in
       let v = value_in env.variables value in
+      let wrote : Wrote z 4 o v m t = record { held = done.second.held; written = done.second.bytes ∙ ap (λ w. with_number m.bytes 4 (z.frame + o) w) done.first.there } in
       record {
-        ready = ready_result z env m t (m.regs 5) (ready_valued z value env s m ready done.first) (put_wrote z 4 5 o env m t done.second);
-        left = put_there z 5 o v env m t done.second done.first.there (value_word z.code.profile z.declared value typed.word env.variables ready.fits typed.has_type);
+        ready = ready_result z env m t v (ready_valued z value env s m ready done.first) wrote;
+        left = wrote_there z o v m t wrote (value_word z.code.profile z.declared value typed.word env.variables ready.fits typed.has_type);
       })
-      (quiet z (value_runs z word value typed room)
-      (store_runs z 5 (omega arith) (λ e. omega arith) (λ e. omega arith) o (omega arith) (omega (arith, space)))
+      (then_moves z (put Sw 5 o ∷ []) refl ((omega arith, omega (arith, space)), tt)
+      (value_runs z word value typed room)
       (λ env s t ready valued. valued.held)))

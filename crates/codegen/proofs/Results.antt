@@ -17,7 +17,7 @@ use Rattle.language.specs.declared.signature.Param.{Param}
 use Rattle.language.specs.declared.typing.WordType.{WordType}
 use Rattle.language.specs.Size.{element_bytes}
 use Rattle.rv_machine.specs.Bytes.{ByteMap, number_at}
-use Rattle.expression_code.proofs.Places.{bytes_of, place_of}
+use Rattle.expression_code.proofs.Logic.{bytes_of, place_of}
 use Rattle.codegen.proofs.Arguments.{head_is, tail_is, no_cons}
 
 -- numbers that are there, one after another

@@ -16,9 +16,8 @@ use Rattle.language.specs.Types.{bits_of}
 use Rattle.word.specs.declared.profile.Profile.{Profile}
 use Rattle.inline.specs.FlatSize.{term_nodes}
 use Rattle.rv_machine.specs.Machine as machine
-use Rattle.expression_code.proofs.Logic.{steps_of, expr_runs, HeldAt, held_regs, ends_before_result, Setting, base_of, Runs, gives, Kept, Ready, kept_less, kept_by, variables_kept, ready_below, ready_after}
-use Rattle.codegen.proofs.Jumps.{Still}
-use Rattle.codegen.proofs.Slots.{Wrote, Hidden, wrote_kept, other_number}
+use Rattle.expression_code.proofs.Logic.{Still, Wrote, wrote_kept, steps_of, expr_runs, HeldAt, held_regs, ends_before_result, Setting, base_of, Runs, gives, Kept, Ready, kept_less, kept_by, variables_kept, ready_below, ready_after}
+use Rattle.codegen.proofs.Slots.{Hidden, other_number}
 
 -- the state that is made of the one before is shown, and the words of the loops around are as they were
 pub record Shown (z : Setting) (depth : ℕ) (change : StraightState → StraightState) (env : StraightState) (s t : machine.State) : Type 0 where
@@ -40,7 +39,7 @@ module _ (z : Setting) where
 
   pub first_runs : {e : TermTree} {word : WordType} → HasType (types_of z.code.profile z.declared) e word → base_of z + 4 * slots_to (height_of e) ≤ z.size → Runs z (16 * term_nodes e) (steps_of e) (expr_code z.declared (base_of z) 0 e) (Ready z) (Evaluated z e)
   first_runs has room =
-      gives z {P = Ready z}
+      gives {P = Ready z}
       (λ env s t fine ready done. record { held = done.held; there = done.there; kept = kept_less z (base_of z) (base_of z + 4 * 0) s t (omega arith) done.kept })
       (expr_runs z (base_of z) (omega arith) (omega arith) has 0 (omega (arith, room)))
 

@@ -19,12 +19,7 @@ use Rattle.language.specs.Types.{bits_of}
 use Rattle.rv_machine.specs.Bytes.{ByteMap, number_at, with_number}
 use Rattle.rv_machine.proofs.ByteLaws.{number_at_apart, number_at-with_number, with_number_below, with_number_above}
 use Rattle.rv_machine.specs.Machine as machine
-use Rattle.expression_code.proofs.Logic.{HeldAt, mask_of, mask_fits, Put, bytes_by, bytes_of, place_of, place_within, ends_before_result, apart_from, elements_apart, Setting, base_of, Kept, Ready, number_same, put_kept, put_there, variables_kept}
-
--- a number of so many bytes is written into the frame
-pub record Wrote (z : Setting) (n o w : ℕ) (s t : machine.State) : Type 0 where
-  pub held : HeldAt z t
-  pub written : t.bytes ≡ with_number s.bytes n (z.frame + o) w
+use Rattle.expression_code.proofs.Logic.{HeldAt, mask_of, mask_fits, bytes_by, bytes_of, place_of, place_within, ends_before_result, apart_from, elements_apart, Setting, base_of, Kept, Ready, Wrote, wrote_kept, wrote_there, number_same, variables_kept}
 
 -- the words of the loops that are around are as they were
 abbrev pub Hidden : Setting → ℕ → machine.State → machine.State → Type 0
@@ -48,19 +43,12 @@ hidden_wrote z depth n o w s t before wrote x low high =
     ap (λ (b : ByteMap). b (z.frame + x)) wrote.written ∙ with_number_above s.bytes n (z.frame + o) w (z.frame + x) (omega (arith, before, low))
 
 -- or behind them
-pub wrote_kept : (z : Setting) (n o w : ℕ) (s t : machine.State) → Wrote z n o w s t → Kept z o s t
-wrote_kept z n o w s t wrote x below =
-    ap (λ (b : ByteMap). b (z.frame + x)) wrote.written ∙ with_number_below s.bytes n (z.frame + o) w (z.frame + x) (omega (arith, below))
-
 pub hidden_beyond : (z : Setting) (depth n o w : ℕ) (s t : machine.State) → next_offset z.declared z.controls depth ≤ o → Wrote z n o w s t → Hidden z depth s t
 hidden_beyond z depth n o w s t behind wrote x low high = wrote_kept z n o w s t wrote x (omega (arith, behind, high))
 
 -- a loop's word is the number that it was
 pub hidden_number : (z : Setting) (depth : ℕ) (s t : machine.State) → Hidden z depth s t → (o : ℕ) → next_offset z.declared z.controls 0 ≤ o → o + 4 ≤ next_offset z.declared z.controls depth → number_at t.bytes 4 (z.frame + o) ≡ number_at s.bytes 4 (z.frame + o)
 hidden_number z depth s t hidden o low high = number_same z s t 4 o (λ b above below. hidden b (omega (arith, above, low)) (omega (arith, below, high)))
-
-pub put_wrote : (z : Setting) (n r o : ℕ) (env : StraightState) (s t : machine.State) → Put z n r o env s t → Wrote z n o (s.regs r) s t
-put_wrote z n r o env s t put = record { held = put.held; written = put.written }
 
 -- what is written as a value of its kind is that value again
 pub cut_kind : (kind : Kind) (v : ℕ) → v < 2 ^ bits_of kind → v < 2 ^ 32
@@ -193,12 +181,12 @@ module _ (z : Setting) where
           let above : c < y = grind (arith, nat_tests) in
           inr (omega (arith, above))
 
-  module _ (c r : ℕ) (b : Bool) (among : c < z.controls) (env : StraightState) (s t : machine.State) (ready : Ready z env s) (put : Put z 4 r (control_offset z.declared c) env s t) (value : s.regs r ≡ mask_of b) where
+  module _ (c : ℕ) (b : Bool) (among : c < z.controls) (env : StraightState) (s t : machine.State) (ready : Ready z env s) (wrote : Wrote z 4 (control_offset z.declared c) (mask_of b) s t) where
     control_there : (y : ℕ) → y < z.controls → (e : Bool) → (y == c) ≡ e → number_at t.bytes 4 (z.frame + control_offset z.declared y) ≡ Some (mask_of (cond e b (env.controls y)))
     control_there y below true e =
-        ap (λ n. number_at t.bytes 4 (z.frame + control_offset z.declared n)) (eqb-true y c e) ∙ put_there z r (control_offset z.declared c) (mask_of b) env s t put value (mask_fits b)
+        ap (λ n. number_at t.bytes 4 (z.frame + control_offset z.declared n)) (eqb-true y c e) ∙ wrote_there z (control_offset z.declared c) (mask_of b) s t wrote (mask_fits b)
     control_there y below false e =
-        other_number 4 (control_offset z.declared c) (s.regs r) 4 (control_offset z.declared y) s t (put_wrote z 4 r (control_offset z.declared c) env s t put) (by_side (spaced y c e)) ∙ ready.controls_there y below
+        other_number 4 (control_offset z.declared c) (mask_of b) 4 (control_offset z.declared y) s t wrote (by_side (spaced y c e)) ∙ ready.controls_there y below
       where
         by_side : (y + 1 ≤ c) ⊎ (c + 1 ≤ y) → (control_offset z.declared y + 4 ≤ control_offset z.declared c) ⊎ (control_offset z.declared c + 4 ≤ control_offset z.declared y)
         by_side (inl h) = inl (omega (arith, h))
@@ -206,9 +194,9 @@ module _ (z : Setting) where
 
     one_control : Ready z (with_control env c b) t
     one_control = record {
-      held = put.held;
+      held = wrote.held;
       fits = ready.fits;
-      variables_there = variables_kept z (control_offset z.declared c) env s t (omega arith) ready (put_kept z 4 r (control_offset z.declared c) env s t put);
+      variables_there = variables_kept z (control_offset z.declared c) env s t (omega arith) ready (wrote_kept z 4 (control_offset z.declared c) (mask_of b) s t wrote);
       controls_there = λ y below. control_there y below (y == c) refl;
     }
 
@@ -219,9 +207,9 @@ module _ (z : Setting) where
       rw (ne_eqb y (c + 1) (λ q. omega (arith, same, q))) refl
   swapped y c f g h false e = refl
 
-  -- both control values of a condition are set, from x7 and x5
-  pub ready_taken : (c : ℕ) (f g : Bool) → c + 1 < z.controls → (env : StraightState) (s t u : machine.State) → Ready z env s → Put z 4 7 (control_offset z.declared c) env s t → Put z 4 5 (control_offset z.declared (c + 1)) env t u → s.regs 7 ≡ mask_of f → s.regs 5 ≡ mask_of g → Ready z (with_controls env c f g) u
-  ready_taken c f g among env s t u ready one two when otherwise =
-      let first = one_control c 7 f (omega (arith, among)) env s t ready one when in
-      let second = one_control (c + 1) 5 g among (with_control env c f) t u first (record { held = two.held; written = two.written; others = two.others }) (one.others 5 (λ e. omega arith) ∙ otherwise) in
+  -- both control values of a condition are set
+  pub ready_taken : (c : ℕ) (f g : Bool) → c + 1 < z.controls → (env : StraightState) (s t u : machine.State) → Ready z env s → Wrote z 4 (control_offset z.declared c) (mask_of f) s t → Wrote z 4 (control_offset z.declared (c + 1)) (mask_of g) t u → Ready z (with_controls env c f g) u
+  ready_taken c f g among env s t u ready one two =
+      let first = one_control c f (omega (arith, among)) env s t ready one in
+      let second = one_control (c + 1) g among (with_control env c f) t u first two in
       ready_same (with_control (with_control env c f) (c + 1) g) (with_controls env c f g) u (λ x. refl) (λ y. swapped y c f g (env.controls y) (y == c) refl) second

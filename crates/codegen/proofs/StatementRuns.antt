@@ -32,7 +32,7 @@ module _ (z : Setting) where
     statement_runs depth (clear x size) typed room within few = clear_runs z depth x size typed (omega (arith, within))
     statement_runs depth (fill x values) typed room within few = fill_runs z depth x values typed room (omega (arith, within))
     statement_runs depth (put place x size index value) typed room within few = put_runs z depth place x size index value typed room (omega (arith, within))
-    statement_runs depth (take c enclosing condition) typed room within few = take_runs z depth c enclosing condition typed.2.0 typed.0 typed.1 typed.2.1 room (omega (arith, within))
+    statement_runs depth (take c enclosing condition) typed room within few = take_runs z depth c enclosing condition typed.2.0 typed.0 typed.2.1 room typed.1 (omega (arith, within))
     statement_runs depth (set_under c x value) typed room within few = set_under_runs z depth c x value typed.0 typed.1 room (omega (arith, within))
     statement_runs depth (put_under c place x size index value) typed room within few = put_under_runs z depth place x size index value typed.1 room (omega (arith, within)) c typed.0
     statement_runs depth (branch condition accepted otherwise) typed room within few =
@@ -44,7 +44,7 @@ module _ (z : Setting) where
         let f = le-max_right (depth_in_all accepted) (depth_in_all otherwise) in
         let g = block_length z.declared z.controls z.depths depth accepted in
         let h = block_length z.declared z.controls z.depths depth otherwise in
-        cheaper z (omega arith)
+        cheaper (omega arith)
         (branch_runs z depth condition (labelled Boolean Public) accepted otherwise (32 * block_work z.counts accepted) (32 * block_work z.counts otherwise)
         typed.0 (omega (arith, room, a)) (omega (arith, within)) (omega (arith, few, g, h))
         (block_runs depth accepted typed.1 (omega (arith, room, b, c)) (omega (arith, within, e)) (omega (arith, few)))
@@ -61,7 +61,7 @@ module _ (z : Setting) where
         let g = count_length next o in
         let h = block_length z.declared z.controls z.depths (depth + 1) body in
         let i = height low in
-        cheaper z (omega (arith, i))
+        cheaper (omega (arith, i))
         (repeats_runs z depth (omega (arith, within)) x low high body (32 * block_work z.counts body)
         typed.2 typed.0 typed.1 (omega (arith, room, a, c)) (omega (arith, room, a, d)) (omega (arith, few, e, f, g, h))
         (block_runs (depth + 1) body typed.3 (omega (arith, room, b)) (omega (arith, within)) (omega (arith, few))))
@@ -70,19 +70,19 @@ module _ (z : Setting) where
     pub block_runs : (depth : ℕ) (b : StraightBlock) → AreTyped z.code.profile z.declared z.controls b → base_of z + 4 * slots_to (height_in_all b) ≤ z.size → depth + depth_in_all b ≤ z.depths → block_nodes b ≤ 6000
         → Runs z (32 * block_work z.counts b) (λ env. path_along env b) (block_code z.declared z.controls z.depths depth b) (Ready z) (Shown z depth (λ env. after_all env b))
     block_runs depth nothing typed room within few =
-        idle z (λ env s ready. record { ready = ready; hidden = λ o low high. refl })
+        idle (λ env s ready. record { ready = ready; hidden = λ o low high. refl })
     block_runs depth (first s rest) typed room within few =
         let a = le-max_left (height_in s) (height_in_all rest) in
         let b = le-max_right (height_in s) (height_in_all rest) in
         let c = le-max_left (depth_in s) (depth_in_all rest) in
         let d = le-max_right (depth_in s) (depth_in_all rest) in
-        cheaper z (omega arith)
-        (gives z
+        cheaper (omega arith)
+        (gives
         (λ env t u fine ready done. record {
           ready = done.second.ready;
           hidden = hidden_then z depth t done.middle u done.first.hidden done.second.hidden;
         })
-        (seq z
+        (seq
         (statement_runs depth s typed.0 (omega (arith, room, a)) (omega (arith, within, c)) (omega (arith, few)))
-        (beside z (λ env. after env s) (block_runs depth rest typed.1 (omega (arith, room, b)) (omega (arith, within, d)) (omega (arith, few))))
+        (beside (λ env. after env s) (block_runs depth rest typed.1 (omega (arith, room, b)) (omega (arith, within, d)) (omega (arith, few))))
         (λ env t u ready done. done.ready)))

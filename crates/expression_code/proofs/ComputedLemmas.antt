@@ -1,5 +1,5 @@
 -- The law of expressions.
-use Rattle.std.proofs.Common.{◌≡◌, ℕ, ◌+◌, ◌<◌, ◌≤◌, Bool, true, false, cond, nat_lt, List, [], Some, refl, sym, ap, subst, arith, All}
+use Rattle.std.proofs.Common.{◌≡◌, ℕ, ◌+◌, ◌<◌, ◌≤◌, Bool, true, false, cond, nat_lt, List, [], Some, refl, sym, ap, subst, arith, All, append-nil}
 use Rattle.std.proofs.lemmas.Bool.Decides.{nat_tests}
 use Rattle.branch_removal.specs.StraightMeaning.{StraightState}
 use Rattle.inline.specs.Flat.{TermTree}
@@ -15,7 +15,8 @@ use Rattle.expression_code.specs.Inside.{IsInside}
 use Rattle.expression_code.specs.Registers.{register_count, slot_of}
 use Rattle.expression_code.specs.Computed.{Site, IsSiteOf, IsComputed}
 use Rattle.expression_code.proofs.ExpressionRuns.{expr_runs}
-use Rattle.expression_code.proofs.Straight.{Setting, seen_by, append-none, ends_on}
+use Rattle.expression_code.proofs.Frame.{Setting, seen_by}
+use Rattle.program_logic.proofs.Face.{ends_on}
 use Rattle.expression_code.proofs.Values.{Ready, Kept, Lower, HoldsBy, kept_number}
 
 -- no control value and no loop
@@ -60,7 +61,7 @@ pub expressions_are_computed : (e : TermTree) (word : WordType) (site : Site) �
 expressions_are_computed e word site has fit =
     let z = setting_of e site fit in
     let above = fit.above in
-    let piece = expr_runs z site.free fit.aligned (omega (arith, above)) has site.place fit.room site.start fit.placed in
+    let piece = (expr_runs z site.free fit.aligned (omega (arith, above)) has site.place fit.room).placed_at site.start fit.placed in
     record {
       shown = λ path. (piece.leak path).0;
       runs = λ m s at there fine.
@@ -71,7 +72,7 @@ expressions_are_computed e word site has fit =
             variables_there = there.variables_there;
             controls_there = λ c below. absurd (omega (arith, below));
           } in
-          let run = ends_on z (piece.runs (state_of m) s [] at fine ready) (sym (append-none path)) in
+          let run = ends_on (piece.runs (state_of m) s [] at fine ready) (sym (append-nil path)) in
           let same : run.seen ≡ (piece.leak path).0 = sym (ap (λ (r : List Observation × Path). r.0) run.shown) in
           record {
             turns = run.turns;

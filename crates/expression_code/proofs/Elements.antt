@@ -12,15 +12,15 @@ use Rattle.language.specs.declared.signature.Kind.{Kind}
 use Rattle.language.specs.declared.signature.Kind.TheVariants.{Uint16, Uint32}
 use Rattle.language.specs.Size.{element_bytes}
 use Rattle.expression_code.proofs.Arithmetic.{near_field, parts, upper_fits}
-use Rattle.expression_code.proofs.Computing.{registers_after, only_computes, computing_within}
-use Rattle.expression_code.proofs.Operations.{plain_append, after_append, either_of, ll, lr, rl, l0, l32, allowed, kept_beside}
+use Rattle.program_logic.proofs.Computing.{registers_after, only_computes, plain_append, after_append}
+use Rattle.expression_code.proofs.Operations.{either_of, ll, lr, rl, l0, l32, base_beside, kept_beside}
 use Rattle.expression_code.proofs.TermLengths.{address_length}
 use Rattle.rv_code.specs.declared.instructions.Instr.{Instr}
 use Rattle.std.proofs.lemmas.Bool.{lt-ltb}
-use Rattle.expression_code.proofs.Held.{HeldAt, Held}
+use Rattle.expression_code.proofs.Frame.{Setting, Runs, HeldAt, Held}
 use Rattle.expression_code.proofs.Homes.{IsFree, free_from}
-use Rattle.expression_code.proofs.Pieces.{register-at}
-use Rattle.expression_code.proofs.Straight.{Setting, none, Runs, weaken, cheaper}
+use Rattle.expression_code.proofs.Moves.{register-at, computing_within}
+use Rattle.program_logic.proofs.Face.{none, weaken, cheaper}
 
 -- with the lower part of the offset it is the address of an element
 pub record Addressed (z : Setting) (r o a : ℕ) (env : StraightState) (s t : State) : Type 0 where
@@ -86,8 +86,8 @@ module _ (z : Setting) (r : ℕ) (free : IsFree r) (apart : r ≢ 28) where
       let near = nat_lt o 2048 in
       let scale = scale_code r kind in
       let plain = plain_append (either_of r 28) scale (sum_code near o) (scale_plain kind) (sum_plain near o) in
-      cheaper z (address_length r kind o)
-      (weaken z
+      cheaper (address_length r kind o)
+      (weaken
       (λ env s fine fit. fit.0)
       (λ env s t fine fit done.
       let i = element_bytes kind * index env in
@@ -103,4 +103,4 @@ module _ (z : Setting) (r : ℕ) (free : IsFree r) (apart : r ≢ 28) where
         others = λ q other another. ap (λ (regs : ℕ → ℕ). regs q) done.registers ∙ kept_beside r 28 free scratch apart (scale ++ sum_code near o) plain s.regs q other another;
         same = done.same;
       })
-      (computing_within z (either_of r 28) (allowed r 28 free scratch apart) (scale ++ sum_code near o) plain))
+      (computing_within z (either_of r 28) (scale ++ sum_code near o) plain (base_beside r 28 free scratch apart)))

@@ -1,5 +1,6 @@
 -- The code of an expression puts the expression's value into its place.
-use Rattle.std.proofs.Common.{◌≡◌, ℕ, zero, suc, ◌+◌, ◌*◌, ◌%◌, ◌^◌, ◌<◌, ◌≤◌, Bool, true, List, [], ◌∷◌, ◌++◌, length, max, Some, None, is_some, slice_get, slice_index, refl, sym, ap, ◌∙◌, subst, arith}
+use Rattle.std.proofs.Common.{◌≡◌, ◌≢◌, ℕ, zero, suc, ◌+◌, ◌*◌, ◌%◌, ◌^◌, ◌<◌, ◌≤◌, Bool, true, List, [], ◌∷◌, ◌++◌, length, max, Some, None, is_some, slice_get, slice_index, refl, sym, ap, ◌∙◌, subst, arith}
+use Rattle.std.proofs.lemmas.Bool.{lt-ltb}
 use Rattle.std.proofs.lemmas.Option.{same_Some}
 use Rattle.std.proofs.Math.Nat.{le-max_left, le-max_right}
 use Rattle.branch_removal.specs.StraightMeaning.{StraightState}
@@ -32,21 +33,21 @@ use Rattle.word.specs.declared.profile.Profile.{Profile}
 use Rattle.word.specs.declared.width.Width.{Width}
 use Rattle.word.specs.Operators.{converted, rotated_left, word_of}
 use Rattle.expression_code.proofs.Arithmetic.{lower_fits}
-use Rattle.expression_code.proofs.Computing.{registers_after, only_computes}
+use Rattle.program_logic.proofs.Computing.{registers_after, only_computes}
 use Rattle.expression_code.proofs.Elements.{address_runs}
-use Rattle.expression_code.proofs.Held.{HeldAt, held_regs, frame_there}
-use Rattle.expression_code.proofs.Homes.{home_free, homes_apart, home_apart, lower_apart}
+use Rattle.expression_code.proofs.Events.{by_index}
+use Rattle.expression_code.proofs.Frame.{Setting, base_of, fine_right, Steps, Runs, setting, HeldAt, Held}
+use Rattle.expression_code.proofs.Homes.{IsFree, home_free, homes_apart, home_apart, lower_apart}
 use Rattle.expression_code.proofs.Masks.{chosen, choice}
 use Rattle.expression_code.proofs.Operations.{either_of, ll, constant_plain, constant_after, cut_plain, cut_made, prefix_plain, prefix_made, rotate_plain, rotate_made, choice_plain, choice_made}
 use Rattle.expression_code.proofs.OperatorRuns.{truth_fits}
-use Rattle.expression_code.proofs.Pieces.{load_runs}
-use Rattle.expression_code.proofs.Places.{place_of}
-use Rattle.expression_code.proofs.Steps.{Inside, written, loading_at}
-use Rattle.expression_code.proofs.Straight.{Setting, base_of, fine_right, none, Steps, Runs, seq, quiet, quietly, weaken, gives, cheaper, as_code}
+use Rattle.expression_code.proofs.Moves.{take, move_runs, written, unwritten, loading}
+use Rattle.expression_code.proofs.Places.{place_of, place_even}
+use Rattle.program_logic.proofs.Face.{Known, none, number_or_zero, seq, quiet, weaken, gives, cheaper, as_code}
 use Rattle.expression_code.proofs.TermLengths.{constant_length, cut_length, prefix_length, rotate_length}
-use Rattle.expression_code.proofs.Fetching.{lower_spare, fetch_runs, keeps}
+use Rattle.expression_code.proofs.Fetching.{lower_spare, took, fetch_runs, keeps}
 use Rattle.expression_code.proofs.Working.{word_there, home_one, beside_free, beside_apart, works, works_home, operator_runs}
-use Rattle.expression_code.proofs.Values.{Ready, Valued, Kept, kept_less, kept_by, kept_then, lower_then, lower_less, holds_lower, holds_still, place_ends, place_inside, ready_after}
+use Rattle.expression_code.proofs.Values.{Ready, Valued, Kept, kept_less, kept_by, kept_then, lower_then, lower_less, holds_lower, holds_still, place_ends, ready_after}
 
 -- what an expression puts on the path
 abbrev pub steps_of : TermTree → Steps
@@ -98,9 +99,9 @@ module _ (z : Setting) (free : ℕ) (aligned : free % 4 ≡ 0) (above : base_of 
   constant e place n room is below =
       let l = home place 29 in
       let one = home_one z place in
-      cheaper z (let h = constant_length l n in omega (arith, h))
+      cheaper (let h = constant_length l n in omega (arith, h))
       (keeps z free aligned place room e (λ env s ready. word_there (value_in env.variables e) n (is env) below)
-      (weaken z
+      (weaken
       (λ env s fine ready. ready.held)
       (λ env s t fine ready done. record {
         held = done.held;
@@ -120,17 +121,19 @@ module _ (z : Setting) (free : ℕ) (aligned : free % 4 ≡ 0) (above : base_of 
       let one = home_one z place in
       let first : o + 4 * 0 ≡ o = omega arith in
       let below = place_ends z x d 0 known (omega arith) in
-      cheaper z (omega arith)
+      cheaper (omega arith)
       (keeps z free aligned place room (variable x) (λ env s ready. kind_fits word.kind (slice_index (env.variables x) 0) (value_fits (types_of z.code.profile z.declared) env.variables ready.fits (of_variable known)))
-      (weaken z
+      (weaken
       (λ env s fine ready. ready.held)
-      (λ env s t fine ready took. record {
-        held = took.held;
-        there = same_Some (t.regs l) (slice_index (env.variables x) 0) (sym took.there ∙ (ap (λ a. number_at s.bytes 4 (z.frame + a)) (sym first) ∙ ready.variables_there x d 0 known (omega arith)));
-        kept = kept_by z (slot_of free place) s t took.same;
-        lower = λ q less small. took.others (5 + q) (lower_apart q place 29 less small (omega arith));
+      (λ env s t fine ready moved.
+      let one' = took z l o (slice_index (env.variables x) 0) env s t one.nonzero (ap (λ a. number_at s.bytes 4 (z.frame + a)) (sym first) ∙ ready.variables_there x d 0 known (omega arith)) moved in
+      record {
+        held = one'.held;
+        there = one'.there;
+        kept = kept_by z (slot_of free place) s t one'.same;
+        lower = λ q less small. one'.others (5 + q) (lower_apart q place 29 less small (omega arith));
       })
-      (load_runs z l o (omega arith) (omega (arith, below)) one.small one.nonzero one.not_base)))
+      (move_runs z (take l o) (simp (lt-ltb 2 l one.low, lt-ltb l 32 one.small)) (omega arith, omega (arith, below)))))
 
   -- A value, and then code that makes another of it.
   applied : (operand whole : TermTree) (place n : ℕ) {steps : Steps} {es : List Instr} (is : List Instr) → HasSlot place → length is ≤ 10 → only_computes (either_of (home place 29) 30) is ≡ true
@@ -140,9 +143,9 @@ module _ (z : Setting) (free : ℕ) (aligned : free % 4 ≡ 0) (above : base_of 
       → Runs z n steps es (Ready z) (Valued z operand free place) → Runs z (n + 16) steps (es ++ fetch_code free place 29 ++ is ++ keep_code free place) (Ready z) (Valued z whole free place)
   applied operand whole place n is room short plain word word' value runs =
       let l = home place 29 in
-      cheaper z (omega (arith, short))
+      cheaper (omega (arith, short))
       (keeps z free aligned place room whole (λ env s ready. word' env.variables ready.fits)
-      (gives z
+      (gives
       (λ env s t fine ready done.
       let t2 = done.middle in
       let t1 = done.first.middle in
@@ -155,8 +158,8 @@ module _ (z : Setting) (free : ℕ) (aligned : free % 4 ≡ 0) (above : base_of 
         kept = kept_then z (slot_of free place) s t1 t one.kept (kept_by z (slot_of free place) t1 t (three.same ∙ two.same));
         lower = lower_then place s t1 t one.lower (lower_then place t1 t2 t (lower_spare place 29 t1 t2 (omega arith) two.others) three.lower);
       })
-      (quiet z
-      (quiet z runs
+      (quiet
+      (quiet runs
       (fetch_runs z free aligned place room 29 (omega arith) (omega arith) (λ env. value_in env.variables operand))
       (λ env s t ready valued. (valued.held, valued.there)))
       (works_home z place is plain)
@@ -177,9 +180,9 @@ module _ (z : Setting) (free : ℕ) (aligned : free % 4 ≡ 0) (above : base_of 
       let r_free = home_free (place + 1) 30 (omega arith) (omega arith) in
       let apart = homes_apart place (place + 1) 29 30 (omega arith) (omega arith) (omega arith) in
       let k = slot_of free place in
-      cheaper z (omega arith)
+      cheaper (omega arith)
       (keeps z free aligned place (omega (arith, room)) (binary source operator width left right) (λ env s ready. value_word z.code.profile z.declared (binary source operator width left right) word env.variables ready.fits has)
-      (gives z
+      (gives
       (λ env s t fine ready done.
       let u4 = done.middle in
       let u3 = done.first.middle in
@@ -201,10 +204,10 @@ module _ (z : Setting) (free : ℕ) (aligned : free % 4 ≡ 0) (above : base_of 
             (lower_then place u3 u4 t (lower_spare place 30 u3 u4 (omega arith) four.others)
             (λ q less small. five.others (5 + q) (lower_apart q place 29 less small (omega arith)) (lower_apart q (place + 1) 30 (omega (arith, less)) small (omega arith))))));
       })
-      (seq z
-      (quiet z
-      (quiet z
-      (seq z first second (λ env s t ready done. still_ready place env s t ready done.held done.kept))
+      (seq
+      (quiet
+      (quiet
+      (seq first second (λ env s t ready done. still_ready place env s t ready done.held done.kept))
       (fetch_runs z free aligned place (omega (arith, room)) 29 (omega arith) (omega arith) a)
       (λ env s t ready done. (done.second.held, holds_lower z free place (place + 1) (a env) done.middle t (omega arith) done.second.kept done.second.lower done.first.there)))
       (fetch_runs z free aligned (place + 1) room 30 (omega arith) (omega arith) b)
@@ -239,9 +242,9 @@ module _ (z : Setting) (free : ℕ) (aligned : free % 4 ≡ 0) (above : base_of 
       let xy = homes_apart place (place + 1) 29 30 (omega arith) (omega arith) (omega arith) in
       let xw = homes_apart place (place + 2) 29 31 (omega arith) (omega arith) (omega arith) in
       let yw = homes_apart (place + 1) (place + 2) 30 31 (omega arith) (omega arith) (omega arith) in
-      cheaper z (omega arith)
+      cheaper (omega arith)
       (keeps z free aligned place (omega (arith, room)) (select condition accepted otherwise) (λ env s ready. value_word z.code.profile z.declared (select condition accepted otherwise) word env.variables ready.fits whole)
-      (gives z
+      (gives
       (λ env s t fine ready done.
       let t6 = done.middle in
       let t5 = done.first.middle in
@@ -280,12 +283,12 @@ module _ (z : Setting) (free : ℕ) (aligned : free % 4 ≡ 0) (above : base_of 
             (lower_then place t4 t5 t (lower_spare place 30 t4 t5 (omega arith) five.others)
             (lower_then place t5 t6 t (lower_spare place 31 t5 t6 (omega arith) six.others) seven.lower)))));
       })
-      (quiet z
-      (quiet z
-      (quiet z
-      (quiet z
-      (seq z
-      (seq z first second (λ env s t ready done. still_ready place env s t ready done.held done.kept))
+      (quiet
+      (quiet
+      (quiet
+      (quiet
+      (seq
+      (seq first second (λ env s t ready done. still_ready place env s t ready done.held done.kept))
       third
       (λ env s t ready done. still_ready place env s t ready done.second.held (kept_then z k s done.middle t done.first.kept (kept_lower place (place + 1) done.middle t (omega arith) done.second.kept))))
       (fetch_runs z free aligned place (omega (arith, room)) 29 (omega arith) (omega arith) (value condition))
@@ -323,6 +326,46 @@ module _ (z : Setting) (free : ℕ) (aligned : free % 4 ≡ 0) (above : base_of 
     abbrev element_at : ℕ → ℕ
     element_at i = place_of z.declared x (array_as word mutable size) i
 
+    -- the element at an index is in the index's register
+    record Picked (r : ℕ) (index : StraightState → ℕ) (env : StraightState) (s t : machine.State) : Type 0 where
+      held : HeldAt z t
+      there : t.regs r ≡ number_or_zero (number_at s.bytes (element_bytes word.kind) (z.frame + element_at (index env)))
+      others : (q : ℕ) → q ≢ r → q ≢ 28 → t.regs q ≡ s.regs q
+      same : t.bytes ≡ s.bytes
+
+    picked : (r i : ℕ) (index : StraightState → ℕ) → IsFree r → r ≢ 28 → i < size
+        → Runs z 5 none (element_code r word.kind (variable_offset z.declared x)) (Known (setting z) ℕ (λ j. j < size) (λ env s. HeldAt z s × (s.regs r ≡ index env)) index i) (Picked r index)
+    picked r i index free' apart below =
+        let o = variable_offset z.declared x in
+        let d = array_as word mutable size in
+        let load = load_by word.kind in
+        let bytes = load_bytes word.kind in
+        let h = place_ends z x d i known below in
+        let ends = z.ends in
+        gives
+        (λ env s t fine given done.
+        let one = done.first in
+        let two = done.second in
+        let at : ℕ → ℕ = λ n. number_or_zero (number_at s.bytes n (z.frame + element_at i)) in
+        record {
+          held = two.0;
+          there =
+              ap (λ (regs : ℕ → ℕ). regs r) two.1
+              ∙ (written done.middle.regs r _ free'.nonzero
+              ∙ (load_plain word.kind _
+              ∙ (ap (λ (b : ByteMap). number_or_zero (number_at b (byte_count (load_size load)) (z.frame + element_at i))) one.same
+              ∙ (ap at bytes ∙ ap (λ j. number_or_zero (number_at s.bytes (element_bytes word.kind) (z.frame + element_at j))) (sym given.is)))));
+          others = λ q other another. ap (λ (regs : ℕ → ℕ). regs q) two.1 ∙ (unwritten done.middle.regs r _ q other ∙ one.others q other another);
+          same = two.2 ∙ one.same;
+        })
+        (quiet
+        (weaken
+        (λ env s fine given. (given.given.0, given.given.1 ∙ given.is, omega (arith, h, ends)))
+        (λ env s t fine given done. done)
+        (address_runs z r free' apart word.kind o (λ env. i)))
+        (loading z r (lower_part o) (element_at i) free'.small (lower_fits o) load r free'.low free'.small (ap (λ n. element_at i % n) bytes ∙ place_even z.declared x d i) (omega (arith, h, bytes)))
+        (λ env s t given done. (done.held, done.address)))
+
     element_runs : (index : TermTree) (word' : WordType) (place n : ℕ) {es : List Instr} → HasSlot place
         → HasType (types_of z.code.profile z.declared) (element source x size index) word'
         → Runs z n (steps_of index) es (Ready z) (Valued z index free place)
@@ -330,58 +373,38 @@ module _ (z : Setting) (free : ℕ) (aligned : free % 4 ≡ 0) (above : base_of 
     element_runs index word' place n {es = es} room has runs =
         let o = variable_offset z.declared x in
         let d = array_as word mutable size in
-        let load = load_by word.kind in
-        let bytes = byte_count (load_size load) in
         let i = λ (env : StraightState). value_in env.variables index in
         let r = home place 29 in
-        let one' = home_one z place in
         let k = slot_of free place in
-        as_code z (ap (λ kind. es ++ fetch_code free place 29 ++ element_code r kind o ++ keep_code free place) (kind_known z.declared x d known))
-        (cheaper z (omega arith)
+        as_code (ap (λ kind. es ++ fetch_code free place 29 ++ element_code r kind o ++ keep_code free place) (kind_known z.declared x d known))
+        (cheaper (omega arith)
         (keeps z free aligned place room (element source x size index) (λ env s ready. value_word z.code.profile z.declared (element source x size index) word' env.variables ready.fits has)
-        (weaken z {P = λ env s. Ready z env s × (i env < size)}
-        (λ env s fine ready. (ready, (fine_right z.counts (path_in env.variables index) (indexed source size (i env) ∷ []) fine).0))
+        (gives
         (λ env s t fine ready done.
         let u2 = done.middle in
         let u1 = done.first.middle in
-        let v = done.second.middle in
         let below = (fine_right z.counts (path_in env.variables index) (indexed source size (i env) ∷ []) fine).0 in
         let one = done.first.first in
         let two = done.first.second in
-        let three = done.second.first in
-        let four = done.second.second in
+        let three = done.second in
         let still = still_ready place env s u1 ready one.held one.kept in
-        let found : number_at v.bytes bytes (z.frame + element_at (i env)) ≡ Some (slice_index (env.variables x) (i env)) =
-        ap (λ m. number_at v.bytes m (z.frame + element_at (i env))) (load_bytes word.kind) ∙ (ap (λ (b : ByteMap). number_at b (element_bytes word.kind) (z.frame + element_at (i env))) (three.same ∙ two.same) ∙ still.variables_there x d (i env) known below) in
         record {
-          held = held_regs z v t (four.others 2 (λ e. one'.not_base (sym e))) four.same three.held;
-          there = four.there ∙ (load_plain word.kind four.value ∙ same_Some four.value (slice_index (env.variables x) (i env)) (sym four.found ∙ found));
-          kept = kept_then z k s u1 t one.kept (kept_by z k u1 t (four.same ∙ (three.same ∙ two.same)));
+          held = three.held;
+          there =
+              three.there
+              ∙ ap number_or_zero (ap (λ (b : ByteMap). number_at b (element_bytes word.kind) (z.frame + element_at (i env))) two.same ∙ still.variables_there x d (i env) known below);
+          kept = kept_then z k s u1 t one.kept (kept_by z k u1 t (three.same ∙ two.same));
           lower =
               lower_then place s u1 t one.lower
               (lower_then place u1 u2 t (lower_spare place 29 u1 u2 (omega arith) two.others)
-              (λ q less small. four.others (5 + q) (lower_apart q place 29 less small (omega arith)) ∙ three.others (5 + q) (lower_apart q place 29 less small (omega arith)) (λ e. omega (arith, small, e))));
+              (λ q less small. three.others (5 + q) (lower_apart q place 29 less small (omega arith)) (λ e. omega (arith, small, e))));
         })
-        (seq z
-        (quiet z
-        (weaken z {Q = Valued z index free place}
-        (λ env s fine both. both.0)
-        (λ env s t fine both done. done)
-        runs)
+        (seq
+        (quiet runs
         (fetch_runs z free aligned place room 29 (omega arith) (omega arith) i)
-        (λ env s t both valued. (valued.held, valued.there)))
-        (quietly z {P = λ env s. HeldAt z s × (s.regs r ≡ i env) × (i env < size)}
-        (weaken z
-        (λ env s fine given. (given.0, given.1, let h = place_ends z x d (i env) known given.2 in let ends = z.ends in omega (arith, h, ends)))
-        (λ env s t fine given done. done)
-        (address_runs z r one' (home_apart place 29 28 (omega arith) (λ e. omega arith)) word.kind o i))
-        (loading_at z source size i (λ j. z.frame + element_at j) load r r (lower_part o) (one'.small, one'.small, lower_fits o) one'.nonzero
-        (λ j below. subst (λ m. Inside z m (z.frame + element_at j)) (sym (load_bytes word.kind)) (place_inside z x d j known below)))
-        (λ env s t given done. record {
-          address = done.address;
-          data_there = ap (λ m. is_some (number_at t.bytes m (z.frame + element_at (i env)))) (load_bytes word.kind) ∙ frame_there z t done.held (element_bytes word.kind) (element_at (i env)) (place_ends z x d (i env) known given.2);
-        }))
-        (λ env s t both done. (done.second.held, done.second.there, both.1))))))
+        (λ env s t ready valued. (valued.held, valued.there)))
+        (by_index z source size i (λ j below. picked r j i (home_one z place) (home_apart place 29 28 (omega arith) (λ e. omega arith)) below))
+        (λ env s t ready done. (done.second.held, done.second.there))))))
 
   -- Each well-typed expression, into any place.
   pub expr_runs : {e : TermTree} {word : WordType} → HasType (types_of z.code.profile z.declared) e word → (place : ℕ) → free + 4 * slots_to (height_of e + place) ≤ z.size
@@ -391,7 +414,7 @@ module _ (z : Setting) (free : ℕ) (aligned : free % 4 ≡ 0) (above : base_of 
   expr_runs (of_variable {x = x} {word = word} {mutable = mutable} is) place room = slot x place word mutable (omega (arith, room)) is
   expr_runs {e = e} {word = word} (of_prefix {operator = operator} {width = width} {operand = operand} {kind = kind} {label = label} has takes same) place room =
       let l = home place 29 in
-      cheaper z (omega arith)
+      cheaper (omega arith)
       (applied operand (prefix operator width operand) place (16 * term_nodes operand) (prefix_code l operator width) (omega (arith, room)) (let h = prefix_length l operator width in omega (arith, h))
       (prefix_plain l 30 (home_one z place) (beside_free z) (beside_apart z place) operator width)
       (λ m fits. value_word z.code.profile z.declared operand (labelled kind label) m fits has)
@@ -401,13 +424,13 @@ module _ (z : Setting) (free : ℕ) (aligned : free % 4 ≡ 0) (above : base_of 
   expr_runs {e = e} {word = word} (of_binary {place = source} {operator = operator} {width = width} {left = left} {right = right} {one = one} {other = other} has more makes same) place room =
       let l = le-max_left (height_of left) (1 + height_of right) in
       let r = le-max_right (height_of left) (1 + height_of right) in
-      cheaper z (omega arith)
+      cheaper (omega arith)
       (binary_runs source operator width left right one other word place (16 * term_nodes left) (16 * term_nodes right) (omega (arith, room, r)) has more (of_binary has more makes same)
       (expr_runs has place (omega (arith, room, l)))
       (expr_runs more (place + 1) (omega (arith, room, r))))
   expr_runs {e = e} {word = word} (of_rotation {width = width} {operand = operand} {amount = amount} {kind = kind} {label = label} has numeric low high same) place room =
       let l = home place 29 in
-      cheaper z (omega arith)
+      cheaper (omega arith)
       (applied operand (rotate width operand amount) place (16 * term_nodes operand) (rotate_code l width amount) (omega (arith, room)) (let h = rotate_length l width amount in omega (arith, h))
       (rotate_plain l 30 (home_one z place) (beside_free z) (beside_apart z place) width amount)
       (λ m fits. value_word z.code.profile z.declared operand (labelled kind label) m fits has)
@@ -416,7 +439,7 @@ module _ (z : Setting) (free : ℕ) (aligned : free % 4 ≡ 0) (above : base_of 
       (expr_runs has place room))
   expr_runs {e = e} {word = word} (of_conversion {kind = kind} {other = other} {operand = operand} {label = label} has numeric) place room =
       let l = home place 29 in
-      cheaper z (omega arith)
+      cheaper (omega arith)
       (applied operand (convert kind operand) place (16 * term_nodes operand) (cut_code l (width_of kind)) (omega (arith, room)) (let h = cut_length l (width_of kind) in omega (arith, h))
       (cut_plain l 30 (home_one z place) (beside_free z) (beside_apart z place) (width_of kind))
       (λ m fits. value_word z.code.profile z.declared operand (labelled other label) m fits has)
@@ -431,11 +454,11 @@ module _ (z : Setting) (free : ℕ) (aligned : free % 4 ≡ 0) (above : base_of 
       let b = le-max_right h (1 + max i (1 + j)) in
       let c = le-max_left i (1 + j) in
       let d = le-max_right i (1 + j) in
-      cheaper z (omega arith)
+      cheaper (omega arith)
       (select_runs condition accepted otherwise kind l m n word place (16 * term_nodes condition) (16 * term_nodes accepted) (16 * term_nodes otherwise) (omega (arith, room, b, d)) has chooses more (of_selection has chooses more)
       (expr_runs has place (omega (arith, room, a)))
       (expr_runs chooses (place + 1) (omega (arith, room, b, c)))
       (expr_runs more (place + 2) (omega (arith, room, b, d))))
   expr_runs {e = e} {word = word'} (of_element {place = source} {x = x} {size = size} {index = index} {word = word} {mutable = mutable} is has) place room =
-      cheaper z (omega arith)
+      cheaper (omega arith)
       (element_runs source x size word mutable is index word' place (16 * term_nodes index) (omega (arith, room)) (of_element is has) (expr_runs has place room))

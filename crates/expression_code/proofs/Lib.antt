@@ -1,10 +1,8 @@
-pub mod Straight
+pub mod Frame
+pub mod Moves
+pub mod Events
 pub mod Arithmetic
-pub mod Steps
-pub mod Held
-pub mod Pieces
 pub mod Homes
-pub mod Computing
 pub mod OperatorRuns
 pub mod Operations
 pub mod Masks

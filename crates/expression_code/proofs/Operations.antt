@@ -24,21 +24,11 @@ use Rattle.word.specs.declared.width.Width.TheVariants.{W8, W32}
 use Rattle.word.specs.Operators.{converted, rotated_left}
 use Rattle.word.specs.Widths.{bits}
 use Rattle.expression_code.proofs.Arithmetic.{near_field, parts, upper_fits, lower_fits}
-use Rattle.expression_code.proofs.Computing.{written_register, computed_value, registers_after, computes, only_computes, AreWorking, both_left, both_right, register_kept}
+use Rattle.program_logic.proofs.Computing.{written_register, computed_value, registers_after, computes, only_computes, register_left, plain_append, after_append}
 use Rattle.expression_code.proofs.Homes.{IsFree}
 use Rattle.expression_code.proofs.Masks.{chosen}
-use Rattle.expression_code.proofs.Pieces.{register-at}
-use Rattle.expression_code.proofs.Steps.{written}
+use Rattle.expression_code.proofs.Moves.{register-at, written, twice}
 use Rattle.expression_code.proofs.OperatorRuns.{cut_value, step_value, finished, composed_prefix, around_value, cut_computes, operator_computes, prefix_computes, rotate_computes}
-
-pub plain_append : (works : ℕ → Bool) (xs ys : List Instr) → only_computes works xs ≡ true → only_computes works ys ≡ true → only_computes works (xs ++ ys) ≡ true
-plain_append works [] ys one two = two
-plain_append works (x ∷ xs) ys one two =
-    ap₂ (λ a b. a && b) (both_left (computes works x) (only_computes works xs) one) (plain_append works xs ys (both_right (computes works x) (only_computes works xs) one) two)
-
-pub after_append : (xs ys : List Instr) (regs : ℕ → ℕ) → registers_after (xs ++ ys) regs ≡ registers_after ys (registers_after xs regs)
-after_append [] ys regs = refl
-after_append (x ∷ xs) ys regs = after_append xs ys (registers_after (x ∷ []) regs)
 
 -- Numbers, into any register that works.
 
@@ -49,17 +39,8 @@ constant_plain works r n ok small = by_test (nat_lt n 2048) refl
         → only_computes works (cond b (instr.Immediate Addi r 0 n ∷ []) (instr.Upper Lui r (upper_part n) ∷ instr.Immediate Addi r r (lower_part n) ∷ [])) ≡ true
     by_test true h =
         let near : n < 2048 = grind (arith, nat_tests) in
-        simp (ok, lt-ltb n 4096 (omega (arith, near)))
+        simp (ok, lt-ltb r 32 small, lt-ltb n 4096 (omega (arith, near)))
     by_test false h = simp (ok, lt-ltb r 32 small, lt-ltb (upper_part n) 1048576 (upper_fits n), lt-ltb (lower_part n) 4096 (lower_fits n))
-
--- a register that is written twice
-twice : (regs : ℕ → ℕ) (r u v : ℕ) → with_register (with_register regs r u) r v ≡ with_register regs r v
-twice regs r u v = fun_ext (λ q. by_register q (q == 0) (q == r))
-  where
-    by_register : (q : ℕ) (z e : Bool) → cond z (cond z (regs q) (cond e u (regs q))) (cond e v (cond z (regs q) (cond e u (regs q)))) ≡ cond z (regs q) (cond e v (regs q))
-    by_register q true e = refl
-    by_register q false true = refl
-    by_register q false false = refl
 
 pub constant_after : (r n : ℕ) → r ≢ 0 → n < 2 ^ 32 → (regs : ℕ → ℕ) → registers_after (constant_code r n) regs ≡ with_register regs r n
 constant_after r n nonzero fits regs = by_test (nat_lt n 2048) refl
@@ -124,27 +105,13 @@ module _ (l r : ℕ) (one : IsFree l) (other : IsFree r) (apart : l ≢ r) where
   r32 : nat_lt r 32 ≡ true
   r32 = lt-ltb r 32 other.small
 
-  pub written_either : (q : ℕ) → either_of l r q ≡ true → (q ≡ l) ⊎ (q ≡ r)
-  written_either q h = by_test (q == l) refl h
-    where
-      by_test : (b : Bool) → (q == l) ≡ b → (b || (q == r)) ≡ true → (q ≡ l) ⊎ (q ≡ r)
-      by_test true e h = inl (eqb-true q l e)
-      by_test false e h = inr (eqb-true q r h)
-
-  pub allowed : AreWorking (either_of l r)
-  allowed q h = by_register (written_either q h)
-    where
-      by_register : (q ≡ l) ⊎ (q ≡ r) → (q ≢ 0) × (q ≢ 2) × (q < 32)
-      by_register (inl is) = (λ e. one.nonzero (sym is ∙ e), λ e. one.not_base (sym is ∙ e), let small = one.small in omega (arith, is, small))
-      by_register (inr is) = (λ e. other.nonzero (sym is ∙ e), λ e. other.not_base (sym is ∙ e), let small = other.small in omega (arith, is, small))
-
   -- any other register is as it was
+
+  pub base_beside : either_of l r 2 ≡ false
+  base_beside = simp (ne_eqb 2 l (λ e. one.not_base (sym e)), ne_eqb 2 r (λ e. other.not_base (sym e)))
+
   pub kept_beside : (is : List Instr) → only_computes (either_of l r) is ≡ true → (regs : ℕ → ℕ) (q : ℕ) → q ≢ l → q ≢ r → registers_after is regs q ≡ regs q
-  kept_beside is plain regs q first second = register_kept (either_of l r) allowed is plain regs q (λ rd w e. by_register rd e (written_either rd w))
-    where
-      by_register : (rd : ℕ) → q ≡ rd → (rd ≡ l) ⊎ (rd ≡ r) → ⊥
-      by_register rd e (inl is) = first (e ∙ is)
-      by_register rd e (inr is) = second (e ∙ is)
+  kept_beside is plain regs q first second = register_left (either_of l r) is regs q plain (simp (ne_eqb q l first, ne_eqb q r second))
 
   -- Cuts.
 

@@ -34,11 +34,8 @@ some_times kind None n i = omega arith
 some_times Boolean (Some size) n i = omega arith
 some_times kind (Some size) n i = omega arith
 
-pub place_aligned : (declared : List FlatVariable) (x : ℕ) (d : FlatVariable) (i frame : ℕ) → frame % 4 ≡ 0 → (frame + place_of declared x d i) % bytes_of d ≡ 0
-place_aligned declared x d i frame even =
-    let n = declared_words (take x declared) in
-    let e : frame + place_of declared x d i ≡ 4 * (frame / 4 + n) + bytes_of d * i = omega (arith, even) in
-    ap (λ a. a % bytes_of d) e ∙ some_times d.word.kind d.elements (frame / 4 + n) i
+pub place_even : (declared : List FlatVariable) (x : ℕ) (d : FlatVariable) (i : ℕ) → place_of declared x d i % bytes_of d ≡ 0
+place_even declared x d i = some_times d.word.kind d.elements (declared_words (take x declared)) i
 
 -- Variables of lower numbers lie before.
 

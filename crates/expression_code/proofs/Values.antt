@@ -9,15 +9,12 @@ use Rattle.inline.specs.Fitting.{Fits}
 use Rattle.inline.specs.Flat.{TermTree, numbers_in}
 use Rattle.inline.specs.FlatMeaning.{value_in}
 use Rattle.inline.specs.FlatTyping.{types_of}
-use Rattle.rv_machine.specs.Bytes.{ByteMap, number_at}
+use Rattle.rv_machine.specs.Bytes.{ByteMap, number_at, with_number}
 use Rattle.rv_machine.proofs.ByteLaws.{number_at_same, number_at-with_number, with_number_below}
 use Rattle.rv_machine.specs.Machine as machine
-use Rattle.expression_code.proofs.Held.{HeldAt, Held}
+use Rattle.expression_code.proofs.Frame.{Setting, base_of, HeldAt, Held}
 use Rattle.expression_code.proofs.Masks.{mask_of}
-use Rattle.expression_code.proofs.Pieces.{Put}
-use Rattle.expression_code.proofs.Places.{bytes_of, place_of, place_aligned, place_within, ends_before_result}
-use Rattle.expression_code.proofs.Steps.{Inside}
-use Rattle.expression_code.proofs.Straight.{Setting, base_of}
+use Rattle.expression_code.proofs.Places.{bytes_of, place_of, place_within, ends_before_result}
 
 -- bytes below an offset are as they were
 abbrev pub Kept : Setting → ℕ → machine.State → machine.State → Type 0
@@ -72,16 +69,20 @@ kept_by z free s t same o below = ap (λ (b : ByteMap). b (z.frame + o)) same
 pub kept_then : (z : Setting) (free : ℕ) (s t u : machine.State) → Kept z free s t → Kept z free t u → Kept z free s u
 kept_then z free s t u one other o below = other o below ∙ one o below
 
-pub put_kept : (z : Setting) (n r o : ℕ) (env : StraightState) (s t : machine.State) → Put z n r o env s t → Kept z o s t
-put_kept z n r o env s t put x below =
-    ap (λ (b : ByteMap). b (z.frame + x)) put.written ∙ with_number_below s.bytes n (z.frame + o) (s.regs r) (z.frame + x) (omega (arith, below))
+-- a number of so many bytes is written into the frame
+pub record Wrote (z : Setting) (n o w : ℕ) (s t : machine.State) : Type 0 where
+  pub held : HeldAt z t
+  pub written : t.bytes ≡ with_number s.bytes n (z.frame + o) w
 
-pub put_there : (z : Setting) (r o v : ℕ) (env : StraightState) (s t : machine.State) → Put z 4 r o env s t → s.regs r ≡ v → v < 2 ^ 32 → number_at t.bytes 4 (z.frame + o) ≡ Some v
-put_there z r o v env s t put is below =
+pub wrote_kept : (z : Setting) (n o w : ℕ) (s t : machine.State) → Wrote z n o w s t → Kept z o s t
+wrote_kept z n o w s t wrote x below =
+    ap (λ (b : ByteMap). b (z.frame + x)) wrote.written ∙ with_number_below s.bytes n (z.frame + o) w (z.frame + x) (omega (arith, below))
+
+pub wrote_there : (z : Setting) (o v : ℕ) (s t : machine.State) → Wrote z 4 o v s t → v < 2 ^ 32 → number_at t.bytes 4 (z.frame + o) ≡ Some v
+wrote_there z o v s t wrote below =
     let cut : v % 256 ^ 4 ≡ v = omega (arith, below) in
-    ap (λ (b : ByteMap). number_at b 4 (z.frame + o)) put.written ∙ (number_at-with_number s.bytes 4 (z.frame + o) (s.regs r) ∙ ap Some (ap (λ x. x % 256 ^ 4) is ∙ cut))
+    ap (λ (b : ByteMap). number_at b 4 (z.frame + o)) wrote.written ∙ (number_at-with_number s.bytes 4 (z.frame + o) v ∙ ap Some cut)
 
--- a number of a variable lies before the result
 pub place_before : (z : Setting) (x : ℕ) (d : FlatVariable) (i : ℕ) → slice_get z.declared x ≡ Some d → i < numbers_in d.elements → place_of z.declared x d i + bytes_of d ≤ result_offset z.declared
 place_before z x d i is below =
     let h = place_within z.declared x d i below in
@@ -94,11 +95,6 @@ place_ends z x d i is below =
     let h = place_before z x d i is below in
     let room = z.room in
     omega (arith, h, room)
-
-pub place_inside : (z : Setting) (x : ℕ) (d : FlatVariable) (i : ℕ) → slice_get z.declared x ≡ Some d → i < numbers_in d.elements → Inside z (bytes_of d) (z.frame + place_of z.declared x d i)
-place_inside z x d i is below =
-    let h = place_ends z x d i is below in
-    record { even = place_aligned z.declared x d i z.frame z.even; low = omega arith; high = omega (arith, h) }
 
 -- variables stay where nothing before the result is written
 pub variables_kept : (z : Setting) (free : ℕ) (env : StraightState) (s t : machine.State) → result_offset z.declared ≤ free → Ready z env s → Kept z free s t

@@ -17,13 +17,13 @@ use Rattle.language.specs.declared.tree.BinaryOperator.TheVariants.{Multiply, Di
 use Rattle.language.specs.Operators.{divides, operated}
 use Rattle.word.specs.declared.place.Place.{Place}
 use Rattle.word.specs.declared.width.Width.{Width}
-use Rattle.expression_code.proofs.Computing.{registers_after, only_computes, computing_within}
-use Rattle.expression_code.proofs.Held.{HeldAt, Held, held_regs}
+use Rattle.program_logic.proofs.Computing.{registers_after, only_computes}
+use Rattle.expression_code.proofs.Frame.{Setting, Runs, HeldAt, Held, held_regs}
 use Rattle.expression_code.proofs.Homes.{IsFree, free_from, home_free, home_apart, lower_apart}
-use Rattle.expression_code.proofs.Operations.{either_of, is_plain, allowed, kept_beside, cut_plain, operator_plain, operator_made, product_made}
-use Rattle.expression_code.proofs.Pieces.{register-at}
-use Rattle.expression_code.proofs.Steps.{Moves, multiplying, dividing}
-use Rattle.expression_code.proofs.Straight.{Setting, none, Runs, quiet, weaken, gives, cheaper}
+use Rattle.expression_code.proofs.Operations.{either_of, is_plain, base_beside, kept_beside, cut_plain, operator_plain, operator_made, product_made}
+use Rattle.expression_code.proofs.Moves.{register-at, computing_within}
+use Rattle.expression_code.proofs.Events.{Moves, multiplying, dividing}
+use Rattle.program_logic.proofs.Face.{none, quiet, weaken, gives, cheaper}
 use Rattle.expression_code.proofs.TermLengths.{cut_length, operator_length}
 use Rattle.expression_code.proofs.Values.{Lower}
 
@@ -43,7 +43,7 @@ module _ (z : Setting) where
   pub works : (place l r : ℕ) (one : IsFree l) (other : IsFree r) (apart : l ≢ r) → ((q : ℕ) → q < place → q < register_count → (5 + q ≢ l) × (5 + q ≢ r))
       → (is : List Instr) → only_computes (either_of l r) is ≡ true → Runs z (length is) none is (Held z) (λ env s t. Worked place is s t)
   works place l r one other apart beside is plain =
-      gives z
+      gives
       (λ env s t fine held done. record {
         held = done.held;
         registers = done.registers;
@@ -52,7 +52,7 @@ module _ (z : Setting) where
             let b = beside q less small in
             ap (λ (regs : ℕ → ℕ). regs (5 + q)) done.registers ∙ kept_beside l r one other apart is plain s.regs (5 + q) b.0 b.1;
       })
-      (computing_within z (either_of l r) (allowed l r one other apart) is plain)
+      (computing_within z (either_of l r) is plain (base_beside l r one other apart))
 
   -- in the home of a place, with a spare register beside
   abbrev first_home : ℕ → ℕ
@@ -92,8 +92,8 @@ module _ (z : Setting) where
     plainly : (operator : BinaryOperator) → divides operator ≡ false → is_plain (row_of operator).step ≡ true → Runs z 4 none (operator_code l r operator width) (Operands l r a b) (Operated l r operator width a b)
     plainly operator whole alone =
         let plain = operator_plain l r one other apart operator width alone in
-        cheaper z (operator_length l r operator width)
-        (weaken z
+        cheaper (operator_length l r operator width)
+        (weaken
         (λ env s fine given. given.held)
         (λ env s t fine given done. record {
           held = done.held;
@@ -104,21 +104,21 @@ module _ (z : Setting) where
           others = λ q m n. ap (λ (regs : ℕ → ℕ). regs q) done.registers ∙ kept_beside l r one other apart (operator_code l r operator width) plain s.regs q m n;
           same = done.same;
         })
-        (computing_within z (either_of l r) (allowed l r one other apart) (operator_code l r operator width) plain))
+        (computing_within z (either_of l r) (operator_code l r operator width) plain (base_beside l r one other apart)))
 
     divided_by : (n : ℕ) (some : 0 < n) (x y : ℕ) → cond (n == 0) x y ≡ y
     divided_by n some x y = rw (ne_eqb n 0 (λ e. omega (arith, some, e)))
 
-    divides_runs : (operation : DivideOperation) → Runs z 1 (λ env. divided source (a env) (b env) ∷ []) (instr.Divide operation l l r ∷ []) (Operands l r a b) (λ env s t. Moves l (divide_value operation (a env) (b env)) s t)
+    divides_runs : (operation : DivideOperation) → Runs z 1 (λ env. divided source (a env) (b env) ∷ []) (instr.Divide operation l l r ∷ []) (Operands l r a b) (λ env s t. Moves z l (divide_value operation (a env) (b env)) s t)
     divides_runs operation =
-        weaken z
+        weaken
         (λ env s fine given. (register-at s.regs l one.nonzero ∙ given.left, register-at s.regs r other.nonzero ∙ given.right))
         (λ env s t fine given moves. moves)
         (dividing z source a b operation l l r (one.small, one.small, other.small) one.nonzero)
 
-    multiplies_runs : Runs z 1 (λ env. multiplied (a env) (b env) ∷ []) (instr.Multiply Mul l l r ∷ []) (Operands l r a b) (λ env s t. Moves l (multiply_value Mul (a env) (b env)) s t)
+    multiplies_runs : Runs z 1 (λ env. multiplied (a env) (b env) ∷ []) (instr.Multiply Mul l l r ∷ []) (Operands l r a b) (λ env s t. Moves z l (multiply_value Mul (a env) (b env)) s t)
     multiplies_runs =
-        weaken z
+        weaken
         (λ env s fine given. (register-at s.regs l one.nonzero ∙ given.left, register-at s.regs r other.nonzero ∙ given.right))
         (λ env s t fine given moves. moves)
         (multiplying z a b Mul l l r (one.small, one.small, other.small) one.nonzero)
@@ -128,8 +128,8 @@ module _ (z : Setting) where
     product_runs =
         let plain = cut_plain l r one other apart width in
         let short = cut_length l width in
-        cheaper z (omega (arith, short))
-        (gives z
+        cheaper (omega (arith, short))
+        (gives
         (λ env s t fine given done.
         let m = done.middle in
         let moves = done.first in
@@ -140,14 +140,14 @@ module _ (z : Setting) where
           others = λ q k n. ap (λ (regs : ℕ → ℕ). regs q) cut.registers ∙ (kept_beside l r one other apart (cut_code l width) plain m.regs q k n ∙ moves.others q k);
           same = cut.same ∙ moves.same;
         })
-        (quiet z multiplies_runs
-        (computing_within z (either_of l r) (allowed l r one other apart) (cut_code l width) plain)
+        (quiet multiplies_runs
+        (computing_within z (either_of l r) (cut_code l width) plain (base_beside l r one other apart))
         (λ env s t given moves. held_regs z s t (moves.others 2 (λ e. one.not_base (sym e))) moves.same given.held)))
 
     pub operator_runs : (operator : BinaryOperator) → Runs z 4 (λ env. marks_of source operator (a env) (b env)) (operator_code l r operator width) (Operands l r a b) (Operated l r operator width a b)
     operator_runs Divide =
-        cheaper z (omega arith)
-        (gives z
+        cheaper (omega arith)
+        (gives
         (λ env s t fine given moves. record {
           held = held_regs z s t (moves.others 2 (λ e. one.not_base (sym e))) moves.same given.held;
           there = moves.there ∙ divided_by (b env) fine.0 (2 ^ 32 - 1) (a env / b env);
@@ -156,8 +156,8 @@ module _ (z : Setting) where
         })
         (divides_runs Divu))
     operator_runs Remainder =
-        cheaper z (omega arith)
-        (gives z
+        cheaper (omega arith)
+        (gives
         (λ env s t fine given moves. record {
           held = held_regs z s t (moves.others 2 (λ e. one.not_base (sym e))) moves.same given.held;
           there = moves.there ∙ divided_by (b env) fine.0 (a env) (a env % b env);

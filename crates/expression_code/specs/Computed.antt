@@ -1,6 +1,6 @@
 -- What the machine does on the code of an expression, wherever that stands and whichever the place of its value: the value
 -- comes there, the temporaries of lower places stay, and what is shown is decided by what the code's observer sees of the path.
-use Rattle.std.specs.Prelude.{◌≡◌, ℕ, ◌+◌, ◌*◌, ◌%◌, ◌^◌, ◌<◌, ◌≤◌, true, List, [], ◌∷◌, length, Option, Some, All, is_some, slice_get, slice_index, if◌then◌else◌}
+use Rattle.std.specs.Prelude.{◌≡◌, ℕ, ◌+◌, ◌*◌, ◌%◌, ◌^◌, ◌<◌, ◌≤◌, true, List, [], length, Option, Some, All, is_some, slice_get, slice_index, if◌then◌else◌}
 use Rattle.expression_code.specs.Inside.{IsInside}
 use Rattle.expression_code.specs.Layout.{bytes_of, place_of, result_offset}
 use Rattle.expression_code.specs.Registers.{frame_register, value_register, has_register, slot_of, slots_to}
@@ -12,17 +12,11 @@ use Rattle.inline.specs.FlatMeaning.{Values, value_in, path_in}
 use Rattle.inline.specs.FlatSize.{term_nodes}
 use Rattle.inline.specs.FlatTyping.{types_of}
 use Rattle.inline.specs.Path.{Path, AreFine, seen}
-use Rattle.rv_code.specs.declared.instructions.Instr.{Instr}
-use Rattle.rv_code.specs.Words.{word_of}
+pub use Rattle.program_logic.specs.Placed.{Placed}
 use Rattle.rv_machine.specs.Bytes.{number_at}
 use Rattle.rv_machine.specs.Leakage.{Leads}
-use Rattle.rv_machine.specs.Machine.{State, Code, word_at}
+use Rattle.rv_machine.specs.Machine.{State, Code}
 use Rattle.rv_machine.specs.declared.observation.Observation.{Observation}
-
--- the words of these instructions stand at an address and after it
-abbrev pub Placed : Code → ℕ → List Instr → Type 0
-Placed code p [] = Unit {0}
-Placed code p (i ∷ is) = (p % 4 ≡ 0) × (p + 4 < 2 ^ 32) × (word_at code p ≡ Some (word_of i)) × Placed code (p + 4) is
 
 -- where code begins, where the frame lies and how many bytes it has, the variables in it, where the slots of temporaries
 -- begin, and the place that the value comes into

@@ -1,0 +1,4 @@
+pub mod Placed
+pub mod StraightCode
+pub mod Pieces
+pub mod Jumps

@@ -1,0 +1,10 @@
+-- Instructions that stand in code.
+use Rattle.std.specs.Prelude.{◌≡◌, ℕ, ◌+◌, ◌%◌, ◌^◌, ◌<◌, List, [], ◌∷◌, Some}
+use Rattle.rv_code.specs.declared.instructions.Instr.{Instr}
+use Rattle.rv_code.specs.Words.{word_of}
+use Rattle.rv_machine.specs.Machine.{Code, word_at}
+
+-- the words of these instructions stand at an address and after it
+abbrev pub Placed : Code → ℕ → List Instr → Type 0
+Placed code p [] = Unit {0}
+Placed code p (i ∷ is) = (p % 4 ≡ 0) × (p + 4 < 2 ^ 32) × (word_at code p ≡ Some (word_of i)) × Placed code (p + 4) is
