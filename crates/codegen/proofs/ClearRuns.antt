@@ -169,10 +169,13 @@ module _ (z : Setting) (offset words : ℕ) (aligned : offset % 4 ≡ 0) (inside
       (record { even = omega (arith, even, aligned); allowed = (omega arith, omega (arith, inside, below)) }, tt)
       (λ env s given. (
         given.0.held,
-        (record {
-          address = ap (λ a. sum_of a 0) given.0.six ∙ omega (arith, ends, inside, below);
-          data_there = frame_there z s given.0.held 4 (offset + 4 * i) (omega (arith, inside, below));
-        }, tt),
+        (
+          record {
+            address = ap (λ a. sum_of a 0) given.0.six ∙ omega (arith, ends, inside, below);
+            data_there = frame_there z s given.0.held 4 (offset + 4 * i) (omega (arith, inside, below));
+          },
+          tt,
+        ),
       )))
 
   body_runs : (left i : ℕ) → Runs z 2 none (instr.Store Sw 0 6 0 ∷ instr.Immediate Addi 6 6 4 ∷ []) (Turning (suc left) i) (Turned i)

@@ -1,7 +1,7 @@
 -- What a run leaves alone: a register that none of its instructions writes, and a byte beside the accesses that it shows.
 use Rattle.std.proofs.Common.{◌≡◌, ◌≢◌, ◌⊎◌, ℕ, suc, ◌+◌, ◌%◌, ◌<◌, ◌≤◌, Bool, true, false, cond, nat_eq, List, Option, None, Some, All, refl, sym, ◌∙◌, subst, inl, inr, arith}
 use Rattle.codegen.specs.Bases.{IsInside}
-use Rattle.expression_code.proofs.Steps.{unwritten}
+use Rattle.expression_code.proofs.Logic.{unwritten}
 use Rattle.rv_code.specs.declared.instructions.Instr.{Instr}
 use Rattle.rv_machine.specs.declared.effects.Effect.{Effect}
 use Rattle.rv_machine.specs.declared.effects.Effect.TheVariants.{Computes, Multiplies, Divides, Jumps, Branches, Passes, Loads, Stores, Calls, Breaks}

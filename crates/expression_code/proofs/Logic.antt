@@ -6,7 +6,7 @@ pub use Rattle.expression_code.proofs.ExpressionRuns.{expr_runs, kind_known, loa
 pub use Rattle.expression_code.proofs.Frame.{After, Before, Held, HeldAt, Runs, Setting, Steps, base_of, fine_left, fine_right, frame_runs, frame_there, held_regs, number_there, seen_by, setting}
 pub use Rattle.expression_code.proofs.Homes.{free_from}
 pub use Rattle.expression_code.proofs.Masks.{mask_fits, mask_of, mask_otherwise, mask_when, masks_join, merge, merged}
-pub use Rattle.expression_code.proofs.Moves.{Computed, Move, Moved, behind, computing_within, does, is_free, loading, move_runs, moves_run, put, storing, take, then_moves}
+pub use Rattle.expression_code.proofs.Moves.{Computed, Move, Moved, behind, computing_within, does, is_free, loading, move_runs, moves_run, put, storing, take, then_moves, unwritten}
 pub use Rattle.expression_code.proofs.OffsetLemmas.{parameter_words}
 pub use Rattle.expression_code.proofs.Operations.{constant_after, constant_plain}
 pub use Rattle.expression_code.proofs.Places.{apart_from, bytes_by, bytes_of, elements_apart, ends_before_result, place_even, place_of, place_within}

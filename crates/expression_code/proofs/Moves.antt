@@ -226,12 +226,15 @@ module _ (z : Setting) where
         (record { even = omega (arith, even, slot.0); allowed = (omega arith, omega (arith, slot.1)) }, tt)
         (λ env s held. (
           held,
-          (record {
-            address =
-                simp (rr, r0, r2)
-                (ap (λ x. sum_of (sum_of (upper_part o * 2 ^ 12) x) (sign_extended 12 (lower_part o))) held.base ∙ far_address z.frame o (omega (arith, ends, slot.1)));
-            data_there = frame_there z s held 4 o slot.1;
-          }, tt),
+          (
+            record {
+              address =
+                  simp (rr, r0, r2)
+                  (ap (λ x. sum_of (sum_of (upper_part o * 2 ^ 12) x) (sign_extended 12 (lower_part o))) held.base ∙ far_address z.frame o (omega (arith, ends, slot.1)));
+              data_there = frame_there z s held 4 o slot.1;
+            },
+            tt,
+          ),
         )))
 
   module _ (operation : StoreOperation) (r o : ℕ) (ok : (is_free r && (nat_lt r 32 && not (r == 28))) ≡ true) (slot : IsSlot z (put operation r o)) where
@@ -279,17 +282,20 @@ module _ (z : Setting) where
           done.0,
           done.1.regs ∙ (twice s.regs 28 (upper_part o * 2 ^ 12) _ ∙ ap (with_register s.regs 28) made),
           done.1.bytes
-          ∙ ap (λ v. with_number s.bytes n (z.frame + o) v) value,
+              ∙ ap (λ v. with_number s.bytes n (z.frame + o) v) value,
         ))
         (frame_runs z {P = Held z} is_free (instr.Upper Lui 28 (upper_part o) ∷ instr.Register Add 28 28 2 ∷ instr.Store operation r 28 (lower_part o) ∷ []) ((z.frame + o) ∷ [])
         (simp (s32, lt-ltb (upper_part o) 1048576 (upper_fits o), lt-ltb (lower_part o) 4096 (lower_fits o))) refl
         (record { even = even_at (store_size operation) z.frame o z.even slot.0; allowed = (omega arith, omega (arith, slot.1)) }, tt)
         (λ env s held. (
           held,
-          (record {
-            address = ap (λ x. sum_of (sum_of (upper_part o * 2 ^ 12) x) (sign_extended 12 (lower_part o))) held.base ∙ far_address z.frame o (omega (arith, ends, slot.1));
-            data_there = frame_there z s held n o slot.1;
-          }, tt),
+          (
+            record {
+              address = ap (λ x. sum_of (sum_of (upper_part o * 2 ^ 12) x) (sign_extended 12 (lower_part o))) held.base ∙ far_address z.frame o (omega (arith, ends, slot.1));
+              data_there = frame_there z s held n o slot.1;
+            },
+            tt,
+          ),
         )))
 
   -- one move
