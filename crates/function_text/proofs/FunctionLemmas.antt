@@ -57,3 +57,10 @@ module _ (profile : Profile) (text bytes : List ℕ) (built : IsBuilt profile te
   pub fault_of : (fault : FunctionFault Refusal) → IsUnlessMemory fault (IsTaken export) → IsFaultOf profile text fault
   fault_of (Text refusal) is = inl is
   fault_of (Name place) is = taken place is
+
+-- the export that a text is built with is the one of its program
+pub built_export : OneAnswer → (profile : Profile) (text bytes : List ℕ) (program : ProgramTree) (before : List ProcedureTree) (export : ProcedureTree) (built : IsBuilt profile text bytes)
+    → Reads text (accepted program) → exported [] program.procedures ≡ Some (before, export) → built.export ≡ export
+built_export one profile text bytes program before export built reads found =
+    same_export built.before before built.export export (exported [] program.procedures)
+    (export_in one profile text program built.program built.before built.export reads built.judged) found

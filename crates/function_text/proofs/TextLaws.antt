@@ -8,14 +8,12 @@ use Rattle.function_text.specs.Texts.{AreTextsOf}
 use Rattle.hepurita.proofs.JudgementLemmas.{one_export}
 use Rattle.hepurita.proofs.OneImage.{one_build}
 use Rattle.image.specs.Reading.{Spells}
-use Rattle.image.specs.declared.fault.ImageFault.{ImageFault}
 use Rattle.image_fields.specs.Fields.{Fields}
 use Rattle.language.specs.Tree.{ProcedureTree}
 use Rattle.listing.specs.Code.{IsTextOf, of_instruction, of_no_instruction}
 use Rattle.rv_code.specs.Text.{text_of}
 use Rattle.rv_code.specs.Words.{word_of, IsInstr}
 use Rattle.rv_code.specs.declared.instructions.Instr.{Instr}
-use Rattle.std.specs.Prelude.{Ok}
 use Rattle.syntax.specs.Reading.{OneAnswer}
 use Rattle.word.specs.declared.profile.Profile.{Profile}
 
@@ -23,8 +21,10 @@ same_parts : (name name' : List ℕ) (parameters parameters' : List Named) (imag
     → ◌≡◌ {A = Parts} (record { name = name; parameters = parameters; image = image }) (record { name = name'; parameters = parameters'; image = image' })
 same_parts name name' parameters parameters' image image' names params images = cc
 
-same_fields : (f g : Fields) → Ok {E = ImageFault} f ≡ Ok g → g ≡ f
-same_fields f g is = cc
+same_fields : (bytes : List ℕ) (f g : Fields) → Spells bytes f → Spells bytes g → f ≡ g
+same_fields bytes f g one other =
+    let both = sym one ∙ other in
+    cc
 
 pub one_function : OneAnswer → (profile : Profile) (text : List ℕ) (one other : Parts) → IsFunctionOf profile text one → IsFunctionOf profile text other → one ≡ other
 one_function answer profile text one other a b =
@@ -34,7 +34,7 @@ one_function answer profile text one other a b =
     same_parts one.name other.name one.parameters other.parameters one.image other.image
     (a.name ∙ ap (λ (p : ProcedureTree). p.name) same.2 ∙ sym b.name)
     (a.parameters ∙ ap (λ (p : ProcedureTree). map (written_parameter p.name) p.parameters) same.2 ∙ sym b.parameters)
-    (same_fields other.image one.image (sym b.builds.spelled ∙ spelled))
+    (same_fields b.bytes one.image other.image spelled b.builds.spelled)
 
 -- Texts.
 

@@ -5,11 +5,11 @@ ghost use Rattle.std.specs.List.{flat_map};
 ghost use Rattle.std.specs.String.{string_bytes};
 ghost use Rattle.codegen.specs.Anywhere.{body_words};
 ghost use Rattle.function_code.specs.Sections.{enter_sections, leave_sections};
-ghost use Rattle.function_text.specs.AssemblerText.{ListsWords, IsAssemblerText, instruction_lines, section_lines, sections_lines, profile_text, first_line, head_lines, tail_lines, title_line};
+ghost use Rattle.function_text.specs.AssemblerText.{ListsWords, IsAssemblerText, instruction_lines, section_lines, sections_lines, profile_text, sizes_text, first_line, place_lines, symbol_lines, head_lines, tail_lines, title_line};
 ghost use Rattle.function_text.specs.Functions.{parts_of};
 
 use crate::function::Function;
-use crate::lines::{push_end, push_instruction, push_title, push_word};
+use crate::lines::{push_end, push_instruction, push_number, push_title, push_word};
 use function_code::{
     Section, body, enter_sections, function_words, leave_sections, room_of, section_code,
 };
@@ -17,7 +17,6 @@ use image_fields::ImageFields;
 use language::Profile;
 use rv_code::Instr;
 use std::alloc::{AllocError, Global};
-use std::fmt::Write;
 
 /// The number of a profile.
 pub(crate) fn profile_text(profile: Profile) -> &'static str
@@ -69,29 +68,62 @@ fn push_sections(
     Ok(())
 }
 
-/// Words of a body, at the end of a text.
-fn push_words(text: &mut String, words: &[u32]) -> Result<(), AllocError>
-    ensures { OnOk result ((lines : List ℕ) × ListsWords words.now lines × (string_bytes text.new ≡ string_bytes text.old ++ lines)) }
+/// The lines of a body's words.
+fn body_lines(alloc: Global, words: &[u32]) -> Result<String, AllocError>
+    ensures { IfOk result (λ lines. ListsWords words.now (string_bytes lines)) }
 {
-    for word in words {
-        push_word(text, *word)?;
+    let mut lines = String::new(alloc);
+    for &word in words {
+        push_word(&mut lines, word)?;
     }
-    Ok(())
+    Ok(lines)
+}
+
+/// How large the function is, and for which observer, at the end of a text.
+fn push_sizes(alloc: Global, text: &mut String, function: &Function<'_>) -> Result<(), AllocError>
+    ensures { OnOk result (string_bytes text.new ≡ string_bytes text.old ++ sizes_text (parts_of function.now)) }
+{
+    let words = function_words(alloc, &function.image)?;
+    push_number(text, words.len() as u64)?;
+    text.push_str(" words, ")?;
+    push_number(text, u64::from(room_of(&function.image)))?;
+    text.push_str(" bytes of stack, profile ")?;
+    text.push_str(profile_text(function.image.profile()))
 }
 
 /// What the function is, at the end of a text.
 fn push_first(alloc: Global, text: &mut String, function: &Function<'_>) -> Result<(), AllocError>
     ensures { OnOk result (string_bytes text.new ≡ string_bytes text.old ++ first_line (parts_of function.now)) }
 {
-    let name = function.name;
-    let words = function_words(alloc, &function.image)?.len();
-    let room = room_of(&function.image);
-    let profile = profile_text(function.image.profile());
-    writeln!(
-        text,
-        "# {name}: made by factc function; {words} words, {room} bytes of stack, profile {profile}"
+    text.push_str("# ")?;
+    text.push_str(function.name)?;
+    text.push_str(": made by factc function; ")?;
+    push_sizes(alloc, text, function)?;
+    text.push_str("\n")
+}
+
+/// How its words stand, at the end of a text.
+fn push_place(text: &mut String, function: &Function<'_>) -> Result<(), AllocError>
+    ensures { OnOk result (string_bytes text.new ≡ string_bytes text.old ++ place_lines (parts_of function.now)) }
+{
+    text.push_str(
+        "    .option push\n    .option norvc\n    .option norelax\n    .cfi_sections .debug_frame\n    .section .text.",
     )?;
-    Ok(())
+    text.push_str(function.name)?;
+    text.push_str(", \"ax\", @progbits\n    .p2align 2\n")
+}
+
+/// Its symbol, at the end of a text.
+fn push_symbol(text: &mut String, function: &Function<'_>) -> Result<(), AllocError>
+    ensures { OnOk result (string_bytes text.new ≡ string_bytes text.old ++ symbol_lines (parts_of function.now)) }
+{
+    text.push_str("    .globl ")?;
+    text.push_str(function.name)?;
+    text.push_str("\n    .type ")?;
+    text.push_str(function.name)?;
+    text.push_str(", @function\n")?;
+    text.push_str(function.name)?;
+    text.push_str(":\n    .cfi_startproc\n")
 }
 
 /// What stands before the words, at the end of a text.
@@ -99,31 +131,19 @@ fn push_head(alloc: Global, text: &mut String, function: &Function<'_>) -> Resul
     ensures { OnOk result (string_bytes text.new ≡ string_bytes text.old ++ head_lines (parts_of function.now)) }
 {
     push_first(alloc, text, function)?;
-    let name = function.name;
-    text.push_str(
-        "    .option push\n    .option norvc\n    .option norelax\n    .cfi_sections .debug_frame\n",
-    )?;
-    write!(
-        text,
-        "    .section .text.{name}, \"ax\", @progbits\n    .p2align 2\n"
-    )?;
-    write!(
-        text,
-        "    .globl {name}\n    .type {name}, @function\n{name}:\n    .cfi_startproc\n"
-    )?;
-    Ok(())
+    push_place(text, function)?;
+    push_symbol(text, function)
 }
 
 /// What stands behind the words, at the end of a text.
 fn push_tail(text: &mut String, function: &Function<'_>) -> Result<(), AllocError>
     ensures { OnOk result (string_bytes text.new ≡ string_bytes text.old ++ tail_lines (parts_of function.now)) }
 {
-    let name = function.name;
-    write!(
-        text,
-        "    .cfi_endproc\n    .size {name}, . - {name}\n    .option pop\n"
-    )?;
-    Ok(())
+    text.push_str("    .cfi_endproc\n    .size ")?;
+    text.push_str(function.name)?;
+    text.push_str(", . - ")?;
+    text.push_str(function.name)?;
+    text.push_str("\n    .option pop\n")
 }
 
 /// The sections before the body, at the end of a text.
@@ -135,11 +155,13 @@ fn push_entry(alloc: Global, text: &mut String, image: &ImageFields) -> Result<(
 }
 
 /// The body, at the end of a text.
-fn push_body(text: &mut String, image: &ImageFields) -> Result<(), AllocError>
+fn push_body(alloc: Global, text: &mut String, image: &ImageFields) -> Result<(), AllocError>
     ensures { OnOk result ((lines : List ℕ) × ListsWords (body_words image.now.words) lines × (string_bytes text.new ≡ string_bytes text.old ++ (title_line (codes "the body") ++ lines))) }
 {
+    let lines = body_lines(alloc, body(image))?;
     text.push_str("    # the body\n")?;
-    push_words(text, body(image))
+    text.push_str(lines.as_str())?;
+    Ok(())
 }
 
 /// The sections behind the body, at the end of a text.
@@ -158,7 +180,7 @@ pub fn assembler_text(alloc: Global, function: &Function<'_>) -> Result<String, 
     let mut text = String::new(alloc);
     push_head(alloc, &mut text, function)?;
     push_entry(alloc, &mut text, &function.image)?;
-    push_body(&mut text, &function.image)?;
+    push_body(alloc, &mut text, &function.image)?;
     push_exit(alloc, &mut text, &function.image)?;
     push_tail(&mut text, function)?;
     Ok(text)

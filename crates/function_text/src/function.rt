@@ -1,7 +1,8 @@
 // The function of a text.
 
-ghost use Rattle.std.specs.Prelude.{◌≡◌, List, [], Some, map, IfOk, IfErr};
+ghost use Rattle.std.specs.Prelude.{◌≡◌, false, List, [], Some, map, IfOk, IfErr};
 ghost use Rattle.function_text.specs.Functions.{IsFunctionOf, IsFaultOf, IsUnlessMemory, named, parts_of, written_parameter};
+ghost use Rattle.function_text.specs.Names.{is_taken_name};
 ghost use Rattle.function_text.specs.private.OfExport.{IsOfExport, IsTaken};
 ghost use Rattle.image.specs.Reading.{Spells};
 ghost use Rattle.image_fields.specs.Fields.{Fields, IsImage};
@@ -55,7 +56,7 @@ fn named_params(
     macros: &Macros<'_>,
     parameters: &[Parameter<'_>],
 ) -> Result<Vec<NamedParam>, AllocError>
-    ensures { IfOk result (λ params. map named params.items ≡ map (λ parameter. written_parameter macros.now.function.now (parameter_tree parameter)) parameters.now) }
+    ensures { IfOk result (λ params. map named params.items ≡ map (written_parameter macros.now.function.now) (map parameter_tree parameters.now)) }
 {
     let mut params = Vec::with_capacity(alloc, parameters.len())?;
     for parameter in parameters {
@@ -92,6 +93,27 @@ fn image_of(alloc: Global, bytes: &[u8]) -> Result<ImageFields, Refusal>
     }
 }
 
+/// The function of an export whose name is free, and whose image the bytes spell.
+fn named_function<'a>(
+    alloc: Global,
+    export: &Procedure<'a>,
+    bytes: &[u8],
+) -> Result<Function<'a>, Refusal>
+    requires free { is_taken_name export.now.name.now ≡ false }
+    requires spelled { (image : Fields) × Spells bytes.now image }
+    ensures made { IfOk result (λ function. IsOfExport (procedure_tree export.now) bytes.now (parts_of function)) }
+    ensures memory { IfErr result (λ refusal. IsWantOfMemory refusal.rule refusal.place) }
+{
+    let image = image_of(alloc, bytes)?;
+    let macros = macros_of(alloc, export.name)?;
+    let parameters = named_params(alloc, &macros, export.parameters.as_slice())?;
+    Ok(Function {
+        name: export.name,
+        parameters,
+        image,
+    })
+}
+
 /// The function of an export, whose image the bytes spell.
 fn of_export<'a>(
     alloc: Global,
@@ -102,18 +124,10 @@ fn of_export<'a>(
     ensures made { IfOk result (λ function. IsOfExport (procedure_tree export.now) bytes.now (parts_of function)) }
     ensures fault { IfErr result (λ fault. IsUnlessMemory fault (IsTaken (procedure_tree export.now))) }
 {
-    let name = export.name;
-    if is_taken_name(name) {
+    if is_taken_name(export.name) {
         return Err(FunctionFault::Name(export.place));
     }
-    let image = image_of(alloc, bytes)?;
-    let macros = macros_of(alloc, name)?;
-    let parameters = named_params(alloc, &macros, export.parameters.as_slice())?;
-    Ok(Function {
-        name,
-        parameters,
-        image,
-    })
+    Ok(named_function(alloc, export, bytes)?)
 }
 
 /// The function of a text that is accepted for an observer of this profile. A text that is not is refused as by

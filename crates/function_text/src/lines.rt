@@ -3,7 +3,7 @@
 ghost use Rattle.std.specs.Prelude.{◌≡◌, ◌++◌, OnOk, List, ℕ, codes};
 ghost use Rattle.std.specs.Fmt.{decimal};
 ghost use Rattle.std.specs.String.{string_bytes};
-ghost use Rattle.function_text.specs.AssemblerText.{word_line, title_line, frame_line, argument_title, section_title, kept_line, restored_line, change_lines, end_line, instruction_lines};
+ghost use Rattle.function_text.specs.AssemblerText.{eight_digits, word_line, title_line, frame_line, argument_title, section_title, kept_line, restored_line, change_lines, end_line, instruction_lines};
 ghost use Rattle.listing.specs.Code.{IsTextOf};
 ghost use Rattle.rv_code.specs.Text.{text_of};
 
@@ -22,12 +22,31 @@ fn push_told(text: &mut String, word: u32, instruction: &Instr) -> Result<(), Al
     Ok(())
 }
 
+/// A number in decimal.
+pub fn push_number(text: &mut String, number: u64) -> Result<(), AllocError>
+    ensures { OnOk result (string_bytes text.new ≡ string_bytes text.old ++ decimal number) }
+{
+    write!(text, "{number}")?;
+    Ok(())
+}
+
+/// A word in eight hexadecimal digits.
+fn push_digits(text: &mut String, word: u32) -> Result<(), AllocError>
+    ensures { OnOk result (string_bytes text.new ≡ string_bytes text.old ++ eight_digits word) }
+{
+    write!(text, "{word:08x}")?;
+    Ok(())
+}
+
 /// A word that is no instruction's.
 fn push_illegal(text: &mut String, word: u32) -> Result<(), AllocError>
     ensures { OnOk result (string_bytes text.new ≡ string_bytes text.old ++ word_line word (codes "illegal")) }
 {
-    writeln!(text, "    .word 0x{word:08x}  # illegal")?;
-    Ok(())
+    text.push_str("    .word 0x")?;
+    push_digits(text, word)?;
+    text.push_str("  # ")?;
+    text.push_str("illegal")?;
+    text.push_str("\n")
 }
 
 /// A word of an image.
@@ -44,8 +63,11 @@ pub fn push_word(text: &mut String, word: u32) -> Result<(), AllocError>
 fn push_frame(text: &mut String, register: u32, distance: u32) -> Result<(), AllocError>
     ensures { OnOk result (string_bytes text.new ≡ string_bytes text.old ++ frame_line register distance) }
 {
-    writeln!(text, "    .cfi_def_cfa {register}, {distance}")?;
-    Ok(())
+    text.push_str("    .cfi_def_cfa ")?;
+    push_number(text, u64::from(register))?;
+    text.push_str(", ")?;
+    push_number(text, u64::from(distance))?;
+    text.push_str("\n")
 }
 
 /// What the form of an argument is called.
@@ -127,9 +149,9 @@ fn push_restored(text: &mut String, instruction: &Instr) -> Result<(), AllocErro
 {
     match *instruction {
         Instr::Load(_, register, _, _) => {
-            let register = register.number();
-            writeln!(text, "    .cfi_restore {register}")?;
-            Ok(())
+            text.push_str("    .cfi_restore ")?;
+            push_number(text, u64::from(register.number()))?;
+            text.push_str("\n")
         }
         _ => Ok(()),
     }

@@ -190,7 +190,7 @@ pub(crate) fn macros_of<'a>(alloc: Global, function: &'a str) -> Result<Macros<'
 fn is_taken_in(macros: &Macros<'_>, name: &str) -> bool
     ensures { result ≡ is_taken_in macros.now.function.now name.now }
 {
-    is_taken_name(name) || name == macros.guard.as_str() || name == macros.stack.as_str()
+    is_taken_name(name) || macros.guard.as_str() == name || macros.stack.as_str() == name
 }
 
 /// The name that is written for a parameter of the function with these macros: with `_` behind where it is taken or
