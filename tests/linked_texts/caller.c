@@ -21,8 +21,10 @@ static void say(const char *text) {
 }
 
 static void say_number(uint32_t number) {
-    char digits[] = "00000000 ";
-    for (int place = 7; place >= 0; place--) {
+    char digits[10];
+    digits[0] = ' ';
+    digits[9] = 0;
+    for (int place = 8; place > 0; place--) {
         digits[place] = "0123456789abcdef"[number & 15];
         number >>= 4;
     }
@@ -52,7 +54,7 @@ static void call_mixed(void) {
     static uint32_t words[2] = {100, 200};
     static const uint32_t more[3] = {3, 5, 7};
     uint16_t sum = mixed(true, 200, 40000, 0x89abcdef, arrays.flags, arrays.out, arrays.hs, arrays.bytes, false, 17, arrays.small, 30000, words, more);
-    say_word("mixed ", sum);
+    say_word("mixed", sum);
     uint32_t given[13];
     for (int place = 0; place < 3; place++) {
         given[place] = arrays.out[place];
@@ -62,16 +64,16 @@ static void call_mixed(void) {
         given[3 + place] = arrays.hs[place];
     given[11] = words[0];
     given[12] = words[1];
-    say_words("arrays ", given, 13);
+    say_words("arrays", given, 13);
 }
 
 static void call_swap2(void) {
     static struct {
         uint16_t before, pair[2];
     } there = {0, {500, 7}};
-    say_word("swap2 ", swap2(true, there.pair));
+    say_word("swap2", swap2(true, there.pair));
     uint32_t given[2] = {there.pair[0], there.pair[1]};
-    say_words("pair ", given, 2);
+    say_words("pair", given, 2);
 }
 
 #ifdef __cplusplus
@@ -79,16 +81,16 @@ extern "C"
 #endif
 void _start(void) {
     static uint32_t stream[16], digest[8];
-    say_word("add_one ", add_one(41));
-    say_word("stack ", add_one_STACK_BYTES);
-    say_word("pick ", pick(true, 1, 2));
-    say_word("pick ", pick(false, 1, 2));
+    say_word("add_one", add_one(41));
+    say_word("stack", add_one_STACK_BYTES);
+    say_word("pick", pick(true, 1, 2));
+    say_word("pick", pick(false, 1, 2));
     call_swap2();
     call_mixed();
-    say_word("table_lookup ", table_lookup(3, table));
+    say_word("table_lookup", table_lookup(3, table));
     chacha20_block(key, 1, nonce, stream);
-    say_words("chacha20_block ", stream, 16);
+    say_words("chacha20_block", stream, 16);
     sha256_block(message, digest);
-    say_words("sha256_block ", digest, 8);
+    say_words("sha256_block", digest, 8);
     finish(0);
 }

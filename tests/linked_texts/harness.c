@@ -6,17 +6,19 @@
 
 #define PAGE 4096
 
-unsigned char arena[ARENA_BYTES] __attribute__((section(".arena")));
+#define ARENA_WORDS (ARENA_BYTES / 4)
+
+word arena[ARENA_WORDS] __attribute__((section(".arena")));
 unsigned char rom[(ROM_BYTES + PAGE - 1) / PAGE * PAGE] __attribute__((section(".rom"), aligned(PAGE)));
 word registers[32], own[32];
 
-static unsigned char arena_before[ARENA_BYTES], arena_first[ARENA_BYTES];
+static word arena_before[ARENA_WORDS], arena_first[ARENA_WORDS];
 static word registers_before[32], registers_first[32];
 static volatile word ticks;
 
 void enter(void);
 
-static void copy(volatile unsigned char *to, const volatile unsigned char *from, word count) {
+static void copy(volatile word *to, const volatile word *from, word count) {
     for (word i = 0; i < count; i++)
         to[i] = from[i];
 }
@@ -44,9 +46,9 @@ static void start_timer(void) {
         finish(4);
 }
 
+/* What is below the caller's stack pointer is not compared: signals are taken there too. */
 static void compare(void) {
-    word low = registers_before[2] - (word)arena - ROOM;
-    for (word i = low; i < ARENA_BYTES; i++)
+    for (word i = (registers_before[2] - (word)arena) / 4; i < ARENA_WORDS; i++)
         if (arena[i] != arena_first[i])
             finish(3);
     for (word i = 2; i < 32; i++)
@@ -60,17 +62,18 @@ void _start(void) {
     moved(READ, 0, rom, ROM_BYTES);
     asked(PROTECT, (word)rom, sizeof rom, 1, 0);
     word calls = registers[0];
-    copy((unsigned char *)registers_before, (unsigned char *)registers, sizeof registers);
-    copy(arena_before, arena, ARENA_BYTES);
+    copy(registers_before, registers, 32);
+    copy(arena_before, arena, ARENA_WORDS);
+    word low = (registers[2] - ROOM - (word)arena) / 4;
     if (calls > 1)
         start_timer();
     for (word call = 0; call < calls; call++) {
-        copy((unsigned char *)registers, (unsigned char *)registers_before, sizeof registers);
-        copy(arena, arena_before, ARENA_BYTES);
+        copy(registers, registers_before, 32);
+        copy(arena + low, arena_before + low, ARENA_WORDS - low);
         enter();
         if (call == 0) {
-            copy((unsigned char *)registers_first, (unsigned char *)registers, sizeof registers);
-            copy(arena_first, arena, ARENA_BYTES);
+            copy(registers_first, registers, 32);
+            copy(arena_first, arena, ARENA_WORDS);
         }
         compare();
     }

@@ -13,6 +13,7 @@ ARENA = 0x0080_0000
 ROM = 0x0100_0000
 BELOW = 256  # bytes of the arena below the room of a call, at least
 ABOVE = 64  # and above the arguments on the stack
+BLOCK = 1_024  # the sizes of arena and ROM are multiples of it
 SAVED = (1, 2, 3, 4, 8, 9, *range(18, 28))
 CLEARED = (5, 6, 7, *range(11, 18), *range(28, 32))
 PARAMETER = re.compile(r"(public|secret)\s+(mut\s+)?(bool|uint8|uint16|uint32)(?:\[(\d+)\])?\s+(\w+)")
@@ -60,6 +61,11 @@ class Signature:
                 yield [chance.choice((0, 0, 1, 2, 128, chance.randrange(256 ** SIZES[parameter.kind]))) for _ in range(parameter.length)]
 
 
+def blocks(count):
+    """A number of bytes, in whole blocks."""
+    return (count + BLOCK - 1) // BLOCK * BLOCK
+
+
 def cut(elements, size):
     return b"".join((element & (1 << 8 * size) - 1).to_bytes(size, "little") for element in elements)
 
@@ -95,8 +101,7 @@ class Call:
                 self.places[number] = at
                 self.parts.append((at, parameter.bytes, changes))
                 place[changes] = at + parameter.bytes
-        self.arena = bytearray(filler.randbytes(place[True] + ABOVE - ARENA))
-        self.rom = bytearray(filler.randbytes(place[False] + ABOVE - ROM))
+        self.arena, self.rom = (bytearray(filler.randbytes(blocks(place[m] + ABOVE - base))) for m, base in ((True, ARENA), (False, ROM)))
         self.put_arguments()
 
     def memory(self, address):

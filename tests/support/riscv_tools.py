@@ -49,19 +49,19 @@ def assembled(tool, source, target, folder):
     return made([LLVM, "-triple=riscv32", "-mattr=+m", "-filetype=obj", "--fatal-warnings", source, "-o", target], folder)
 
 
-def harness(function, assembler, call, folder):
+def harness(function, assembler, call, folder, target):
     """Links the harness with a function, for calls of the size of one: what a tool said where it failed."""
     defines = [f"-DFUNCTION={function.name}", f"-DROOM={function.room}", f"-DARENA_BYTES={len(call.arena)}", f"-DROM_BYTES={len(call.rom)}"]
     places = [f"-Wl,--section-start=.arena={ARENA:#x}", f"-Wl,--section-start=.rom={ROM:#x}"]
     texts = [os.path.join(TEXTS, name) for name in ("harness.c", "enter.S")]
-    command = [GCC, *TARGET, "-O1", "-Wall", *FREE, *defines, *places, "-I", TEXTS, *texts, assembler, "-o", "harness"]
+    command = [GCC, *TARGET, "-O1", "-Wall", *FREE, *defines, *places, "-I", TEXTS, *texts, assembler, "-o", target]
     return made(command, folder)
 
 
-def on_qemu(call, folder, calls=1):
+def on_qemu(call, folder, target, calls=1):
     """Makes a call by the harness: the exit status, and registers, arena and ROM after it; -11 where it was stopped."""
     given = struct.pack("<32I", calls, *call.registers[1:]) + call.arena + call.rom
-    done = subprocess.run([QEMU, "harness"], input=given, cwd=folder, capture_output=True, timeout=100)
+    done = subprocess.run([QEMU, target], input=given, cwd=folder, capture_output=True, timeout=100)
     if done.returncode or len(done.stdout) != len(given):
         return done.returncode or 1, None, None, None
     registers = list(struct.unpack_from("<32I", done.stdout))

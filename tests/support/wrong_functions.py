@@ -113,7 +113,7 @@ def exchange_in(words, word, other):
 # The function that is made wrong, what is wrong with it, how it is made, and whether nothing but an observer's list tells.
 Wrong = collections.namedtuple("Wrong", "name what make by_lists_alone")
 ALL = [
-    Wrong("add_one", "x8 is not restored", x8_is_not_restored, False),
+    Wrong("sha256_block", "x8 is not restored", x8_is_not_restored, False),
     Wrong("add_one", "only the frame is wiped", only_the_frame_is_wiped, False),
     Wrong("swap2", "the slots are zeroed before an array is copied back", slots_are_zeroed_before_copying_back, False),
     Wrong("add_one", "x28 is not cleared", x28_is_not_cleared, False),
