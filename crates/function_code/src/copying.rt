@@ -47,6 +47,20 @@ fn next(code: &mut Vec<Instr>, kind: Kind) -> Result<(), AllocError>
     Ok(())
 }
 
+/// A bool element in x28 becomes 0 or 1; numbers have their width.
+fn element_meant(code: &mut Vec<Instr>, kind: Kind) -> Result<(), AllocError>
+    ensures { OnOk result (code.new.items ≡ code.old.items ++ element_meant_code kind) }
+{
+    match kind {
+        Kind::Boolean => {
+            let r = Reg::X28;
+            code.push(Instr::Register(RegisterOperation::Sltu, r, Reg::X0, r))?;
+            Ok(())
+        }
+        Kind::Uint8 | Kind::Uint16 | Kind::Uint32 => Ok(()),
+    }
+}
+
 /// An element from the caller's array into the frame's: a bool as 0 or 1.
 fn element_in(alloc: Global, kind: Kind) -> Result<Vec<Instr>, AllocError>
     ensures { IfOk result (λ code. code.items ≡ copied_in_code kind) }
@@ -54,9 +68,7 @@ fn element_in(alloc: Global, kind: Kind) -> Result<Vec<Instr>, AllocError>
     let here = Immediate12::from_bits(0);
     let mut code = Vec::new(alloc);
     code.push(Instr::Load(load_by(kind), Reg::X28, Reg::X5, here))?;
-    if kind == Kind::Boolean {
-        code.push(Instr::Register(RegisterOperation::Sltu, Reg::X28, Reg::X0, Reg::X28))?;
-    }
+    element_meant(&mut code, kind)?;
     code.push(Instr::Store(store_by(kind), Reg::X28, Reg::X6, here))?;
     next(&mut code, kind)?;
     Ok(code)

@@ -54,19 +54,23 @@ fn meant(code: &mut Vec<Instr>, kind: Kind) -> Result<(), AllocError>
 {
     let r = Reg::X5;
     match kind {
-        Kind::Boolean => code.push(Instr::Register(RegisterOperation::Sltu, r, Reg::X0, r))?,
+        Kind::Boolean => {
+            code.push(Instr::Register(RegisterOperation::Sltu, r, Reg::X0, r))?;
+            Ok(())
+        }
         Kind::Uint8 => {
             let low = Immediate12::from_bits(255);
             code.push(Instr::Immediate(ImmediateOperation::Andi, r, r, low))?;
+            Ok(())
         }
         Kind::Uint16 => {
             let half = ShiftAmount::from_bits(16);
             code.push(Instr::Shift(ShiftOperation::Slli, r, r, half))?;
             code.push(Instr::Shift(ShiftOperation::Srli, r, r, half))?;
+            Ok(())
         }
-        Kind::Uint32 => {}
+        Kind::Uint32 => Ok(()),
     }
-    Ok(())
 }
 
 /// An argument that is a word into its slot.

@@ -3,8 +3,8 @@
 #![tactic(auto)]
 
 mod copying;
-mod leaving;
 mod entering;
+mod leaving;
 mod pieces;
 mod registers;
 mod room;

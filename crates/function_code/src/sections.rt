@@ -1,7 +1,7 @@
 // The sections of a function's code: one list of them is what its words, its text and its turns are made of.
 
-ghost use Rattle.std.specs.Prelude.{◌≡◌, ◌+◌, ◌≤◌, ◌++◌, length, OnOk, IfOk};
-ghost use Rattle.function_code.specs.Sections.{frame_sections, argument_sections, array_sections, enter_sections, leave_sections, section_code};
+ghost use Rattle.std.specs.Prelude.{◌≡◌, ◌≤◌, ◌++◌, length, OnOk, IfOk};
+ghost use Rattle.function_code.specs.Sections.{frame_sections, argument_sections, array_section, array_sections, enter_sections, leave_sections, section_code};
 
 use crate::entering::{argument, cleared_frame, frame_base, room_above};
 use crate::leaving::{array, callers_stack, frame_top, go_back, result, wiped_room};
@@ -59,6 +59,19 @@ fn push_arguments(sections: &mut Vec<Section>, slots: &[Slot]) -> Result<(), All
     Ok(())
 }
 
+/// Puts the section of an array at the end, where it goes back.
+fn push_array(sections: &mut Vec<Section>, index: u16, slot: Slot) -> Result<(), AllocError>
+    ensures { OnOk result (sections.new.items ≡ sections.old.items ++ array_section index slot slot.param.form) }
+{
+    match slot.param.form {
+        Form::SingleWord | Form::FixedArray => Ok(()),
+        Form::MutableArray => {
+            sections.push(Section::ArrayOut(index, slot))?;
+            Ok(())
+        }
+    }
+}
+
 /// Puts those of arrays that go back at the end.
 fn push_arrays(sections: &mut Vec<Section>, slots: &[Slot]) -> Result<(), AllocError>
     requires { length slots.now ≤ 8192 }
@@ -66,9 +79,7 @@ fn push_arrays(sections: &mut Vec<Section>, slots: &[Slot]) -> Result<(), AllocE
 {
     let mut index = 0;
     for slot in slots {
-        if slot.param.form == Form::MutableArray {
-            sections.push(Section::ArrayOut(index, *slot))?;
-        }
+        push_array(sections, index, *slot)?;
         index += 1;
     }
     Ok(())
@@ -78,10 +89,11 @@ fn push_arrays(sections: &mut Vec<Section>, slots: &[Slot]) -> Result<(), AllocE
 fn push_frame(sections: &mut Vec<Section>, room: u32) -> Result<(), AllocError>
     ensures { OnOk result (sections.new.items ≡ sections.old.items ++ frame_sections room) }
 {
-    if room != 0 {
-        sections.push(Section::FrameBase)?;
-        sections.push(Section::ClearedFrame)?;
+    if room == 0 {
+        return Ok(());
     }
+    sections.push(Section::FrameBase)?;
+    sections.push(Section::ClearedFrame)?;
     Ok(())
 }
 

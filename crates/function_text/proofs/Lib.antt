@@ -1,1 +1,3 @@
+pub mod FunctionLemmas
 pub mod TextLaws
+pub mod WordLines

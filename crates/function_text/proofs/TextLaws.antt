@@ -61,6 +61,7 @@ module _ (differ : (i j : Instr) → IsInstr i → IsInstr j → word_of i ≡ w
   pub one_pair : OneAnswer → (profile : Profile) (text assembler header assembler' header' : List ℕ)
       → AreTextsOf profile text assembler header → AreTextsOf profile text assembler' header' → (assembler ≡ assembler') × (header ≡ header')
   one_pair answer profile text assembler header assembler' header' a b =
-      let same = one_function answer profile text a.parts b.parts a.function b.function in
-      (one_text b.parts assembler assembler' (subst (λ (f : Parts). IsAssemblerText f assembler) same a.assembled) b.assembled,
-      a.declared ∙ ap header_text same ∙ sym b.declared)
+      let same = one_function answer profile text a.parts b.parts a.function b.function in (
+        one_text b.parts assembler assembler' (subst (λ (f : Parts). IsAssemblerText f assembler) same a.assembled) b.assembled,
+        a.declared ∙ ap header_text same ∙ sym b.declared,
+      )

@@ -78,11 +78,7 @@ fn push_words(text: &mut String, words: &[u32]) -> Result<(), AllocError>
 }
 
 /// What the function is, at the end of a text.
-fn push_first(
-    alloc: Global,
-    text: &mut String,
-    function: &Function<'_>,
-) -> Result<(), AllocError>
+fn push_first(alloc: Global, text: &mut String, function: &Function<'_>) -> Result<(), AllocError>
     ensures { OnOk result (string_bytes text.new ≡ string_bytes text.old ++ first_line (parts_of function.now)) }
 {
     let name = function.name;
@@ -102,9 +98,17 @@ fn push_head(alloc: Global, text: &mut String, function: &Function<'_>) -> Resul
 {
     push_first(alloc, text, function)?;
     let name = function.name;
-    text.push_str("    .option push\n    .option norvc\n    .option norelax\n    .cfi_sections .debug_frame\n")?;
-    write!(text, "    .section .text.{name}, \"ax\", @progbits\n    .p2align 2\n")?;
-    write!(text, "    .globl {name}\n    .type {name}, @function\n{name}:\n    .cfi_startproc\n")?;
+    text.push_str(
+        "    .option push\n    .option norvc\n    .option norelax\n    .cfi_sections .debug_frame\n",
+    )?;
+    write!(
+        text,
+        "    .section .text.{name}, \"ax\", @progbits\n    .p2align 2\n"
+    )?;
+    write!(
+        text,
+        "    .globl {name}\n    .type {name}, @function\n{name}:\n    .cfi_startproc\n"
+    )?;
     Ok(())
 }
 
@@ -113,7 +117,10 @@ fn push_tail(text: &mut String, function: &Function<'_>) -> Result<(), AllocErro
     ensures { OnOk result (string_bytes text.new ≡ string_bytes text.old ++ tail_lines (parts_of function.now)) }
 {
     let name = function.name;
-    write!(text, "    .cfi_endproc\n    .size {name}, . - {name}\n    .option pop\n")?;
+    write!(
+        text,
+        "    .cfi_endproc\n    .size {name}, . - {name}\n    .option pop\n"
+    )?;
     Ok(())
 }
 

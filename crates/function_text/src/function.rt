@@ -87,6 +87,7 @@ pub fn function_of<'a>(
 {
     let bytes = build_as(alloc, text, profile)?;
     let program = parse(alloc, text)?;
+    one_answer_for_a_text();
     let export = export_of(&program);
     if is_taken_name(export.name) {
         return Err(FunctionFault::Name(export.place));

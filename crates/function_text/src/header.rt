@@ -111,7 +111,9 @@ fn push_comment(text: &mut String, function: &Function<'_>) -> Result<(), AllocE
     let name = function.name;
     let profile = profile_text(function.image.profile());
     writeln!(text, "/* {name}: made by factc function.")?;
-    text.push_str("   Arrays are aligned by their elements, lie outside the stack below the caller, and no two that are not const overlap.\n")?;
+    text.push_str(
+        "   Arrays are aligned by their elements, lie outside the stack below the caller, and no two that are not const overlap.\n",
+    )?;
     writeln!(
         text,
         "   Neither time nor addresses hang on what is secret, for an observer of profile {profile}. */"
@@ -126,7 +128,10 @@ fn push_guard(text: &mut String, function: &Function<'_>) -> Result<(), AllocErr
     let name = function.name;
     let room = room_of(&function.image);
     write!(text, "#ifndef FACT_{name}_H\n#define FACT_{name}_H\n")?;
-    write!(text, "#include <stdbool.h>\n#include <stdint.h>\n#define {name}_STACK_BYTES {room}\n")?;
+    write!(
+        text,
+        "#include <stdbool.h>\n#include <stdint.h>\n#define {name}_STACK_BYTES {room}\n"
+    )?;
     Ok(())
 }
 

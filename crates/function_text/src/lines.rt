@@ -160,11 +160,7 @@ pub fn push_instruction(
 }
 
 /// What has changed for a debugger at the end of a section.
-pub fn push_end(
-    text: &mut String,
-    image: &ImageFields,
-    section: Section,
-) -> Result<(), AllocError>
+pub fn push_end(text: &mut String, image: &ImageFields, section: Section) -> Result<(), AllocError>
     ensures { OnOk result (string_bytes text.new ≡ string_bytes text.old ++ end_line image.now section) }
 {
     match section {

@@ -2,8 +2,7 @@ use crate::{assembler_text, function_of, header_text};
 use language::Profile;
 use std::test::Fail;
 
-const ADD_ONE: &str =
-    "export secret uint32 add_one(secret uint32 number) { return number + 1; }";
+const ADD_ONE: &str = "export secret uint32 add_one(secret uint32 number) { return number + 1; }";
 
 #[test]
 fn writes_the_texts_of_a_function(rt: HostRuntime) -> Result<(), Fail> {
@@ -38,7 +37,8 @@ uint32_t /* secret */ add_one(
 #endif
 ";
 
-const ADD_ONE_ASSEMBLER: &str = "# add_one: made by factc function; 72 words, 96 bytes of stack, profile 1
+const ADD_ONE_ASSEMBLER: &str =
+    "# add_one: made by factc function; 72 words, 96 bytes of stack, profile 1
     .option push
     .option norvc
     .option norelax
