@@ -31,13 +31,10 @@ impl fmt::Display for Explanation {
             violates,
             mended,
         } = *self;
+        write!(f, "{code}: {name}\n\n{rule}")?;
         if violates.is_empty() {
-            write!(f, "{code}: {name}\n\n{rule}")
-        } else {
-            write!(
-                f,
-                "{code}: {name}\n\n{rule}\n\nViolates it:\n\n{violates}\n\nMended:\n\n{mended}"
-            )
+            return Ok(());
         }
+        write!(f, "\n\nViolates it:\n\n{violates}\n\nMended:\n\n{mended}")
     }
 }

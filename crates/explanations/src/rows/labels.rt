@@ -85,8 +85,8 @@ export secret uint32 f(secret uint32 n, secret uint8[16] bytes) {
     Explanation {
         code: "L5",
         name: "secret division operand",
-        rule: "Both operands of `/` and `%` are public, since the time of a division depends on them. Divide a\n\
-               secret by a power of 2 with `>>` and `&`.",
+        rule: "Both operands of `/` and `%` are public, since the time of a division depends on them and an\n\
+               observer sees it. Divide a secret by a power of 2 with `>>` and `&`.",
         violates: "export secret uint32 f(secret uint32 x) { return x / 8 + x % 8; }",
         mended: "export secret uint32 f(secret uint32 x) { return (x >> 3) + (x & 7); }",
     },

@@ -202,7 +202,7 @@ void add(secret uint32[2] a, secret mut uint32[2] sum) {
     sum[1] = sum[1] + a[1];
 }
 
-export void double(secret mut uint32[2] a) {
+export void twice(secret mut uint32[2] a) {
     add(a, a);
 }",
         mended: "\
@@ -211,7 +211,7 @@ void add(secret uint32[2] a, secret mut uint32[2] sum) {
     sum[1] = sum[1] + a[1];
 }
 
-export void double(secret mut uint32[2] a) {
+export void twice(secret mut uint32[2] a) {
     secret uint32[2] before = { a[0], a[1] };
     add(before, a);
 }",

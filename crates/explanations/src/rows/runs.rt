@@ -78,7 +78,7 @@ const ROWS: [Explanation; 9] = [
         code: "RecorderRefused",
         name: "trace out of memory",
         rule: "There was no memory to keep what the next instruction shows, and the run ended before it. Only\n\
-               the library's runs with a recorder that keeps the whole trace end so: the commands keep none.",
+               calls of the library with a recorder that keeps the trace answer this.",
         violates: "",
         mended: "",
     },
