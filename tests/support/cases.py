@@ -5,7 +5,6 @@ import shlex
 import subprocess
 import sys
 import tempfile
-import time
 
 TOP = os.path.dirname(os.path.dirname(os.path.dirname(os.path.abspath(__file__))))
 DEFAULT = os.path.join(TOP, "crates", "factc", "out", "factc")
@@ -95,8 +94,6 @@ def main(*parts):
     with tempfile.TemporaryDirectory() as folder:
         cases = Cases(program, folder)
         for part in parts:
-            begun = time.time()
             part(cases)
-            print(f"TIME {part.__name__} {time.time() - begun:.1f}")
     print(f"{cases.passed} passed, {cases.failed} failed")
     return 1 if cases.failed else 0
