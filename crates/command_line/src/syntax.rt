@@ -179,10 +179,12 @@ fn explain_command<'a>(alloc: Global) -> Result<Command<'a>, AllocError> {
         .about(
             "Explains the code of a refusal, or the name of a stop: the rule, a text that violates it, and the same text mended",
         )
-        .arg(
-            path(alloc, "CODE", "The code, as it stands behind `refused: `, or the name behind `stop `")
-                .value_parser(codes()),
+        .arg(path(
+            alloc,
+            "CODE",
+            "The code, as it stands behind `refused: `, or the name behind `stop `",
         )
+        .value_parser(codes()))
 }
 
 fn path<'a>(alloc: Global, name: &'a str, help: &'a str) -> Arg<'a> {
