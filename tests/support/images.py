@@ -111,3 +111,13 @@ def labels(data):
     """The labels of the parameters of an image."""
     count = struct.unpack_from("<H", data, 8)[0]
     return [data[11 + 9 * place] for place in range(count)]
+
+
+def layout(data):
+    """The offsets of the slots of an image, that of its result, None where there is none, and the bytes of its frame."""
+    count = struct.unpack_from("<H", data, 8)[0]
+    offsets = [struct.unpack_from("<I", data, 15 + 9 * place)[0] for place in range(count)]
+    behind = 10 + 9 * count
+    if data[behind]:
+        return offsets, struct.unpack_from("<I", data, behind + 3)[0], struct.unpack_from("<I", data, behind + 7)[0]
+    return offsets, None, struct.unpack_from("<I", data, behind + 1)[0]

@@ -1,4 +1,5 @@
 use clap::{Arg, ArgAction, Command, value_parser};
+use explanations::codes;
 use std::alloc::{AllocError, Global};
 
 /// The commands of `factc` and their words, as `clap` reads them.
@@ -12,6 +13,7 @@ pub fn factc<'a>(alloc: Global) -> Result<Command<'a>, AllocError> {
         .subcommand_required(true)
         .subcommand(check_command(alloc)?)?
         .subcommand(build_command(alloc)?)?
+        .subcommand(function_command(alloc)?)?
         .subcommand(eval_command(alloc)?)?
         .subcommand(run_command(alloc)?)?
         .subcommand(leak_command(alloc)?)?
@@ -19,7 +21,8 @@ pub fn factc<'a>(alloc: Global) -> Result<Command<'a>, AllocError> {
         .subcommand(certify_command(alloc)?)?
         .subcommand(list_command(alloc)?)?
         .subcommand(wrap_command(alloc)?)?
-        .subcommand(harts_command(alloc)?)
+        .subcommand(harts_command(alloc)?)?
+        .subcommand(explain_command(alloc)?)
 }
 
 fn check_command<'a>(alloc: Global) -> Result<Command<'a>, AllocError> {
@@ -37,6 +40,29 @@ fn build_command<'a>(alloc: Global) -> Result<Command<'a>, AllocError> {
             alloc,
             "IMAGE",
             "Where to write the image; the text of a refused FILE leaves it as it was",
+        ))?
+        .arg(profile(alloc))
+}
+
+fn function_command<'a>(alloc: Global) -> Result<Command<'a>, AllocError> {
+    Command::new(alloc, "function")
+        .about(
+            "Compiles a text to a function that C calls: one file for an assembler, and one with its C header",
+        )
+        .arg(path(
+            alloc,
+            "FILE",
+            "The text to compile; the function has the name of its export",
+        ))?
+        .arg(path(
+            alloc,
+            "ASM",
+            "Where to write the function, for a GNU or LLVM assembler; the text of a refused FILE leaves it as it was",
+        ))?
+        .arg(path(
+            alloc,
+            "HEADER",
+            "Where to write the C header, after ASM; the text of a refused FILE leaves it as it was",
         ))?
         .arg(profile(alloc))
 }
@@ -146,6 +172,19 @@ fn harts_command<'a>(alloc: Global) -> Result<Command<'a>, AllocError> {
             "Lines `hart IMAGE ARG..`, one for each image, then `turns K N` for N turns of hart K, from 0, and \
              `round N` for N times one turn of each",
         ))
+}
+
+fn explain_command<'a>(alloc: Global) -> Result<Command<'a>, AllocError> {
+    Command::new(alloc, "explain")
+        .about(
+            "Explains the code of a refusal, or the name of a stop: the rule, a text that violates it, and the same text mended",
+        )
+        .arg(path(
+            alloc,
+            "CODE",
+            "The code, as it stands behind `refused: `, or the name behind `stop `",
+        )
+        .value_parser(codes()))
 }
 
 fn path<'a>(alloc: Global, name: &'a str, help: &'a str) -> Arg<'a> {

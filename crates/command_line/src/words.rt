@@ -5,6 +5,7 @@ ghost use Rattle.command_line.specs.Words.{after_path, arguments_of, profile_nam
 use crate::syntax::factc;
 use clap::error::ErrorKind;
 use clap::{ArgMatches, Error};
+use explanations::{Explanation, explanation};
 use std::alloc::Global;
 use word::Profile;
 
@@ -17,6 +18,12 @@ pub enum Request<'a> {
     Build {
         file: &'a str,
         image: &'a str,
+        profile: Profile,
+    },
+    Function {
+        file: &'a str,
+        assembler: &'a str,
+        header: &'a str,
         profile: Profile,
     },
     Eval {
@@ -52,6 +59,9 @@ pub enum Request<'a> {
     },
     Harts {
         file: &'a str,
+    },
+    Explain {
+        explanation: Explanation,
     },
 }
 
@@ -103,6 +113,12 @@ fn asked<'a>(alloc: Global, words: &'a [&'a str]) -> Result<Request<'a>, Error>
             image: text_of(build, "IMAGE"),
             profile: profile_of(build),
         }),
+        Some(("function", function)) => Ok(Request::Function {
+            file: text_of(function, "FILE"),
+            assembler: text_of(function, "ASM"),
+            header: text_of(function, "HEADER"),
+            profile: profile_of(function),
+        }),
         Some(("eval", eval)) => Ok(Request::Eval {
             file: text_of(eval, "FILE"),
             arguments: after_path(words),
@@ -137,6 +153,10 @@ fn asked<'a>(alloc: Global, words: &'a [&'a str]) -> Result<Request<'a>, Error>
         Some(("harts", harts)) => Ok(Request::Harts {
             file: text_of(harts, "FILE"),
         }),
+        Some(("explain", explain)) => match explanation(text_of(explain, "CODE")) {
+            Some(explanation) => Ok(Request::Explain { explanation }),
+            None => Err(command.error(ErrorKind::InvalidValue, "no such code")?),
+        },
         _ => Err(command.error(ErrorKind::MissingSubcommand, "a command is required")?),
     }
 }

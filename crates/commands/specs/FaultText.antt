@@ -3,9 +3,11 @@ use Rattle.std.specs.Prelude.{ℕ, List, ◌++◌, codes}
 use Rattle.std.specs.Fmt.{decimal}
 use Rattle.arguments.specs.Text as arguments
 use Rattle.commands.specs.declared.fault.Fault.{Fault}
-use Rattle.commands.specs.declared.fault.Fault.TheVariants.{Text, Image, Run, Eval, Plan, Harts, Code, File}
+use Rattle.commands.specs.declared.fault.Fault.TheVariants.{Text, Image, Run, Eval, Plan, Harts, Code, Name, File}
 use Rattle.commands.specs.declared.fault.FileFault.{FileFault}
 use Rattle.commands.specs.declared.fault.FileFault.TheVariants.{CannotRead, CannotWrite, NotUtf8}
+use Rattle.function_text.specs.FaultText as functions
+use Rattle.function_text.specs.declared.fault.FunctionFault.TheVariants as function_faults
 use Rattle.harts.specs.RuleNames as rules
 use Rattle.harts.specs.declared.fault.HartsFault.{HartsFault}
 use Rattle.harts.specs.declared.fault.HartsFault.TheVariants as harts
@@ -54,6 +56,7 @@ fault_line (Eval fault) = codes "refused: " ++ eval_fault_text fault
 fault_line (Plan fault) = codes "refused: " ++ plan_fault_text fault
 fault_line (Harts fault) = codes "refused: " ++ harts_fault_text fault
 fault_line (Code rule) = codes "refused: " ++ rule_text rule
+fault_line (Name place) = codes "refused: " ++ functions.fault_text (function_faults.Name place)
 fault_line (File fault) = codes "file: " ++ file_fault_text fault
 
 -- 1 refused by a rule, 4 memory
@@ -95,4 +98,5 @@ fault_status (Eval fault) = eval_status fault
 fault_status (Plan fault) = plan_status fault
 fault_status (Harts fault) = harts_status fault
 fault_status (Code rule) = 1
+fault_status (Name place) = 1
 fault_status (File fault) = 3

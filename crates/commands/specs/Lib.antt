@@ -16,5 +16,7 @@ pub mod Harts
 pub mod Judged
 pub mod Written
 pub mod WrappedCode
+pub mod TwoFiles
+pub mod FunctionFiles
 pub mod FaultText
 pub mod Requests

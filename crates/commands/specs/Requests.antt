@@ -5,6 +5,7 @@ use Rattle.command_line.specs.declared.words.Request.TheVariants as requests
 use Rattle.commands.specs.Certificates.{SaysCertificate, RefusesCertificate}
 use Rattle.commands.specs.Contents.{Contents}
 use Rattle.commands.specs.FaultText.{fault_line, fault_status}
+use Rattle.commands.specs.FunctionFiles.{AreFunctionTexts, RefusesFunction}
 use Rattle.commands.specs.Harts.{SaysHarts}
 use Rattle.commands.specs.Images.{NoImage}
 use Rattle.commands.specs.Judged.{IsAccepted, IsRefused, IsImageOf}
@@ -12,9 +13,12 @@ use Rattle.commands.specs.Leaks.{SaysLeak, RefusesLeak, IsOutputFault}
 use Rattle.commands.specs.Meanings.{SaysMeaning, RefusesMeaning}
 use Rattle.commands.specs.Pairs.{SaysPair, RefusesPair, SaysList}
 use Rattle.commands.specs.Runs.{SaysRun, RefusesRun}
+use Rattle.commands.specs.TwoFiles.{WritesTwo, FailsToWriteTwo}
+use Rattle.commands.specs.Unread.{IsOutOfMemory}
 use Rattle.commands.specs.WrappedCode.{IsImageOfCode, RefusesCode}
 use Rattle.commands.specs.Written.{WritesFile, FailsToWrite}
 use Rattle.commands.specs.declared.fault.Fault.{Fault}
+use Rattle.explanations.specs.Text.{explanation_text}
 use Rattle.streams.specs.Streams.{GainsPart}
 use Rattle.wrapping.specs.declared.asked.Asked.{Asked}
 
@@ -22,6 +26,7 @@ use Rattle.wrapping.specs.declared.asked.Asked.{Asked}
 abbrev pub Answers : Request → Contents → List ℕ → ℕ → Type 0
 Answers (requests.Check file profile) files text status = IsAccepted profile files file.now × (text ≡ codes "accepted\n") × (status ≡ 0)
 Answers (requests.Build file image profile) files text status = (text ≡ []) × (status ≡ 0)
+Answers (requests.Function file assembler header profile) files text status = (text ≡ []) × (status ≡ 0)
 Answers (requests.Eval file arguments) files text status = SaysMeaning files file.now (map (λ word. word.now) arguments.now) text × (status ≡ 0)
 Answers (requests.Run image arguments) files text status = SaysRun files image.now (map (λ word. word.now) arguments.now) text × (status ≡ 0)
 Answers (requests.Leak image arguments) files text status = SaysLeak files image.now (map (λ word. word.now) arguments.now) status text
@@ -30,11 +35,14 @@ Answers (requests.Certify image arguments) files text status = SaysCertificate f
 Answers (requests.List image) files text status = SaysList files image.now text × (status ≡ 0)
 Answers (requests.Wrap file code image frame steps profile) files text status = (text ≡ []) × (status ≡ 0)
 Answers (requests.Harts file) files text status = SaysHarts files file.now text status
+Answers (requests.Explain explanation) files text status = (text ≡ explanation_text explanation ++ codes "\n") × (status ≡ 0)
 
--- what files hold once a request is done: an image that was written, and else what they held
+-- what files hold once a request is done: an image or a function's texts that were written, and else what they held
 abbrev pub Leaves : Request → Contents → Contents → Type 0
 Leaves (requests.Check file profile) before after = after ≡ before
 Leaves (requests.Build file image profile) before after = WritesFile image.now (IsImageOf profile before file.now) before after
+Leaves (requests.Function file assembler header profile) before after =
+    WritesTwo assembler.now header.now (AreFunctionTexts profile before file.now) before after
 Leaves (requests.Eval file arguments) before after = after ≡ before
 Leaves (requests.Run image arguments) before after = after ≡ before
 Leaves (requests.Leak image arguments) before after = after ≡ before
@@ -44,12 +52,15 @@ Leaves (requests.List image) before after = after ≡ before
 Leaves (requests.Wrap file code image frame steps profile) before after =
     WritesFile image.now (IsImageOfCode (record { frame_bytes = frame; max_steps = steps; profile = profile }) before file.now code.now) before after
 Leaves (requests.Harts file) before after = after ≡ before
+Leaves (requests.Explain explanation) before after = after ≡ before
 
 -- why a request is not done, and what files hold then
 abbrev pub Refuses : Request → Contents → Contents → Fault → Type 0
 Refuses (requests.Check file profile) before after fault = IsRefused profile before file.now fault × (after ≡ before)
 Refuses (requests.Build file image profile) before after fault =
     FailsToWrite image.now (IsImageOf profile before file.now) (IsRefused profile before file.now) before after fault
+Refuses (requests.Function file assembler header profile) before after fault =
+    FailsToWriteTwo assembler.now header.now (AreFunctionTexts profile before file.now) (RefusesFunction profile before file.now) before after fault
 Refuses (requests.Eval file arguments) before after fault = RefusesMeaning before file.now (map (λ word. word.now) arguments.now) fault × (after ≡ before)
 Refuses (requests.Run image arguments) before after fault = RefusesRun before image.now (map (λ word. word.now) arguments.now) fault × (after ≡ before)
 Refuses (requests.Leak image arguments) before after fault = RefusesLeak before image.now (map (λ word. word.now) arguments.now) fault × (after ≡ before)
@@ -61,6 +72,7 @@ Refuses (requests.Wrap file code image frame steps profile) before after fault =
     let asked : Asked = record { frame_bytes = frame; max_steps = steps; profile = profile } in
     FailsToWrite image.now (IsImageOfCode asked before file.now code.now) (RefusesCode asked before file.now code.now) before after fault
 Refuses (requests.Harts file) before after fault = after ≡ before
+Refuses (requests.Explain explanation) before after fault = IsOutOfMemory fault × (after ≡ before)
 
 -- bytes went out, all of them, or where a call failed a beginning of them
 abbrev pub IsPut : List ℕ → List ℕ → List ℕ → Type 0

@@ -1,7 +1,7 @@
 -- Faults of a command: a file was not read, or memory was refused.
 use Rattle.std.specs.Prelude.{◌≡◌, ℕ, List}
 use Rattle.commands.specs.declared.fault.Fault.{Fault}
-use Rattle.commands.specs.declared.fault.Fault.TheVariants.{Text, Image, Run, Eval, Plan, Harts, Code, File}
+use Rattle.commands.specs.declared.fault.Fault.TheVariants.{Text, Image, Run, Eval, Plan, Harts, Code, Name, File}
 use Rattle.commands.specs.declared.fault.FileFault.{FileFault}
 use Rattle.commands.specs.declared.fault.FileFault.TheVariants.{CannotRead, CannotWrite, NotUtf8}
 use Rattle.harts.specs.declared.fault.HartsFault.TheVariants as harts
@@ -20,6 +20,7 @@ IsOutOfMemory (Eval fault) = fault ≡ evaluations.Memory
 IsOutOfMemory (Plan fault) = fault ≡ plans.Memory
 IsOutOfMemory (Harts fault) = fault ≡ harts.Memory
 IsOutOfMemory (Code rule) = ⊥
+IsOutOfMemory (Name place) = ⊥
 IsOutOfMemory (File fault) = ⊥
 
 -- the file at a path cannot be read

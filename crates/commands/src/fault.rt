@@ -3,11 +3,12 @@ ghost use Rattle.commands.specs.Unread.{IsOutOfMemory};
 ghost use Rattle.commands.specs.declared.fault.Fault.TheVariants.{Text, Image, Run, Eval, Plan, Harts, File};
 
 use arguments::ArgumentFault;
+use function_text::FunctionFault;
 use harts::HartsFault;
 use harts_file::PlanFault;
 use hepurita::RunFault;
 use image::ImageFault;
-use language::{Refusal, Rule};
+use language::{Place, Refusal, Rule};
 use source_eval::EvalFault;
 use std::alloc::{AllocError, AllocFailed};
 use std::fmt;
@@ -47,6 +48,8 @@ pub enum Fault<'a> {
     Plan(PlanFault),
     Harts(HartsFault),
     Code(CodeRule),
+    /// The export has a name that C or an assembler cannot take; it stands there.
+    Name(Place),
     File(FileFault<'a>),
 }
 
@@ -84,6 +87,7 @@ impl Fault<'_> {
             Fault::Harts(HartsFault::Argument { .. }) => 1,
             Fault::Harts(HartsFault::Memory) => 4,
             Fault::Code(_) => 1,
+            Fault::Name(_) => 1,
             Fault::File(_) => 3,
         }
     }
@@ -118,6 +122,10 @@ impl fmt::Display for Fault<'_> {
             }
             Fault::Harts(HartsFault::Memory) => f.write_str("refused: M1: memory"),
             Fault::Code(rule) => write!(f, "refused: {rule}"),
+            Fault::Name(place) => {
+                let fault: FunctionFault<Refusal> = FunctionFault::Name(*place);
+                write!(f, "refused: {fault}")
+            }
             Fault::File(fault) => write!(f, "file: {fault}"),
         }
     }

@@ -1,5 +1,5 @@
 // The commands of `factc`, over files and streams that the caller hands in: they compile a text to an
-// image, work out what a text means, run an image, compare what an observer sees of two runs, and say
+// image or to a function for C, work out what a text means, run an image, compare what an observer sees of two runs, and say
 // whether one run shows the same for all secrets. The exit status of each command is promised, and no
 // status 0 where standard output failed. The work is done by the calls of the libraries; the words are
 // read by `command_line`.
@@ -10,6 +10,7 @@ mod evaluating;
 mod fault;
 mod files;
 mod foreign_code;
+mod functions;
 mod images;
 mod outcome;
 mod performing;

@@ -10,6 +10,7 @@ use crate::evaluating::evaluate_text;
 use crate::fault::{Fault, FileFault};
 use crate::files::Files;
 use crate::foreign_code::wrap_code;
+use crate::functions::write_function;
 use crate::images::{leak_image, list_image, pair_image, run_image};
 use crate::side_by_side::{run_side_by_side, whole_text};
 use crate::texts::{build_image, check_text};
@@ -138,6 +139,15 @@ fn answer<'a, F: Files, O: Sink>(
             build_image(alloc, file, image, profile, files)?;
             Ok(DONE)
         }
+        Request::Function {
+            file,
+            assembler,
+            header,
+            profile,
+        } => {
+            write_function(alloc, file, assembler, header, profile, files)?;
+            Ok(DONE)
+        }
         Request::Eval { file, arguments } => {
             let text = evaluate_text(alloc, file, arguments, files)?;
             print(out, text.as_bytes(), DONE)
@@ -176,6 +186,10 @@ fn answer<'a, F: Files, O: Sink>(
             Ok(DONE)
         }
         Request::Harts { file } => answer_harts(alloc, file, files, text, out),
+        Request::Explain { explanation } => {
+            let lines = format!(in alloc; "{explanation}\n")?;
+            print(out, lines.as_bytes(), DONE)
+        }
     }
 }
 

@@ -1,4 +1,4 @@
-use Rattle.std.proofs.Common.{ℕ, List, map, refl, sym, subst}
+use Rattle.std.proofs.Common.{ℕ, List, map, refl, sym, ◌∙◌, subst}
 use Rattle.std.proofs.lemmas.Result.{err_from_is_err_and}
 use Rattle.commands.specs.Certificates.{SaysCertificate}
 use Rattle.commands.specs.Meanings.{SaysMeaning}
@@ -16,6 +16,11 @@ pub returns-in_err-build_image-in-Build-clause-failed : goal.returns-in_err-buil
 returns-in_err-build_image-in-Build-clause-failed g c = λ files out.
     let p = err_from_is_err_and c.from_residual-in_err-build_image-in-Build.result c.from_residual-in_err-build_image-in-Build.ensures.1 in
     refuses _ _ c.in-Build.is _ _ _ c.from_residual-in_err-build_image-in-Build.result p.0 c.in_err-build_image-in-Build.field-0.0 p.1 p.2 (c.in_err-build_image-in-Build.ensures.refused files)
+
+pub returns-in_err-write_function-in-Function-clause-failed : goal.returns-in_err-write_function-in-Function-clause-failed
+returns-in_err-write_function-in-Function-clause-failed g c = λ files out.
+    let p = err_from_is_err_and c.from_residual-in_err-write_function-in-Function.result c.from_residual-in_err-write_function-in-Function.ensures.1 in
+    refuses _ _ c.in-Function.is _ _ _ c.from_residual-in_err-write_function-in-Function.result p.0 c.in_err-write_function-in-Function.field-0.0 p.1 p.2 (c.in_err-write_function-in-Function.ensures.refused files)
 
 pub returns-in_err-text-in-Eval-clause-failed : goal.returns-in_err-text-in-Eval-clause-failed
 returns-in_err-text-in-Eval-clause-failed g c = λ files out.
@@ -47,6 +52,11 @@ returns-in_err-wrap_code-in-Wrap-clause-failed g c = λ files out.
     let p = err_from_is_err_and c.from_residual-in_err-wrap_code-in-Wrap.result c.from_residual-in_err-wrap_code-in-Wrap.ensures.1 in
     refuses _ _ c.in-Wrap.is _ _ _ c.from_residual-in_err-wrap_code-in-Wrap.result p.0 c.in_err-wrap_code-in-Wrap.field-0.0 p.1 p.2 (c.in_err-wrap_code-in-Wrap.ensures.refused files)
 
+pub returns-in_err-lines-in-Explain-clause-failed : goal.returns-in_err-lines-in-Explain-clause-failed
+returns-in_err-lines-in-Explain-clause-failed g c = λ files out.
+    let p = err_from_is_err_and c.from_residual-in_err-lines-in-Explain.result c.from_residual-in_err-lines-in-Explain.ensures.1 in
+    refuses _ _ c.in-Explain.is _ _ _ c.from_residual-in_err-lines-in-Explain.result p.0 p.0 p.1 refl (p.2, refl)
+
 pub returns-in_ok-check_text-in-Check-clause-failed : goal.returns-in_ok-check_text-in-Check-clause-failed
 returns-in_ok-check_text-in-Check-clause-failed g c = λ files out.
     fails_to_print _ _ c.in-Check.is _ _ _ _ _ 0 c.print.result (c.in_ok-check_text-in-Check.ensures.said files, refl, refl) refl (c.print.ensures.beginning out) c.print.ensures.fault
@@ -75,6 +85,11 @@ pub returns-in_ok-lines-in-List-clause-failed : goal.returns-in_ok-lines-in-List
 returns-in_ok-lines-in-List-clause-failed g c = λ files out.
     let said = subst (λ (bytes : List ℕ). SaysList (g.F.Files.contents c.args.files.now) c.in-List.image.now bytes) (sym c.as_slice-in-List.ensures.value) (c.in_ok-lines-in-List.ensures.said files) in
     fails_to_print _ _ c.in-List.is _ _ _ _ c.as_slice-in-List.result.now 0 c.print-in-List.result (said, refl) refl (c.print-in-List.ensures.beginning out) c.print-in-List.ensures.fault
+
+pub returns-in_ok-lines-in-Explain-clause-failed : goal.returns-in_ok-lines-in-Explain-clause-failed
+returns-in_ok-lines-in-Explain-clause-failed g c = λ files out.
+    fails_to_print _ _ c.in-Explain.is _ _ _ _ c.as_bytes-in-Explain.result.now 0 c.print-in-Explain.result (c.as_bytes-in-Explain.ensures.value ∙ c.in_ok-lines-in-Explain.ensures.ok, refl) refl
+    (c.print-in-Explain.ensures.beginning out) c.print-in-Explain.ensures.fault
 
 pub returns-in-Leak-clause-failed : goal.returns-in-Leak-clause-failed
 returns-in-Leak-clause-failed g c = λ files out.

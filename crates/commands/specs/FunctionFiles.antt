@@ -1,0 +1,22 @@
+-- What is written of the function that the text of a file is compiled to, and why there is none.
+use Rattle.std.specs.Prelude.{ℕ, List}
+use Rattle.commands.specs.Contents.{Contents}
+use Rattle.commands.specs.FileTexts.{HoldsText}
+use Rattle.commands.specs.Judged.{IsRefused}
+use Rattle.commands.specs.declared.fault.Fault.{Fault}
+use Rattle.commands.specs.declared.fault.Fault.TheVariants.{Name}
+use Rattle.function_text.specs.Functions.{HasTakenName}
+use Rattle.function_text.specs.Texts.{AreTextsOf}
+use Rattle.word.specs.declared.place.Place.{Place}
+use Rattle.word.specs.declared.profile.Profile.{Profile}
+
+-- the texts are those of the function of the file's text: for an assembler, and the C header
+pub record AreFunctionTexts (profile : Profile) (files : Contents) (path : List ℕ) (assembler header : List ℕ) : Type 0 where
+  pub text : List ℕ
+  pub held : HoldsText files path text
+  pub made : AreTextsOf profile text assembler header
+
+-- why there is none: the text is not accepted, or the name of its export is taken
+pub data RefusesFunction (profile : Profile) (files : Contents) (path : List ℕ) : Fault → Type 0 where
+  not_accepted : {fault : Fault} → IsRefused profile files path fault → RefusesFunction profile files path fault
+  taken_name : {text : List ℕ} {place : Place} → HoldsText files path text → HasTakenName profile text place → RefusesFunction profile files path (Name place)

@@ -1,0 +1,66 @@
+// A function for C, as two files.
+
+ghost use Rattle.std.specs.Prelude.{◌≡◌, ◌⊎◌, IsTrue, IfOk, IfErr, OnOk};
+ghost use Rattle.std.specs.String.{string_bytes};
+ghost use Rattle.commands.specs.FunctionFiles.{AreFunctionTexts, RefusesFunction};
+ghost use Rattle.commands.specs.TwoFiles.{AreWritten, AreCutOff, WritesTwo, FailsToWriteTwo};
+ghost use Rattle.commands.specs.Written.{IsWriteFault};
+
+use crate::fault::Fault;
+use crate::files::Files;
+use crate::texts::{text_of_file, write_file};
+use function_text::{FunctionFault, Texts, texts_of};
+use language::Profile;
+use std::alloc::Global;
+
+/// The texts of the function that the text of a file is compiled to, for an observer.
+fn function_texts<'a, F: Files>(
+    alloc: Global,
+    file: &'a str,
+    profile: Profile,
+    files: &F,
+) -> Result<Texts, Fault<'a>>
+    ensures said { IsTrue F.TELLS → IfOk result (λ texts. AreFunctionTexts profile (F.contents files.now) file.now (string_bytes texts.assembler) (string_bytes texts.header)) }
+    ensures refused { IsTrue F.TELLS → IfErr result (RefusesFunction profile (F.contents files.now) file.now) }
+{
+    let text = text_of_file(alloc, file, files)?;
+    match texts_of(alloc, text.as_str(), profile) {
+        Ok(texts) => Ok(texts),
+        Err(FunctionFault::Text(refusal)) => Err(Fault::Text(refusal)),
+        Err(FunctionFault::Name(place)) => Err(Fault::Name(place)),
+    }
+}
+
+/// Writes one file, and then another.
+fn write_both<'a, F: Files>(
+    one: &'a str,
+    other: &'a str,
+    texts: &Texts,
+    files: &mut F,
+) -> Result<(), Fault<'a>>
+    ensures written { IsTrue F.TELLS → OnOk result (AreWritten one.now other.now (string_bytes texts.now.assembler) (string_bytes texts.now.header) (F.contents files.old) (F.contents files.new)) }
+    ensures cut_off { IsTrue F.TELLS → IfErr result (AreCutOff one.now other.now (string_bytes texts.now.assembler) (string_bytes texts.now.header) (F.contents files.old) (F.contents files.new)) }
+    ensures fault { IfErr result (λ fault. IsWriteFault one.now fault ⊎ IsWriteFault other.now fault) }
+{
+    write_file(one, texts.assembler.as_bytes(), files)?;
+    write_file(other, texts.header.as_bytes(), files)
+}
+
+/// Compiles the text of a file, for an observer, to a function that C calls: its text for an assembler is written to one
+/// file, and then its C header to another. Neither is written unless both texts are there.
+pub fn write_function<'a, F: Files>(
+    alloc: Global,
+    file: &'a str,
+    assembler: &'a str,
+    header: &'a str,
+    profile: Profile,
+    files: &mut F,
+) -> Result<(), Fault<'a>>
+    ensures said { IsTrue F.TELLS → OnOk result (WritesTwo assembler.now header.now (AreFunctionTexts profile (F.contents files.old) file.now) (F.contents files.old) (F.contents files.new)) }
+    ensures refused { IsTrue F.TELLS → IfErr result (FailsToWriteTwo assembler.now header.now (AreFunctionTexts profile (F.contents files.old) file.now)
+        (RefusesFunction profile (F.contents files.old) file.now) (F.contents files.old) (F.contents files.new)) }
+    ensures untouched { IfErr result (λ fault. (IsWriteFault assembler.now fault ⊎ IsWriteFault header.now fault → ⊥) → files.new ≡ files.old) }
+{
+    let texts = function_texts(alloc, file, profile, files)?;
+    write_both(assembler, header, &texts, files)
+}

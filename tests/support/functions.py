@@ -1,0 +1,107 @@
+"""Functions for C as `factc function` writes them: their words by sections, and what their lines for a debugger say."""
+
+import re
+
+WORD = re.compile(r"^    \.word 0x([0-9a-f]{8})  # (.*)$")
+HEAD = re.compile(r"^# (\w+): made by factc function; (\d+) words, (\d+) bytes of stack, profile ([12])$")
+ABOVE_FRAME = 80
+SIZES = {"bool": 1, "uint8": 1, "uint16": 2, "uint32": 4}
+
+
+class Section:
+    """A title, words, and behind which of them a line says what changes for a debugger."""
+
+    def __init__(self, title):
+        self.title, self.words, self.changes = title, [], []
+
+    def copy(self):
+        other = Section(self.title)
+        other.words, other.changes = list(self.words), list(self.changes)
+        return other
+
+
+class Function:
+    """The sections of a function's text, with what its first line says."""
+
+    def __init__(self, text):
+        lines = text.splitlines()
+        self.name, count, room, profile = HEAD.match(lines[0]).groups()
+        self.count, self.room, self.profile = int(count), int(room), int(profile)
+        self.sections = []
+        for line in lines[lines.index(f"{self.name}:") + 1 :]:
+            self.take(line)
+
+    def take(self, line):
+        word = WORD.match(line)
+        if line.startswith("    # "):
+            self.sections.append(Section(line.removeprefix("    # ")))
+        elif word:
+            self.sections[-1].words.append(int(word.group(1), 16))
+        elif line.startswith("    .cfi_") and self.sections and "endproc" not in line:
+            self.sections[-1].changes.append((len(self.sections[-1].words), line.split()))
+
+    @property
+    def low(self):
+        return self.room - ABOVE_FRAME
+
+    def words(self, sections=None):
+        return [word for section in sections or self.sections for word in section.words]
+
+    def copies(self):
+        return [section.copy() for section in self.sections]
+
+    def frames(self):
+        """Before each word: of which register and which distance the caller's x2 is the sum, and where its registers are kept."""
+        register, distance, kept, found = 2, 0, {}, []
+        for section in self.sections:
+            for place in range(len(section.words)):
+                for behind, line in section.changes:
+                    if behind == place and place:
+                        register, distance, kept = changed(line, register, distance, kept)
+                found.append((register, distance, dict(kept)))
+            for behind, line in section.changes:
+                if behind == len(section.words):
+                    register, distance, kept = changed(line, register, distance, kept)
+        return found
+
+
+def changed(line, register, distance, kept):
+    """What a line for a debugger makes of what was known."""
+    numbers = [int(part.rstrip(",")) for part in line[1:]]
+    if line[0] == ".cfi_def_cfa_offset":
+        return register, numbers[0], kept
+    if line[0] == ".cfi_def_cfa":
+        return numbers[0], numbers[1], kept
+    if line[0] == ".cfi_offset":
+        return register, distance, {**kept, numbers[0]: numbers[1]}
+    if line[0] == ".cfi_restore":
+        return register, distance, {name: place for name, place in kept.items() if name != numbers[0]}
+    raise ValueError(line)
+
+
+def near(number):
+    return number < 2_048
+
+
+def wrapper_turns(parameters, offsets, frame, result):
+    """The turns of the code around a body, by the sizes of what it moves: parameters are pairs of a form and a type, in which an
+    array's type has a length behind it, and offsets are those of their slots, and of the result's where there is one."""
+    low = (frame + 15) // 16 * 16
+    turns = 21 + (constant(low) + 1 + 6 * low // 16 if low else 0)
+    for number, (form, kind, length) in enumerate(parameters):
+        place = load(low + 48 + 4 * number)
+        if form == "word":
+            turns += place + {"bool": 1, "uint8": 1, "uint16": 2, "uint32": 0}[kind] + load(offsets[number])
+        else:
+            head = place + constant(offsets[number]) + constant(SIZES[kind] * length) + 2
+            turns += head + (6 if kind == "bool" else 5) * length + (head + 5 * length if form == "mut" else 0)
+    turns += load(result) if result is not None else 1
+    return turns + constant(low) + 14 + 6 * (low + ABOVE_FRAME) // 16 + 15
+
+
+def load(offset):
+    return 1 if near(offset) else 3
+
+
+def constant(number):
+    return 1 if near(number) else 2

@@ -1,0 +1,133 @@
+"""Functions for C that are wrong, made of right ones: each breaks what is promised of a call in one point."""
+
+import collections
+
+NOTHING = 0x00000013  # addi x0, x0, 0
+LOAD, STORE, NUMBER = 0x03, 0x23, 0x13
+
+
+def immediate_word(opcode, number, rs1, funct3, rd):
+    return (number & 0xFFF) << 20 | rs1 << 15 | funct3 << 12 | rd << 7 | opcode
+
+
+def store_word(offset, rs2, rs1, funct3):
+    return (offset >> 5 & 0x7F) << 25 | rs2 << 20 | rs1 << 15 | funct3 << 12 | (offset & 0x1F) << 7 | STORE
+
+
+def branch_word(offset, rs2, rs1, funct3):
+    high = (offset >> 12 & 1) << 31 | (offset >> 5 & 0x3F) << 25
+    return high | rs2 << 20 | rs1 << 15 | funct3 << 12 | (offset >> 1 & 0xF) << 8 | (offset >> 11 & 1) << 7 | 0x63
+
+
+def titled(sections, title, last=False):
+    found = [section for section in sections if section.title == title]
+    return found[-1 if last else 0]
+
+
+def exchange(section, word, other):
+    """Puts a word in the place of another, which has to be there."""
+    section.words[section.words.index(word)] = other
+
+
+def opcode_of(word):
+    return word & 0x7F, word >> 12 & 7
+
+
+def x8_is_not_restored(function):
+    sections = function.copies()
+    exchange(titled(sections, "the caller's registers", last=True), immediate_word(LOAD, 0, 5, 2, 8), NOTHING)
+    return sections
+
+
+def only_the_frame_is_wiped(function):
+    sections = function.copies()
+    titled(sections, "the caller's x2").words = []
+    titled(sections, "all the room, wiped upward").words.append(immediate_word(NUMBER, 80, 2, 0, 2))
+    return sections
+
+
+def slots_are_zeroed_before_copying_back(function):
+    sections = function.copies()
+    titled(sections, "the result").words += [store_word(offset, 0, 2, 2) for offset in range(0, function.low, 4)]
+    return sections
+
+
+def x28_is_not_cleared(function):
+    sections = function.copies()
+    exchange(titled(sections, "temporaries, wiped"), immediate_word(NUMBER, 0, 0, 0, 28), NOTHING)
+    return sections
+
+
+def a_bool_is_its_lowest_bit(function):
+    sections = function.copies()
+    exchange(titled(sections, "parameter 0: a word"), 0x005032B3, immediate_word(NUMBER, 1, 5, 7, 5))  # sltu x5, x0, x5
+    return sections
+
+
+def bytes_are_copied_by_words(function):
+    sections = function.copies()
+    section = titled(sections, "parameter 7: an array")
+    exchange(section, immediate_word(LOAD, 0, 5, 4, 28), immediate_word(LOAD, 0, 5, 2, 28))
+    exchange(section, store_word(0, 28, 6, 0), store_word(0, 28, 6, 2))
+    for register in (5, 6):
+        exchange(section, immediate_word(NUMBER, 1, register, 0, register), immediate_word(NUMBER, 4, register, 0, register))
+    return sections
+
+
+def the_next_stack_argument_is_taken(function):
+    sections = function.copies()
+    place = function.low + 48 + 4 * 8
+    exchange(titled(sections, "parameter 8: a word"), immediate_word(LOAD, place, 2, 2, 5), immediate_word(LOAD, place + 4, 2, 2, 5))
+    return sections
+
+
+def one_element_more_is_copied_back(function):
+    sections = function.copies()
+    exchange(titled(sections, "parameter 1: the array, back"), immediate_word(NUMBER, 4, 0, 0, 7), immediate_word(NUMBER, 6, 0, 0, 7))
+    return sections
+
+
+def zeros_are_skipped(function):
+    sections = function.copies()
+    section = titled(sections, "parameter 1: an array")
+    place = section.words.index(store_word(0, 28, 6, 1))
+    section.words.insert(place, branch_word(8, 0, 28, 0))
+    exchange(section, branch_word(-16, 7, 5, 1), branch_word(-20, 7, 5, 1))
+    return sections
+
+
+def a_const_array_is_copied_back(function):
+    """The code that copies it in, with its load and its store turned round, once more behind the result."""
+    sections = function.copies()
+    words = list(titled(sections, "parameter 1: an array").words)
+    exchange_in(words, immediate_word(LOAD, 0, 5, 2, 28), immediate_word(LOAD, 0, 6, 2, 28))
+    exchange_in(words, store_word(0, 28, 6, 2), store_word(0, 28, 5, 2))
+    titled(sections, "the result").words += words
+    return sections
+
+
+def exchange_in(words, word, other):
+    words[words.index(word)] = other
+
+
+# The function that is made wrong, what is wrong with it, how it is made, and whether nothing but an observer's list tells.
+Wrong = collections.namedtuple("Wrong", "name what make by_lists_alone")
+ALL = [
+    Wrong("sha256_block", "x8 is not restored", x8_is_not_restored, False),
+    Wrong("add_one", "only the frame is wiped", only_the_frame_is_wiped, False),
+    Wrong("swap2", "the slots are zeroed before an array is copied back", slots_are_zeroed_before_copying_back, False),
+    Wrong("add_one", "x28 is not cleared", x28_is_not_cleared, False),
+    Wrong("pick", "a bool is its lowest bit", a_bool_is_its_lowest_bit, False),
+    Wrong("mixed", "an array of bytes is copied by words", bytes_are_copied_by_words, False),
+    Wrong("mixed", "the first argument on the stack is taken from the next place", the_next_stack_argument_is_taken, False),
+    Wrong("swap2", "one element more is copied back", one_element_more_is_copied_back, False),
+    Wrong("swap2", "elements that are 0 are not copied", zeros_are_skipped, True),
+    Wrong("table_lookup", "a const array is copied back", a_const_array_is_copied_back, False),
+]
+
+
+def text(function, sections):
+    """These words as a text for an assembler, under the function's name."""
+    words = "".join(f"    .word {word:#010x}\n" for section in sections for word in section.words)
+    name = function.name
+    return f'    .option norvc\n    .section .text.{name}, "ax", @progbits\n    .p2align 2\n    .globl {name}\n{name}:\n{words}'
