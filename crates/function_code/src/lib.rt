@@ -4,6 +4,7 @@
 
 mod copying;
 mod entering;
+mod laws;
 mod leaving;
 mod pieces;
 mod registers;
@@ -13,6 +14,7 @@ mod sections;
 mod tests;
 mod words;
 
+pub use laws::sections_are_the_function;
 pub use room::{ABOVE_FRAME, room_of};
 pub use sections::{Section, enter_sections, leave_sections, section_code};
 pub use words::{body, function_words};

@@ -1,13 +1,15 @@
 -- The export of an accepted text, and the function that is made of it.
-use Rattle.std.proofs.Common.{◌≡◌, ℕ, List, [], map, Bool, true, false, Option, Some, sym, ap, subst, ◌∙◌}
+use Rattle.std.proofs.Common.{◌≡◌, ℕ, List, [], map, true, false, Option, Some, sym, ap, subst, inl, ◌∙◌}
 use Rattle.std.proofs.lemmas.Option.{same_Some}
-use Rattle.function_text.specs.Functions.{Named, Parts, IsFunctionOf, HasTakenName, written_parameter}
+use Rattle.function_text.specs.Functions.{Parts, IsFunctionOf, HasTakenName, IsFaultOf, IsUnlessMemory, written_parameter}
 use Rattle.function_text.specs.Names.{is_taken_name}
+use Rattle.function_text.specs.declared.fault.FunctionFault.{FunctionFault}
+use Rattle.function_text.specs.declared.fault.FunctionFault.TheVariants.{Text, Name}
+use Rattle.function_text.specs.private.OfExport.{IsOfExport, IsTaken}
 use Rattle.hepurita.specs.Built.{IsBuilt, Judges, accepts, fine, readable}
-use Rattle.image.specs.Reading.{Spells}
-use Rattle.image_fields.specs.Fields.{Fields, IsImage}
 use Rattle.language.specs.Signature.{exported}
 use Rattle.language.specs.Tree.{ProcedureTree, ProgramTree}
+use Rattle.language.specs.declared.refusal.Refusal.{Refusal}
 use Rattle.syntax.specs.Reading.{OneAnswer, Reads, accepted}
 use Rattle.word.specs.declared.place.Place.{Place}
 use Rattle.word.specs.declared.profile.Profile.{Profile}
@@ -28,26 +30,37 @@ same_export before before' export export' found one other =
 
 module _ (profile : Profile) (text bytes : List ℕ) (built : IsBuilt profile text bytes) (export : ProcedureTree) (same : built.export ≡ export) where
   -- its name is taken
-  pub taken : (place : Place) → is_taken_name export.name ≡ true → place ≡ export.place → HasTakenName profile text place
-  taken place is stands = record {
+  pub taken : (place : Place) → IsTaken export place → HasTakenName profile text place
+  taken place is = record {
     program = built.program;
     before = built.before;
     export = built.export;
     judged = built.judged;
-    taken = subst (λ (p : ProcedureTree). is_taken_name p.name ≡ true) (sym same) is;
-    stands = stands ∙ ap (λ (p : ProcedureTree). p.place) (sym same);
+    taken = subst (λ (p : ProcedureTree). is_taken_name p.name ≡ true) (sym same) is.taken;
+    stands = is.stands ∙ ap (λ (p : ProcedureTree). p.place) (sym same);
   }
 
   -- its name is free
-  pub made : (parts : Parts) → IsImage parts.image → Spells bytes parts.image → parts.name ≡ export.name → is_taken_name export.name ≡ false
-      → parts.parameters ≡ map (written_parameter export.name) export.parameters → IsFunctionOf profile text parts
-  made parts allowed spelled name free parameters = record {
+  pub made : (parts : Parts) → IsOfExport export bytes parts → IsFunctionOf profile text parts
+  made parts is = record {
     bytes = bytes;
     program = built.program;
     before = built.before;
     export = built.export;
-    builds = record { built = built; judged = built.judged; allowed = allowed; spelled = spelled };
-    name = name ∙ ap (λ (p : ProcedureTree). p.name) (sym same);
-    free = subst (λ (p : ProcedureTree). is_taken_name p.name ≡ false) (sym same) free;
-    parameters = parameters ∙ ap (λ (p : ProcedureTree). map (written_parameter p.name) p.parameters) (sym same);
+    builds = record { built = built; judged = built.judged; allowed = is.allowed; spelled = is.spelled };
+    name = is.name ∙ ap (λ (p : ProcedureTree). p.name) (sym same);
+    free = subst (λ (p : ProcedureTree). is_taken_name p.name ≡ false) (sym same) is.free;
+    parameters = is.parameters ∙ ap (λ (p : ProcedureTree). map (written_parameter p.name) p.parameters) (sym same);
   }
+
+  -- want of memory, or a name that is taken
+  pub fault_of : (fault : FunctionFault Refusal) → IsUnlessMemory fault (IsTaken export) → IsFaultOf profile text fault
+  fault_of (Text refusal) is = inl is
+  fault_of (Name place) is = taken place is
+
+-- the export that a text is built with is the one of its program
+pub built_export : OneAnswer → (profile : Profile) (text bytes : List ℕ) (program : ProgramTree) (before : List ProcedureTree) (export : ProcedureTree) (built : IsBuilt profile text bytes)
+    → Reads text (accepted program) → exported [] program.procedures ≡ Some (before, export) → built.export ≡ export
+built_export one profile text bytes program before export built reads found =
+    same_export built.before before built.export export (exported [] program.procedures)
+    (export_in one profile text program built.program built.before built.export reads built.judged) found

@@ -1,6 +1,5 @@
 -- Of a text there is one function, and of a function one text for an assembler.
-use Rattle.std.proofs.Common.{◌≡◌, ℕ, List, [], ◌∷◌, ◌++◌, map, codes, refl, sym, ap, subst, absurd, ◌∙◌}
-use Rattle.codegen.specs.Anywhere.{body_words}
+use Rattle.std.proofs.Common.{◌≡◌, ℕ, List, ◌++◌, map, codes, refl, sym, ap, subst, ◌∙◌}
 use Rattle.function_code.specs.Sections.{enter_sections, leave_sections}
 use Rattle.function_text.specs.AssemblerText.{ListsWords, nothing, line, IsAssemblerText, word_line, head_lines, tail_lines, sections_lines, title_line}
 use Rattle.function_text.specs.Functions.{Named, Parts, IsFunctionOf, written_parameter}
@@ -9,14 +8,12 @@ use Rattle.function_text.specs.Texts.{AreTextsOf}
 use Rattle.hepurita.proofs.JudgementLemmas.{one_export}
 use Rattle.hepurita.proofs.OneImage.{one_build}
 use Rattle.image.specs.Reading.{Spells}
-use Rattle.image.specs.declared.fault.ImageFault.{ImageFault}
 use Rattle.image_fields.specs.Fields.{Fields}
 use Rattle.language.specs.Tree.{ProcedureTree}
 use Rattle.listing.specs.Code.{IsTextOf, of_instruction, of_no_instruction}
 use Rattle.rv_code.specs.Text.{text_of}
 use Rattle.rv_code.specs.Words.{word_of, IsInstr}
 use Rattle.rv_code.specs.declared.instructions.Instr.{Instr}
-use Rattle.std.specs.Prelude.{Result, Ok}
 use Rattle.syntax.specs.Reading.{OneAnswer}
 use Rattle.word.specs.declared.profile.Profile.{Profile}
 
@@ -24,8 +21,10 @@ same_parts : (name name' : List ℕ) (parameters parameters' : List Named) (imag
     → ◌≡◌ {A = Parts} (record { name = name; parameters = parameters; image = image }) (record { name = name'; parameters = parameters'; image = image' })
 same_parts name name' parameters parameters' image image' names params images = cc
 
-same_fields : (f g : Fields) → Ok {E = ImageFault} f ≡ Ok g → g ≡ f
-same_fields f g is = cc
+same_fields : (bytes : List ℕ) (f g : Fields) → Spells bytes f → Spells bytes g → f ≡ g
+same_fields bytes f g one other =
+    let both = sym one ∙ other in
+    cc
 
 pub one_function : OneAnswer → (profile : Profile) (text : List ℕ) (one other : Parts) → IsFunctionOf profile text one → IsFunctionOf profile text other → one ≡ other
 one_function answer profile text one other a b =
@@ -35,7 +34,7 @@ one_function answer profile text one other a b =
     same_parts one.name other.name one.parameters other.parameters one.image other.image
     (a.name ∙ ap (λ (p : ProcedureTree). p.name) same.2 ∙ sym b.name)
     (a.parameters ∙ ap (λ (p : ProcedureTree). map (written_parameter p.name) p.parameters) same.2 ∙ sym b.parameters)
-    (same_fields other.image one.image (sym b.builds.spelled ∙ spelled))
+    (same_fields b.bytes one.image other.image spelled b.builds.spelled)
 
 -- Texts.
 
@@ -54,7 +53,7 @@ module _ (differ : (i j : Instr) → IsInstr i → IsInstr j → word_of i ≡ w
   one_text : (f : Parts) (one other : List ℕ) → IsAssemblerText f one → IsAssemblerText f other → one ≡ other
   one_text f one other a b =
       a.whole
-      ∙ ap (λ (body : List ℕ). head_lines f ++ sections_lines f.image (enter_sections f.image) ++ title_line (codes "the body") ++ body
+      ∙ ap (λ (body : List ℕ). head_lines f ++ sections_lines f.image (enter_sections f.image) ++ (title_line (codes "the body") ++ body)
       ++ sections_lines f.image (leave_sections f.image) ++ tail_lines f) (same_lines a.listed b.listed)
       ∙ sym b.whole
 

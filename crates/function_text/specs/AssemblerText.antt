@@ -17,7 +17,7 @@ use Rattle.listing.specs.Code.{IsTextOf}
 use Rattle.rv_code.specs.Text.{text_of}
 use Rattle.rv_code.specs.Words.{word_of}
 use Rattle.rv_code.specs.declared.instructions.Instr.{Instr}
-use Rattle.rv_code.specs.declared.instructions.Instr.TheVariants.{Upper, Jump, JumpRegister, Branch, Load, Store, Immediate, Shift, Register, Multiply, Divide, Fence, Ecall, Ebreak}
+use Rattle.rv_code.specs.declared.instructions.Instr.TheVariants.{Load, Store}
 use Rattle.word.specs.declared.profile.Profile.{Profile}
 use Rattle.word.specs.declared.profile.Profile.TheVariants.{P1, P2}
 
@@ -108,19 +108,28 @@ abbrev pub profile_text : Profile → List ℕ
 profile_text P1 = codes "1"
 profile_text P2 = codes "2"
 
--- what the function is
-abbrev pub first_line : Parts → List ℕ
-first_line f =
-    codes "# " ++ f.name ++ codes ": made by factc function; " ++ decimal (length (function_words f.image)) ++ codes " words, "
-    ++ decimal (room_of f.image) ++ codes " bytes of stack, profile " ++ profile_text f.image.profile ++ codes "\n"
+-- how large the function is, and for which observer
+abbrev pub sizes_text : Parts → List ℕ
+sizes_text f =
+    decimal (length (function_words f.image)) ++ codes " words, " ++ decimal (room_of f.image)
+    ++ codes " bytes of stack, profile " ++ profile_text f.image.profile
 
--- its words stand as they are, in a section of their own, under its name
+abbrev pub first_line : Parts → List ℕ
+first_line f = codes "# " ++ f.name ++ codes ": made by factc function; " ++ sizes_text f ++ codes "\n"
+
+-- its words stand as they are, in a section of their own
+abbrev pub place_lines : Parts → List ℕ
+place_lines f =
+    codes "    .option push\n    .option norvc\n    .option norelax\n    .cfi_sections .debug_frame\n    .section .text."
+    ++ f.name ++ codes ", \"ax\", @progbits\n    .p2align 2\n"
+
+-- under its name
+abbrev pub symbol_lines : Parts → List ℕ
+symbol_lines f =
+    codes "    .globl " ++ f.name ++ codes "\n    .type " ++ f.name ++ codes ", @function\n" ++ f.name ++ codes ":\n    .cfi_startproc\n"
+
 abbrev pub head_lines : Parts → List ℕ
-head_lines f =
-    first_line f
-    ++ codes "    .option push\n    .option norvc\n    .option norelax\n    .cfi_sections .debug_frame\n    .section .text."
-    ++ f.name ++ codes ", \"ax\", @progbits\n    .p2align 2\n    .globl " ++ f.name ++ codes "\n    .type " ++ f.name
-    ++ codes ", @function\n" ++ f.name ++ codes ":\n    .cfi_startproc\n"
+head_lines f = first_line f ++ place_lines f ++ symbol_lines f
 
 abbrev pub tail_lines : Parts → List ℕ
 tail_lines f = codes "    .cfi_endproc\n    .size " ++ f.name ++ codes ", . - " ++ f.name ++ codes "\n    .option pop\n"
@@ -128,5 +137,5 @@ tail_lines f = codes "    .cfi_endproc\n    .size " ++ f.name ++ codes ", . - " 
 pub record IsAssemblerText (f : Parts) (text : List ℕ) : Type 0 where
   pub body : List ℕ
   pub listed : ListsWords (body_words f.image.words) body
-  pub whole : text ≡ head_lines f ++ sections_lines f.image (enter_sections f.image) ++ title_line (codes "the body") ++ body
+  pub whole : text ≡ head_lines f ++ sections_lines f.image (enter_sections f.image) ++ (title_line (codes "the body") ++ body)
       ++ sections_lines f.image (leave_sections f.image) ++ tail_lines f

@@ -1,5 +1,5 @@
 -- The function of a text, or why there is none.
-use Rattle.std.specs.Prelude.{◌≡◌, ℕ, Bool, true, false, List, map}
+use Rattle.std.specs.Prelude.{◌≡◌, ℕ, true, false, List, map}
 use Rattle.std.specs.String.{string_bytes}
 use Rattle.function_text.specs.Names.{is_taken_name, written_name}
 use Rattle.function_text.specs.declared.fault.FunctionFault.{FunctionFault}

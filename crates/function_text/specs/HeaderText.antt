@@ -41,10 +41,13 @@ parameter_text p =
     const_text p.param.form ++ type_text p.param.kind ++ codes " " ++ p.name ++ length_text p.param.form p.param.length
     ++ codes " " ++ label_text p.param.label
 
--- a line each
+-- a line each, behind another one
+abbrev pub later_text : List Named → List ℕ
+later_text later = flat_map (λ next. codes ",\n    " ++ parameter_text next) later
+
 abbrev pub parameters_text : List Named → List ℕ
 parameters_text [] = codes "void"
-parameters_text (p ∷ later) = parameter_text p ++ flat_map (λ next. codes ",\n    " ++ parameter_text next) later
+parameters_text (p ∷ later) = parameter_text p ++ later_text later
 
 abbrev pub result_text : Option ResultSlot → List ℕ
 result_text None = codes "void"
@@ -57,10 +60,12 @@ comment_lines f =
     ++ codes "   Arrays are aligned by their elements, lie outside the stack below the caller, and no two that are not const overlap.\n"
     ++ codes "   Neither time nor addresses hang on what is secret, for an observer of profile " ++ profile_text f.image.profile ++ codes ". */\n"
 
-abbrev pub guard_lines : Parts → List ℕ
-guard_lines f =
-    codes "#ifndef " ++ guard_name f.name ++ codes "\n#define " ++ guard_name f.name
-    ++ codes "\n#include <stdbool.h>\n#include <stdint.h>\n#define " ++ stack_name f.name ++ codes " " ++ decimal (room_of f.image) ++ codes "\n"
+abbrev pub guard_lines : List ℕ → List ℕ
+guard_lines name = codes "#ifndef " ++ guard_name name ++ codes "\n#define " ++ guard_name name ++ codes "\n"
+
+abbrev pub stack_lines : Parts → List ℕ
+stack_lines f =
+    codes "#include <stdbool.h>\n#include <stdint.h>\n#define " ++ stack_name f.name ++ codes " " ++ decimal (room_of f.image) ++ codes "\n"
 
 abbrev pub prototype_lines : Parts → List ℕ
 prototype_lines f =
@@ -68,4 +73,4 @@ prototype_lines f =
     ++ parameters_text f.parameters ++ codes ");\n#ifdef __cplusplus\n}\n#endif\n#endif\n"
 
 abbrev pub header_text : Parts → List ℕ
-header_text f = comment_lines f ++ guard_lines f ++ prototype_lines f
+header_text f = comment_lines f ++ guard_lines f.name ++ stack_lines f ++ prototype_lines f

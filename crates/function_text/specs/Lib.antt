@@ -4,3 +4,4 @@ pub mod FaultText
 pub mod AssemblerText
 pub mod HeaderText
 pub mod Texts
+pub mod private

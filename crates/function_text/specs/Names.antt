@@ -1,6 +1,8 @@
 -- Names that C, C++ or an assembler cannot take for a function, and the names of its parameters.
-use Rattle.std.specs.Prelude.{ℕ, Bool, false, ◌&&◌, ◌||◌, ◌==◌, nat_eq, nat_le, List, [], ◌∷◌, ◌++◌, codes, if◌then◌else◌}
-use Rattle.std.specs.List.{list_any, starts_with, ends_with, pointwise}
+use Rattle.std.specs.Char.{is_ascii_uppercase}
+use Rattle.std.specs.Prelude.{ℕ, Bool, ◌&&◌, ◌||◌, ◌==◌, nat_eq, nat_le, List, [], ◌∷◌, ◌++◌, length, slice_index, codes, if◌then◌else◌}
+use Rattle.std.specs.Cmp.Lexicographic.{pointwise}
+use Rattle.std.specs.List.{list_any, starts_with, ends_with}
 
 abbrev pub is_word : List ℕ → List ℕ → Bool
 is_word name word = pointwise nat_eq word name
@@ -21,15 +23,16 @@ c_words =
     ∷ codes "switch" ∷ codes "typedef" ∷ codes "union" ∷ codes "unsigned" ∷ codes "void" ∷ codes "volatile"
     ∷ codes "while" ∷ codes "asm" ∷ codes "typeof" ∷ codes "bool" ∷ codes "true" ∷ codes "false" ∷ []
 
--- keywords that C++17 has beside these
+-- keywords that C++20 has beside these
 abbrev pub cpp_words : List (List ℕ)
 cpp_words =
     codes "alignas" ∷ codes "alignof" ∷ codes "and" ∷ codes "and_eq" ∷ codes "bitand" ∷ codes "bitor" ∷ codes "catch"
-    ∷ codes "char16_t" ∷ codes "char32_t" ∷ codes "class" ∷ codes "compl" ∷ codes "const_cast" ∷ codes "constexpr"
+    ∷ codes "char8_t" ∷ codes "char16_t" ∷ codes "char32_t" ∷ codes "class" ∷ codes "co_await" ∷ codes "co_return"
+    ∷ codes "co_yield" ∷ codes "compl" ∷ codes "concept" ∷ codes "const_cast" ∷ codes "consteval" ∷ codes "constexpr" ∷ codes "constinit"
     ∷ codes "decltype" ∷ codes "delete" ∷ codes "dynamic_cast" ∷ codes "explicit" ∷ codes "export" ∷ codes "friend"
     ∷ codes "mutable" ∷ codes "namespace" ∷ codes "new" ∷ codes "noexcept" ∷ codes "not" ∷ codes "not_eq"
     ∷ codes "nullptr" ∷ codes "operator" ∷ codes "or" ∷ codes "or_eq" ∷ codes "private" ∷ codes "protected"
-    ∷ codes "public" ∷ codes "reinterpret_cast" ∷ codes "static_assert" ∷ codes "static_cast" ∷ codes "template"
+    ∷ codes "public" ∷ codes "reinterpret_cast" ∷ codes "requires" ∷ codes "static_assert" ∷ codes "static_cast" ∷ codes "template"
     ∷ codes "this" ∷ codes "thread_local" ∷ codes "throw" ∷ codes "try" ∷ codes "typeid" ∷ codes "typename"
     ∷ codes "using" ∷ codes "virtual" ∷ codes "wchar_t" ∷ codes "xor" ∷ codes "xor_eq" ∷ []
 
@@ -52,23 +55,34 @@ other_words =
     codes "main" ∷ codes "linux" ∷ codes "unix" ∷ codes "PTRDIFF_MIN" ∷ codes "PTRDIFF_MAX" ∷ codes "SIG_ATOMIC_MIN"
     ∷ codes "SIG_ATOMIC_MAX" ∷ codes "SIZE_MAX" ∷ codes "WCHAR_MIN" ∷ codes "WCHAR_MAX" ∷ codes "WINT_MIN" ∷ codes "WINT_MAX" ∷ []
 
+unfoldable pub is_c_word : List ℕ → Bool
+is_c_word name = list_any (is_word name) c_words
+
+unfoldable pub is_cpp_word : List ℕ → Bool
+is_cpp_word name = list_any (is_word name) cpp_words
+
+unfoldable pub is_register : List ℕ → Bool
+is_register name = list_any (is_word name) register_words
+
+unfoldable pub is_other_word : List ℕ → Bool
+is_other_word name = list_any (is_word name) other_words
+
 -- `_` and a capital letter, or two `_`, which are the compiler's own
-abbrev pub is_compilers : List ℕ → Bool
-is_compilers [] = false
-is_compilers (first ∷ []) = false
-is_compilers (first ∷ second ∷ rest) = (first == 95) && ((second == 95) || (nat_le 65 second && nat_le second 90))
+unfoldable pub is_compilers : List ℕ → Bool
+is_compilers name =
+    nat_le 2 (length name) && ((slice_index name 0 == 95)
+    && ((slice_index name 1 == 95) || is_ascii_uppercase (slice_index name 1)))
 
 -- what <stdint.h> may define: `intN_t` and `uintN_t` in all their forms, and their limits
-abbrev pub is_integers : List ℕ → Bool
+unfoldable pub is_integers : List ℕ → Bool
 is_integers name =
     ((begins name (codes "int") || begins name (codes "uint")) && ends name (codes "_t"))
     || ((begins name (codes "INT") || begins name (codes "UINT"))
     && (ends name (codes "_MIN") || (ends name (codes "_MAX") || ends name (codes "_C"))))
 
-abbrev pub is_taken_name : List ℕ → Bool
+unfoldable pub is_taken_name : List ℕ → Bool
 is_taken_name name =
-    list_any (is_word name) c_words || (list_any (is_word name) cpp_words || (list_any (is_word name) register_words
-    || (list_any (is_word name) other_words || (is_compilers name || is_integers name))))
+    is_c_word name || (is_cpp_word name || (is_register name || (is_other_word name || (is_compilers name || is_integers name))))
 
 -- Parameters. A name that is taken is written with `_` behind, and one that ends in `_` with one more: so different names are
 -- written differently.

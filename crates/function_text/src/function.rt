@@ -1,12 +1,17 @@
 // The function of a text.
 
-ghost use Rattle.std.specs.Prelude.{◌≡◌, List, [], Some, map, IfOk, IfErr};
-ghost use Rattle.function_text.specs.Functions.{IsFunctionOf, IsFaultOf, named, parts_of, written_parameter};
+ghost use Rattle.std.specs.Prelude.{◌≡◌, false, List, [], Some, map, IfOk, IfErr};
+ghost use Rattle.function_text.specs.Functions.{IsFunctionOf, IsFaultOf, IsUnlessMemory, named, parts_of, written_parameter};
+ghost use Rattle.function_text.specs.Names.{is_taken_name};
+ghost use Rattle.function_text.specs.private.OfExport.{IsOfExport, IsTaken};
+ghost use Rattle.image.specs.Reading.{Spells};
+ghost use Rattle.image_fields.specs.Fields.{Fields, IsImage};
 ghost use Rattle.language.specs.Signature.{exported};
 ghost use Rattle.language.specs.Tree.{ProcedureTree, parameter_tree, procedure_tree, program_tree};
+ghost use Rattle.language.specs.WantOfMemory.{IsWantOfMemory};
 
 use crate::fault::FunctionFault;
-use crate::names::{Macros, is_taken_name, macros_of, written_name};
+use crate::naming::{Macros, is_taken_name, macros_of, written_name};
 use hepurita::build_as;
 use image::{Image, read};
 use image_fields::ImageFields;
@@ -51,7 +56,7 @@ fn named_params(
     macros: &Macros<'_>,
     parameters: &[Parameter<'_>],
 ) -> Result<Vec<NamedParam>, AllocError>
-    ensures { IfOk result (λ params. map named params.items ≡ map (λ parameter. written_parameter macros.now.function.now (parameter_tree parameter)) parameters.now) }
+    ensures { IfOk result (λ params. map named params.items ≡ map (written_parameter macros.now.function.now) (map parameter_tree parameters.now)) }
 {
     let mut params = Vec::with_capacity(alloc, parameters.len())?;
     for parameter in parameters {
@@ -75,6 +80,56 @@ fn export_of<'p, 'a>(program: &'p Program<'a>) -> &'p Procedure<'a>
     }
 }
 
+/// The image that bytes spell.
+fn image_of(alloc: Global, bytes: &[u8]) -> Result<ImageFields, Refusal>
+    requires { (image : Fields) × Spells bytes.now image }
+    ensures spelled { IfOk result (λ image. Spells bytes.now image) }
+    ensures allowed { IfOk result IsImage }
+    ensures memory { IfErr result (λ refusal. IsWantOfMemory refusal.rule refusal.place) }
+{
+    match read(alloc, bytes) {
+        Ok(image) => Ok(fields_of(alloc, &image)?),
+        Err(_) => Err(Refusal::memory()),
+    }
+}
+
+/// The function of an export whose name is free, and whose image the bytes spell.
+fn named_function<'a>(
+    alloc: Global,
+    export: &Procedure<'a>,
+    bytes: &[u8],
+) -> Result<Function<'a>, Refusal>
+    requires free { is_taken_name export.now.name.now ≡ false }
+    requires spelled { (image : Fields) × Spells bytes.now image }
+    ensures made { IfOk result (λ function. IsOfExport (procedure_tree export.now) bytes.now (parts_of function)) }
+    ensures memory { IfErr result (λ refusal. IsWantOfMemory refusal.rule refusal.place) }
+{
+    let image = image_of(alloc, bytes)?;
+    let macros = macros_of(alloc, export.name)?;
+    let parameters = named_params(alloc, &macros, export.parameters.as_slice())?;
+    Ok(Function {
+        name: export.name,
+        parameters,
+        image,
+    })
+}
+
+/// The function of an export, whose image the bytes spell.
+fn of_export<'a>(
+    alloc: Global,
+    export: &Procedure<'a>,
+    bytes: &[u8],
+) -> Result<Function<'a>, FunctionFault<Refusal>>
+    requires { (image : Fields) × Spells bytes.now image }
+    ensures made { IfOk result (λ function. IsOfExport (procedure_tree export.now) bytes.now (parts_of function)) }
+    ensures fault { IfErr result (λ fault. IsUnlessMemory fault (IsTaken (procedure_tree export.now))) }
+{
+    if is_taken_name(export.name) {
+        return Err(FunctionFault::Name(export.place));
+    }
+    Ok(named_function(alloc, export, bytes)?)
+}
+
 /// The function of a text that is accepted for an observer of this profile. A text that is not is refused as by
 /// `build_as`, before its names are looked at; then an export's name that C, C++ or an assembler cannot take.
 pub fn function_of<'a>(
@@ -88,20 +143,5 @@ pub fn function_of<'a>(
     let bytes = build_as(alloc, text, profile)?;
     let program = parse(alloc, text)?;
     one_answer_for_a_text();
-    let export = export_of(&program);
-    if is_taken_name(export.name) {
-        return Err(FunctionFault::Name(export.place));
-    }
-    let image = match read(alloc, bytes.as_slice()) {
-        Ok(image) => image,
-        Err(_) => return Err(FunctionFault::Text(Refusal::memory())),
-    };
-    let macros = macros_of(alloc, export.name)?;
-    let parameters = named_params(alloc, &macros, export.parameters.as_slice())?;
-    let image = fields_of(alloc, &image)?;
-    Ok(Function {
-        name: export.name,
-        parameters,
-        image,
-    })
+    of_export(alloc, export_of(&program), bytes.as_slice())
 }

@@ -3,10 +3,12 @@
 ghost use Rattle.std.specs.Prelude.{◌≡◌, ◌++◌, map, OnOk, IfOk};
 ghost use Rattle.std.specs.String.{string_bytes};
 ghost use Rattle.function_text.specs.Functions.{named, parts_of};
-ghost use Rattle.function_text.specs.HeaderText.{type_text, label_text, const_text, length_text, parameter_text, parameters_text, result_text, comment_lines, guard_lines, prototype_lines, header_text};
+ghost use Rattle.function_text.specs.Names.{guard_name, stack_name};
+ghost use Rattle.function_text.specs.HeaderText.{type_text, label_text, const_text, length_text, parameter_text, later_text, parameters_text, result_text, comment_lines, guard_lines, stack_lines, prototype_lines, header_text};
 
 use crate::assembler::profile_text;
 use crate::function::{Function, NamedParam};
+use crate::lines::push_number;
 use function_code::room_of;
 use image_fields::ResultSlot;
 use language::{Form, Kind, Label, Param};
@@ -73,21 +75,28 @@ fn push_parameter(text: &mut String, parameter: &NamedParam) -> Result<(), Alloc
     text.push_str(label_text(param.label))
 }
 
+/// Parameters behind another one, at the end of a text.
+fn push_later(text: &mut String, later: &[NamedParam]) -> Result<(), AllocError>
+    ensures { OnOk result (string_bytes text.new ≡ string_bytes text.old ++ later_text (map named later.now)) }
+{
+    for parameter in later {
+        text.push_str(",\n    ")?;
+        push_parameter(text, parameter)?;
+    }
+    Ok(())
+}
+
 /// Parameters, a line each, at the end of a text.
 fn push_parameters(text: &mut String, parameters: &[NamedParam]) -> Result<(), AllocError>
     ensures { OnOk result (string_bytes text.new ≡ string_bytes text.old ++ parameters_text (map named parameters.now)) }
 {
     match parameters.split_first() {
-        None => text.push_str("void")?,
+        None => text.push_str("void"),
         Some((first, later)) => {
             push_parameter(text, first)?;
-            for parameter in later {
-                text.push_str(",\n    ")?;
-                push_parameter(text, parameter)?;
-            }
+            push_later(text, later)
         }
     }
-    Ok(())
 }
 
 /// The type of a result, at the end of a text.
@@ -108,41 +117,67 @@ fn push_result(text: &mut String, returned: Option<ResultSlot>) -> Result<(), Al
 fn push_comment(text: &mut String, function: &Function<'_>) -> Result<(), AllocError>
     ensures { OnOk result (string_bytes text.new ≡ string_bytes text.old ++ comment_lines (parts_of function.now)) }
 {
-    let name = function.name;
-    let profile = profile_text(function.image.profile());
-    writeln!(text, "/* {name}: made by factc function.")?;
+    text.push_str("/* ")?;
+    text.push_str(function.name)?;
+    text.push_str(": made by factc function.\n")?;
     text.push_str(
         "   Arrays are aligned by their elements, lie outside the stack below the caller, and no two that are not const overlap.\n",
     )?;
-    writeln!(
-        text,
-        "   Neither time nor addresses hang on what is secret, for an observer of profile {profile}. */"
+    text.push_str(
+        "   Neither time nor addresses hang on what is secret, for an observer of profile ",
     )?;
-    Ok(())
+    text.push_str(profile_text(function.image.profile()))?;
+    text.push_str(". */\n")
+}
+
+/// The macro that keeps the header from being read twice, at the end of a text.
+fn push_guard_name(text: &mut String, name: &str) -> Result<(), AllocError>
+    ensures { OnOk result (string_bytes text.new ≡ string_bytes text.old ++ guard_name name.now) }
+{
+    text.push_str("FACT_")?;
+    text.push_str(name)?;
+    text.push_str("_H")
+}
+
+/// The macro of the bytes of stack, at the end of a text.
+fn push_stack_name(text: &mut String, name: &str) -> Result<(), AllocError>
+    ensures { OnOk result (string_bytes text.new ≡ string_bytes text.old ++ stack_name name.now) }
+{
+    text.push_str(name)?;
+    text.push_str("_STACK_BYTES")
+}
+
+/// That it is not read twice, at the end of a text.
+fn push_guard(text: &mut String, name: &str) -> Result<(), AllocError>
+    ensures { OnOk result (string_bytes text.new ≡ string_bytes text.old ++ guard_lines name.now) }
+{
+    text.push_str("#ifndef ")?;
+    push_guard_name(text, name)?;
+    text.push_str("\n#define ")?;
+    push_guard_name(text, name)?;
+    text.push_str("\n")
 }
 
 /// What the prototype stands on, at the end of a text.
-fn push_guard(text: &mut String, function: &Function<'_>) -> Result<(), AllocError>
-    ensures { OnOk result (string_bytes text.new ≡ string_bytes text.old ++ guard_lines (parts_of function.now)) }
+fn push_stack(text: &mut String, function: &Function<'_>) -> Result<(), AllocError>
+    ensures { OnOk result (string_bytes text.new ≡ string_bytes text.old ++ stack_lines (parts_of function.now)) }
 {
-    let name = function.name;
-    let room = room_of(&function.image);
-    write!(text, "#ifndef FACT_{name}_H\n#define FACT_{name}_H\n")?;
-    write!(
-        text,
-        "#include <stdbool.h>\n#include <stdint.h>\n#define {name}_STACK_BYTES {room}\n"
-    )?;
-    Ok(())
+    text.push_str("#include <stdbool.h>\n#include <stdint.h>\n#define ")?;
+    push_stack_name(text, function.name)?;
+    text.push_str(" ")?;
+    push_number(text, u64::from(room_of(&function.image)))?;
+    text.push_str("\n")
 }
 
 /// The prototype, at the end of a text.
 fn push_prototype(text: &mut String, function: &Function<'_>) -> Result<(), AllocError>
     ensures { OnOk result (string_bytes text.new ≡ string_bytes text.old ++ prototype_lines (parts_of function.now)) }
 {
-    let name = function.name;
     text.push_str("#ifdef __cplusplus\nextern \"C\" {\n#endif\n")?;
     push_result(text, function.image.returned())?;
-    write!(text, " {name}(\n    ")?;
+    text.push_str(" ")?;
+    text.push_str(function.name)?;
+    text.push_str("(\n    ")?;
     push_parameters(text, function.parameters.as_slice())?;
     text.push_str(");\n#ifdef __cplusplus\n}\n#endif\n#endif\n")
 }
@@ -154,7 +189,8 @@ pub fn header_text(alloc: Global, function: &Function<'_>) -> Result<String, All
 {
     let mut text = String::new(alloc);
     push_comment(&mut text, function)?;
-    push_guard(&mut text, function)?;
+    push_guard(&mut text, function.name)?;
+    push_stack(&mut text, function)?;
     push_prototype(&mut text, function)?;
     Ok(text)
 }

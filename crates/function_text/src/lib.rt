@@ -8,7 +8,7 @@ mod function;
 mod header;
 mod laws;
 mod lines;
-mod names;
+mod naming;
 #[cfg(test)]
 mod tests;
 mod texts;
@@ -18,5 +18,5 @@ pub use fault::FunctionFault;
 pub use function::{Function, NamedParam, function_of};
 pub use header::header_text;
 pub use laws::functions_agree;
-pub use names::is_taken_name;
+pub use naming::is_taken_name;
 pub use texts::{Texts, texts_of};

@@ -3,7 +3,7 @@
 ghost use Rattle.std.specs.Prelude.{◌≡◌, ◌++◌, OnOk, List, ℕ, codes};
 ghost use Rattle.std.specs.Fmt.{decimal};
 ghost use Rattle.std.specs.String.{string_bytes};
-ghost use Rattle.function_text.specs.AssemblerText.{word_line, title_line, frame_line, argument_title, section_title, kept_line, restored_line, change_lines, end_line, instruction_lines};
+ghost use Rattle.function_text.specs.AssemblerText.{eight_digits, word_line, title_line, frame_line, argument_title, section_title, kept_line, restored_line, change_lines, end_line, instruction_lines};
 ghost use Rattle.listing.specs.Code.{IsTextOf};
 ghost use Rattle.rv_code.specs.Text.{text_of};
 
@@ -15,10 +15,26 @@ use std::alloc::{AllocError, Global};
 use std::fmt::Write;
 
 /// A word with its instruction as a comment.
-fn push_told(text: &mut String, word: u32, instruction: Instr) -> Result<(), AllocError>
-    ensures { OnOk result (string_bytes text.new ≡ string_bytes text.old ++ word_line word (text_of instruction)) }
+fn push_told(text: &mut String, word: u32, instruction: &Instr) -> Result<(), AllocError>
+    ensures { OnOk result (string_bytes text.new ≡ string_bytes text.old ++ word_line word (text_of instruction.now)) }
 {
     writeln!(text, "    .word 0x{word:08x}  # {instruction}")?;
+    Ok(())
+}
+
+/// A number in decimal.
+pub fn push_number(text: &mut String, number: u64) -> Result<(), AllocError>
+    ensures { OnOk result (string_bytes text.new ≡ string_bytes text.old ++ decimal number) }
+{
+    write!(text, "{number}")?;
+    Ok(())
+}
+
+/// A word in eight hexadecimal digits.
+fn push_digits(text: &mut String, word: u32) -> Result<(), AllocError>
+    ensures { OnOk result (string_bytes text.new ≡ string_bytes text.old ++ eight_digits word) }
+{
+    write!(text, "{word:08x}")?;
     Ok(())
 }
 
@@ -26,8 +42,11 @@ fn push_told(text: &mut String, word: u32, instruction: Instr) -> Result<(), All
 fn push_illegal(text: &mut String, word: u32) -> Result<(), AllocError>
     ensures { OnOk result (string_bytes text.new ≡ string_bytes text.old ++ word_line word (codes "illegal")) }
 {
-    writeln!(text, "    .word 0x{word:08x}  # illegal")?;
-    Ok(())
+    text.push_str("    .word 0x")?;
+    push_digits(text, word)?;
+    text.push_str("  # ")?;
+    text.push_str("illegal")?;
+    text.push_str("\n")
 }
 
 /// A word of an image.
@@ -35,7 +54,7 @@ pub fn push_word(text: &mut String, word: u32) -> Result<(), AllocError>
     ensures { OnOk result ((told : List ℕ) × IsTextOf word told × (string_bytes text.new ≡ string_bytes text.old ++ word_line word told)) }
 {
     match decode(word) {
-        Some(instruction) => push_told(text, word, instruction),
+        Some(instruction) => push_told(text, word, &instruction),
         None => push_illegal(text, word),
     }
 }
@@ -44,8 +63,11 @@ pub fn push_word(text: &mut String, word: u32) -> Result<(), AllocError>
 fn push_frame(text: &mut String, register: u32, distance: u32) -> Result<(), AllocError>
     ensures { OnOk result (string_bytes text.new ≡ string_bytes text.old ++ frame_line register distance) }
 {
-    writeln!(text, "    .cfi_def_cfa {register}, {distance}")?;
-    Ok(())
+    text.push_str("    .cfi_def_cfa ")?;
+    push_number(text, u64::from(register))?;
+    text.push_str(", ")?;
+    push_number(text, u64::from(distance))?;
+    text.push_str("\n")
 }
 
 /// What the form of an argument is called.
@@ -107,10 +129,10 @@ pub fn push_title(text: &mut String, section: Section) -> Result<(), AllocError>
 }
 
 /// Where a register of the caller is kept, below the caller's x2.
-fn push_kept(text: &mut String, instruction: Instr) -> Result<(), AllocError>
-    ensures { OnOk result (string_bytes text.new ≡ string_bytes text.old ++ kept_line instruction) }
+fn push_kept(text: &mut String, instruction: &Instr) -> Result<(), AllocError>
+    ensures { OnOk result (string_bytes text.new ≡ string_bytes text.old ++ kept_line instruction.now) }
 {
-    match instruction {
+    match *instruction {
         Instr::Store(_, register, _, offset) => {
             let register = register.number();
             let below = ABOVE_FRAME.saturating_sub(u32::from(offset.field()));
@@ -122,22 +144,22 @@ fn push_kept(text: &mut String, instruction: Instr) -> Result<(), AllocError>
 }
 
 /// That a register is the caller's again.
-fn push_restored(text: &mut String, instruction: Instr) -> Result<(), AllocError>
-    ensures { OnOk result (string_bytes text.new ≡ string_bytes text.old ++ restored_line instruction) }
+fn push_restored(text: &mut String, instruction: &Instr) -> Result<(), AllocError>
+    ensures { OnOk result (string_bytes text.new ≡ string_bytes text.old ++ restored_line instruction.now) }
 {
-    match instruction {
+    match *instruction {
         Instr::Load(_, register, _, _) => {
-            let register = register.number();
-            writeln!(text, "    .cfi_restore {register}")?;
-            Ok(())
+            text.push_str("    .cfi_restore ")?;
+            push_number(text, u64::from(register.number()))?;
+            text.push_str("\n")
         }
         _ => Ok(()),
     }
 }
 
 /// What changes for a debugger by an instruction of a section.
-fn push_change(text: &mut String, section: Section, instruction: Instr) -> Result<(), AllocError>
-    ensures { OnOk result (string_bytes text.new ≡ string_bytes text.old ++ change_lines section instruction) }
+fn push_change(text: &mut String, section: Section, instruction: &Instr) -> Result<(), AllocError>
+    ensures { OnOk result (string_bytes text.new ≡ string_bytes text.old ++ change_lines section instruction.now) }
 {
     match section {
         Section::SavedRegisters => push_kept(text, instruction),
@@ -150,11 +172,11 @@ fn push_change(text: &mut String, section: Section, instruction: Instr) -> Resul
 pub fn push_instruction(
     text: &mut String,
     section: Section,
-    instruction: Instr,
+    instruction: &Instr,
 ) -> Result<(), AllocError>
-    ensures { OnOk result (string_bytes text.new ≡ string_bytes text.old ++ instruction_lines section instruction) }
+    ensures { OnOk result (string_bytes text.new ≡ string_bytes text.old ++ instruction_lines section instruction.now) }
 {
-    let word = encode(instruction);
+    let word = encode(*instruction);
     push_told(text, word, instruction)?;
     push_change(text, section, instruction)
 }

@@ -1,4 +1,4 @@
-use crate::{assembler_text, function_of, header_text};
+use crate::{assembler_text, function_of, header_text, texts_of};
 use language::Profile;
 use std::test::Fail;
 
@@ -12,6 +12,40 @@ fn writes_the_texts_of_a_function(rt: HostRuntime) -> Result<(), Fail> {
             assert_eq!(rt; text.as_str(), ADD_ONE_ASSEMBLER);
             let header = header_text(rt.alloc(), &function)?;
             assert_eq!(rt; header.as_str(), ADD_ONE_HEADER);
+        }
+        Err(_) => assert!(rt; false),
+    }
+    Ok(())
+}
+
+#[test]
+fn refuses_the_name_of_a_register(rt: HostRuntime) -> Result<(), Fail> {
+    let text = "export public uint32 a0(public uint32 n) { return n; }";
+    match function_of(rt.alloc(), text, Profile::P1) {
+        Ok(_) => assert!(rt; false),
+        Err(fault) => {
+            let line = format!(in rt.alloc(); "{fault}")?;
+            assert_eq!(rt; line.as_str(), "F1 at 1:22: name");
+        }
+    }
+    Ok(())
+}
+
+#[test]
+fn keeps_names_of_parameters_apart(rt: HostRuntime) -> Result<(), Fail> {
+    let text =
+        "export void f(secret uint8[2] int, secret mut bool[3] int_, public uint16 n) { int_[0] = n == 0u16; }";
+    match texts_of(rt.alloc(), text, Profile::P2) {
+        Ok(texts) => {
+            let expected =
+                "void f(\n    const uint8_t int_[2] /* secret */,\n    bool int__[3] /* secret */,\n    uint16_t n /* public */);\n";
+            assert!(rt; texts.header.as_str().contains(expected));
+            assert!(rt;
+                texts
+                    .header
+                    .as_str()
+                    .contains("for an observer of profile 2. */\n")
+            );
         }
         Err(_) => assert!(rt; false),
     }

@@ -5,5 +5,5 @@ use Rattle.function_text.proofs.function.named_params.Given as goal
 
 abbrev pub invariant-loop-parameter : goal.invariant-loop-parameter
 invariant-loop-parameter l =
-    map named l.params.items ++ map (λ p. written_parameter l.macros.function.now (parameter_tree p)) (drop l.parameter-index l.parameters)
-    ≡ map (λ p. written_parameter l.fn.macros.function.now (parameter_tree p)) l.fn.parameters
+    map named l.params.items ++ map (written_parameter l.macros.function.now) (map parameter_tree (drop l.parameter-index l.parameters))
+    ≡ map (written_parameter l.fn.macros.function.now) (map parameter_tree l.fn.parameters)

@@ -2,7 +2,7 @@
 
 ghost use Rattle.std.specs.Prelude.{◌≡◌, IfOk};
 ghost use Rattle.std.specs.String.{string_bytes};
-ghost use Rattle.function_text.specs.Names.{is_compilers, is_integers, is_taken_name, guard_name, stack_name, is_taken_in, written_name};
+ghost use Rattle.function_text.specs.Names.{is_c_word, is_cpp_word, is_register, is_other_word, is_compilers, is_integers, is_taken_name, guard_name, stack_name, is_taken_in, written_name};
 
 use std::alloc::{AllocError, Global};
 
@@ -14,8 +14,8 @@ const C_WORDS: [&str; 39] = [
     "union", "unsigned", "void", "volatile", "while", "asm", "typeof", "bool", "true", "false",
 ];
 
-/// Keywords that C++17 has beside these.
-const CPP_WORDS: [&str; 47] = [
+/// Keywords that C++20 has beside these.
+const CPP_WORDS: [&str; 55] = [
     "alignas",
     "alignof",
     "and",
@@ -23,12 +23,19 @@ const CPP_WORDS: [&str; 47] = [
     "bitand",
     "bitor",
     "catch",
+    "char8_t",
     "char16_t",
     "char32_t",
     "class",
+    "co_await",
+    "co_return",
+    "co_yield",
     "compl",
+    "concept",
     "const_cast",
+    "consteval",
     "constexpr",
+    "constinit",
     "decltype",
     "delete",
     "dynamic_cast",
@@ -49,6 +56,7 @@ const CPP_WORDS: [&str; 47] = [
     "protected",
     "public",
     "reinterpret_cast",
+    "requires",
     "static_assert",
     "static_cast",
     "template",
@@ -90,17 +98,48 @@ const OTHER_WORDS: [&str; 12] = [
     "WINT_MAX",
 ];
 
-/// `_` and a capital letter, or two `_`, which are the compiler's own.
+/// Whether C has a name as a word.
+#[tactic(auto, unfolding(crate::specs::Names::is_c_word))]
+fn is_c_word(name: &str) -> bool
+    ensures { result ≡ is_c_word name.now }
+{
+    C_WORDS.contains(&name)
+}
+
+/// Whether C++ has it.
+#[tactic(auto, unfolding(crate::specs::Names::is_cpp_word))]
+fn is_cpp_word(name: &str) -> bool
+    ensures { result ≡ is_cpp_word name.now }
+{
+    CPP_WORDS.contains(&name)
+}
+
+/// Whether it is a register's name.
+#[tactic(auto, unfolding(crate::specs::Names::is_register))]
+fn is_register(name: &str) -> bool
+    ensures { result ≡ is_register name.now }
+{
+    REGISTERS.contains(&name)
+}
+
+/// Whether it is a name of the other words.
+#[tactic(auto, unfolding(crate::specs::Names::is_other_word))]
+fn is_other_word(name: &str) -> bool
+    ensures { result ≡ is_other_word name.now }
+{
+    OTHER_WORDS.contains(&name)
+}
+
+/// Whether it is `_` and a capital letter, or two `_`, which are the compiler's own, and what follows.
+#[tactic(auto, unfolding(crate::specs::Names::is_compilers))]
 fn is_compilers(name: &[u8]) -> bool
     ensures { result ≡ is_compilers name.now }
 {
-    match name {
-        [b'_', second, ..] => *second == b'_' || second.is_ascii_uppercase(),
-        _ => false,
-    }
+    name.len() >= 2 && name[0] == b'_' && (name[1] == b'_' || name[1].is_ascii_uppercase())
 }
 
-/// What `<stdint.h>` may define: `intN_t` and `uintN_t` in all their forms, and their limits.
+/// Whether `<stdint.h>` may define it: `intN_t` and `uintN_t` in all their forms, and their limits.
+#[tactic(auto, unfolding(crate::specs::Names::is_integers))]
 fn is_integers(name: &[u8]) -> bool
     ensures { result ≡ is_integers name.now }
 {
@@ -112,13 +151,14 @@ fn is_integers(name: &[u8]) -> bool
 }
 
 /// Whether C, C++ or an assembler cannot take a name for a function.
+#[tactic(auto, unfolding(crate::specs::Names::is_taken_name))]
 pub fn is_taken_name(name: &str) -> bool
     ensures { result ≡ is_taken_name name.now }
 {
-    C_WORDS.contains(&name)
-        || CPP_WORDS.contains(&name)
-        || REGISTERS.contains(&name)
-        || OTHER_WORDS.contains(&name)
+    is_c_word(name)
+        || is_cpp_word(name)
+        || is_register(name)
+        || is_other_word(name)
         || is_compilers(name.as_bytes())
         || is_integers(name.as_bytes())
 }
@@ -150,7 +190,7 @@ pub(crate) fn macros_of<'a>(alloc: Global, function: &'a str) -> Result<Macros<'
 fn is_taken_in(macros: &Macros<'_>, name: &str) -> bool
     ensures { result ≡ is_taken_in macros.now.function.now name.now }
 {
-    is_taken_name(name) || name == macros.guard.as_str() || name == macros.stack.as_str()
+    is_taken_name(name) || macros.guard.as_str() == name || macros.stack.as_str() == name
 }
 
 /// The name that is written for a parameter of the function with these macros: with `_` behind where it is taken or
