@@ -16,7 +16,7 @@ pub struct Explanation {
     pub mended: &'static str,
 }
 
-/// The code with its name, the rule, and the two sources where there are any, each after a heading.
+/// The code with its name, the rule, and the two sources where there are any.
 impl fmt::Display for Explanation {
     ghost use Rattle.std.specs.Prelude.{Some};
     ghost use Rattle.explanations.specs.Text.{explanation_text};
@@ -28,13 +28,35 @@ impl fmt::Display for Explanation {
             code,
             name,
             rule,
-            violates,
-            mended,
+            ..
         } = *self;
-        write!(f, "{code}: {name}\n\n{rule}")?;
-        if violates.is_empty() {
+        let sources = Sources {
+            violates: self.violates,
+            mended: self.mended,
+        };
+        write!(f, "{code}: {name}\n\n{rule}{sources}")
+    }
+}
+
+/// A source that violates a rule and the same source mended, or two empty texts.
+#[derive(Clone, Copy)]
+struct Sources {
+    violates: &'static str,
+    mended: &'static str,
+}
+
+/// Each source after a heading; nothing where there are none.
+impl fmt::Display for Sources {
+    ghost use Rattle.std.specs.Prelude.{Some};
+    ghost use Rattle.explanations.specs.Text.{sources_text};
+
+    ghost output = { λ sources. Some (sources_text sources.violates.now sources.mended.now) };
+
+    fn fmt<W: fmt::Write>(&self, f: &mut fmt::Formatter<W>) -> fmt::Result {
+        if self.violates.is_empty() {
             return Ok(());
         }
+        let Sources { violates, mended } = *self;
         write!(f, "\n\nViolates it:\n\n{violates}\n\nMended:\n\n{mended}")
     }
 }
