@@ -143,16 +143,21 @@ fn push_kept(text: &mut String, instruction: &Instr) -> Result<(), AllocError>
     }
 }
 
-/// That a register is the caller's again.
+/// That the register of a number is the caller's again.
+fn push_back(text: &mut String, register: u8) -> Result<(), AllocError>
+    ensures { OnOk result (string_bytes text.new ≡ string_bytes text.old ++ (codes "    .cfi_restore " ++ decimal register ++ codes "\n")) }
+{
+    text.push_str("    .cfi_restore ")?;
+    push_number(text, u64::from(register))?;
+    text.push_str("\n")
+}
+
+/// That a register is the caller's again, where the instruction loads one.
 fn push_restored(text: &mut String, instruction: &Instr) -> Result<(), AllocError>
     ensures { OnOk result (string_bytes text.new ≡ string_bytes text.old ++ restored_line instruction.now) }
 {
     match *instruction {
-        Instr::Load(_, register, _, _) => {
-            text.push_str("    .cfi_restore ")?;
-            push_number(text, u64::from(register.number()))?;
-            text.push_str("\n")
-        }
+        Instr::Load(_, register, _, _) => push_back(text, register.number()),
         _ => Ok(()),
     }
 }
