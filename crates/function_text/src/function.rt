@@ -13,7 +13,7 @@ ghost use Rattle.language.specs.WantOfMemory.{IsWantOfMemory};
 use crate::fault::FunctionFault;
 use crate::naming::{Macros, is_taken_name, macros_of, written_name};
 use hepurita::build_as;
-use image::{Image, read};
+use image::{Image, ImageFault, read};
 use image_fields::ImageFields;
 use language::{Param, Parameter, Procedure, Profile, Program, Refusal};
 use std::alloc::{AllocError, Global};
@@ -89,7 +89,8 @@ fn image_of(alloc: Global, bytes: &[u8]) -> Result<ImageFields, Refusal>
 {
     match read(alloc, bytes) {
         Ok(image) => Ok(fields_of(alloc, &image)?),
-        Err(_) => Err(Refusal::memory()),
+        Err(ImageFault::Memory) => Err(Refusal::memory()),
+        Err(ImageFault::Field { .. }) => unreachable!(),
     }
 }
 
