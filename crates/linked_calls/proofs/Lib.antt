@@ -6,3 +6,4 @@ pub mod Bytes
 pub mod Parts
 pub mod Zeroing
 pub mod Copying
+pub mod Entering
