@@ -188,18 +188,22 @@ module _ (z : Setting) {E : Type 0} (one other : ℕ) (small : (one < 32) × (ot
             };
       }
 
-  -- a loop of so many rounds: before the round after which j are left, Left (suc j) holds
-  pub loop : (Left : ℕ → E → Data → Type 0) (p count n k : ℕ) → count < 1024 → 0 < count → p % 4 ≡ 0 → Placed z.code (p + 4 * count) (Branch Bne one other (back_over count) ∷ [])
-      → ((j : ℕ) → j ≤ k → Piece z E p (p + 4 * count) n (Left (suc j)) (Left j))
-      → ((e : E) (d : Data) → Left 0 e d → register d.regs one ≡ register d.regs other)
-      → ((j : ℕ) (e : E) (d : Data) → j < k → Left (suc j) e d → register d.regs one ≢ register d.regs other)
-      → Piece z E p (p + 4 * count + 4) (suc k * suc n) (Left (suc k)) (Left 0)
-  loop Left p count n zero few some even placed round over more =
-      to z refl (omega arith) (seq z (round 0 (omega arith)) (falls_through (p + 4 * count) count few some placed over))
-  loop Left p count n (suc k) few some even placed round over more =
-      to z refl (turns k)
-      (seq z (seq z (round (suc k) (omega arith)) (turns_back p count few some even placed (λ e d left. more k e d (omega arith) left)))
-      (loop Left p count n k few some even placed (λ j less. round j (omega arith)) over (λ j e d less left. more j e d (omega arith) left)))
-    where
-      turns : (k : ℕ) → n + 1 + suc k * suc n ≡ suc (suc k) * suc n
-      turns k = omega arith
+  -- A loop of so many rounds, each of which begins at a place that the one before has moved on to. What is known of
+  -- the places is known before any state; Left j holds where j rounds are left.
+  module _ (A : Type 0) (onward : A → A) (Known : ℕ → A → Type 0) (Left : ℕ → A → E → Data → Type 0) (Q : E → Data → Type 0) (p count n : ℕ)
+           (few : count < 1024) (some : 0 < count) (even : p % 4 ≡ 0) (placed : Placed z.code (p + 4 * count) (Branch Bne one other (back_over count) ∷ []))
+           (move : (j : ℕ) (a : A) → Known (suc (suc j)) a → Known (suc j) (onward a))
+           (round : (j : ℕ) (a : A) → Known (suc j) a → Piece z E p (p + 4 * count) n (Left (suc j) a) (Left j (onward a)))
+           (over : (a : A) (e : E) (d : Data) → Left 0 a e d → register d.regs one ≡ register d.regs other)
+           (more : (j : ℕ) (a : A) (e : E) (d : Data) → Known (suc j) a → Left (suc j) a e d → register d.regs one ≢ register d.regs other)
+           (finish : (a : A) (e : E) (d : Data) → Left 0 a e d → Q e d) where
+    pub loop : (k : ℕ) (a : A) → Known (suc k) a → Piece z E p (p + 4 * count + 4) (suc k * suc n) (Left (suc k) a) Q
+    loop zero a known =
+        to z refl (omega arith) (seq z (round 0 a known) (weaken z (λ e d left. left) (λ e d left. finish (onward a) e d left) (falls_through {P = Left 0 (onward a)} (p + 4 * count) count few some placed (over (onward a)))))
+    loop (suc k) a known =
+        to z refl (turns k)
+        (seq z (seq z (round (suc k) a known) (turns_back {P = Left (suc k) (onward a)} p count few some even placed (λ e d left. more k (onward a) e d (move k a known) left)))
+        (loop k (onward a) (move k a known)))
+      where
+        turns : (k : ℕ) → n + 1 + suc k * suc n ≡ suc (suc k) * suc n
+        turns k = omega arith
