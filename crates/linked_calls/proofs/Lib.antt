@@ -1,4 +1,3 @@
-pub mod Temp
 pub mod Steps
 pub mod Pieces
 pub mod Registers
