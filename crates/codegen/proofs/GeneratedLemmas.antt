@@ -8,7 +8,9 @@ use Rattle.codegen.specs.private.Generated.{program_code, result_slot, image_of}
 use Rattle.codegen.specs.private.Room.{HasRoom}
 use Rattle.expression_code.specs.Layout.{slots_from}
 use Rattle.codegen.proofs.ImageLemmas.{room_frame}
-use Rattle.codegen.proofs.WholeRuns.{followed}
+use Rattle.codegen.proofs.BodyRuns.{followed_in}
+use Rattle.codegen.proofs.WholeRuns.{stands_there, followed_whole}
+use Rattle.codegen.specs.Loaded.{code_at}
 use Rattle.image_fields.specs.Fields.{type_in}
 use Rattle.image_fields.specs.declared.slot.Slot.{Slot}
 use Rattle.inline.specs.declared.flat.FlatVariable.{FlatVariable}
@@ -39,5 +41,6 @@ is_generated p room =
       max_steps = refl;
       frame_size = room_frame p room;
       word_count = omega (arith, most, words);
-      follows = λ code frame bases. followed p room code frame bases;
+      follows = λ code frame bases. followed_whole p code frame bases (followed_in p room (code_at code (image_of p)) code frame (stands_there p code frame bases));
+      anywhere = λ code start frame there. followed_in p room code start frame there;
     }

@@ -19,5 +19,10 @@ pub mod StatementCode
 pub mod PlacedLemmas
 pub mod RoomLemmas
 pub mod ImageLemmas
+pub mod Standing
+pub mod Untouched
+pub mod WorkingRegisters
+pub mod WorkingStatements
+pub mod BodyRuns
 pub mod WholeRuns
 pub mod GeneratedLemmas

@@ -45,8 +45,8 @@ IsUntouched r = (r ≡ 1) ⊎ (r ≡ 3) ⊎ (r ≡ 4)
 abbrev pub IsBeside : Fields → ℕ → ℕ → Type 0
 IsBeside image frame a = (a < frame) ⊎ (frame + image.frame_bytes ≤ a)
 
--- a run of the body, which shows this list
-pub record RunsBehind (p : StraightProgram) (image : Fields) (code : Code) (start frame : ℕ) (args : List Arg) (s : State) (list : List Observation) : Type 0 where
+-- a run of the body from this state to behind its words, which shows this list
+pub record BodyRun (image : Fields) (code : Code) (start frame : ℕ) (s : State) (list : List Observation) : Type 0 where
   pub turns : ℕ
   pub end : State
   pub leads : Leads code turns s list end
@@ -58,7 +58,11 @@ pub record RunsBehind (p : StraightProgram) (image : Fields) (code : Code) (star
   pub untouched : (r : ℕ) → IsUntouched r → end.regs r ≡ s.regs r
   pub beside : (a : ℕ) → IsBeside image frame a → end.bytes a ≡ s.bytes a
   pub frame_there : (o : ℕ) → o < image.frame_bytes → is_some (end.bytes (frame + o)) ≡ true
-  pub outcome : results_in frame image end.bytes ≡ outcome_of p args
+
+-- the same on some arguments, whose outcome it leaves
+pub record RunsBehind (p : StraightProgram) (image : Fields) (code : Code) (start frame : ℕ) (args : List Arg) (s : State) (list : List Observation) : Type 0 where
+  pub run : BodyRun image code start frame s list
+  pub outcome : results_in frame image run.end.bytes ≡ outcome_of p args
 
 -- one list for what is seen of each path, whatever the arguments and the rest of the state
 pub record IsFollowedIn (p : StraightProgram) (image : Fields) (code : Code) (start frame : ℕ) : Type 0 where

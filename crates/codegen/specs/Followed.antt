@@ -5,13 +5,14 @@ use Rattle.std.specs.Option.{option_map}
 use Rattle.arguments.specs.Within.{AreWithin}
 use Rattle.branch_removal.specs.Straight.{StraightProgram}
 use Rattle.branch_removal.specs.StraightMeaning.{outcome_of, path_of}
+use Rattle.codegen.specs.Anywhere.{IsPlaced, IsFollowedIn}
 use Rattle.codegen.specs.Bases.{AreBases, IsInside}
 use Rattle.codegen.specs.Loaded.{params_of, code_at, loaded_at, results_in}
 use Rattle.image_fields.specs.Fields.{Fields, type_in}
 use Rattle.image_fields.specs.Limits.{most_frame_bytes}
 use Rattle.inline.specs.Path.{Path, AreFine, seen}
 use Rattle.rv_machine.specs.Leakage.{Halts}
-use Rattle.rv_machine.specs.Machine.{State}
+use Rattle.rv_machine.specs.Machine.{State, Code}
 use Rattle.rv_machine.specs.declared.observation.Observation.{Observation}
 use Rattle.rv_machine.specs.declared.stops.Stop.TheVariants.{Ecall}
 use Rattle.language.specs.declared.values.Arg.{Arg}
@@ -39,3 +40,5 @@ pub record IsGenerated (p : StraightProgram) (image : Fields) : Type 0 where
   pub frame_size : image.frame_bytes ≤ most_frame_bytes
   pub word_count : length image.words ≤ 32 * p.nodes + 64
   pub follows : (code frame : ℕ) → AreBases image code frame → IsFollowed p image code frame
+  -- and the body, wherever it stands
+  pub anywhere : (code : Code) (start frame : ℕ) → IsPlaced image code start frame → IsFollowedIn p image code start frame

@@ -1,6 +1,6 @@
 -- Registers and the stack as C code for RV32 uses them: RISC-V ABIs Specification, sections "Register Convention" and
 -- "Procedure Calling Convention" (ilp32).
-use Rattle.std.specs.Prelude.{ℕ, ◌+◌, ◌-◌, ◌*◌, ◌/◌, List, [], ◌∷◌}
+use Rattle.std.specs.Prelude.{ℕ, ◌+◌, ◌*◌, ◌/◌, List, [], ◌∷◌}
 
 -- ra: where a function goes back to
 abbrev pub link_register : ℕ

@@ -3,9 +3,8 @@
 --
 -- The room of a call lies below the caller's sp: the image's frame at its lower end, in whole blocks of 16 bytes, then the
 -- caller's s0 to s11, then a0 to a7, so that argument i stands in the i-th word from there on, also where C passes it on the stack.
-use Rattle.std.specs.Prelude.{ℕ, zero, suc, ◌+◌, ◌-◌, ◌*◌, ◌^◌, ◌==◌, List, [], ◌∷◌, ◌++◌, length, map, Option, Some, None, if◌then◌else◌}
+use Rattle.std.specs.Prelude.{ℕ, ◌+◌, ◌-◌, ◌*◌, ◌^◌, ◌==◌, List, [], ◌∷◌, ◌++◌, length, map, Option, Some, None, if◌then◌else◌}
 use Rattle.codegen.specs.Anywhere.{body_words}
-use Rattle.codegen.specs.private.Emitted.{store_by}
 use Rattle.expression_code.specs.TermCode.{load_code, store_code, constant_code, cut_code, is_not_zero_code, load_by}
 use Rattle.function_code.specs.Convention.{link_register, stack_register, saved_registers, argument_registers, result_register, scratch_registers, whole_blocks}
 use Rattle.image_fields.specs.Fields.{Fields}
@@ -24,7 +23,8 @@ use Rattle.rv_code.specs.declared.operations.BranchTest.TheVariants.{Bne}
 use Rattle.rv_code.specs.declared.operations.ImmediateOperation.TheVariants.{Addi}
 use Rattle.rv_code.specs.declared.operations.LoadOperation.TheVariants.{Lw}
 use Rattle.rv_code.specs.declared.operations.RegisterOperation.TheVariants.{Add, Sub}
-use Rattle.rv_code.specs.declared.operations.StoreOperation.TheVariants.{Sw}
+use Rattle.rv_code.specs.declared.operations.StoreOperation.{StoreOperation}
+use Rattle.rv_code.specs.declared.operations.StoreOperation.TheVariants.{Sb, Sh, Sw}
 
 -- Sizes.
 
@@ -113,12 +113,24 @@ element_meant_code Uint8 = []
 element_meant_code Uint16 = []
 element_meant_code Uint32 = []
 
+-- an element's store is as wide as the element
+abbrev pub store_by : Kind → StoreOperation
+store_by Boolean = Sb
+store_by Uint8 = Sb
+store_by Uint16 = Sh
+store_by Uint32 = Sw
+
+-- an element of the caller's array into the slot
+abbrev pub copied_in_code : Kind → List Instr
+copied_in_code kind = Load (load_by kind) 28 5 0 ∷ element_meant_code kind ++ Store (store_by kind) 28 6 0 ∷ next_code kind
+
+-- and of the slot into the caller's array
+abbrev pub copied_out_code : Kind → List Instr
+copied_out_code kind = Load (load_by kind) 28 6 0 ∷ Store (store_by kind) 28 5 0 ∷ next_code kind
+
 -- an array that the argument points to into its slot
 abbrev pub copy_in_code : Fields → ℕ → Slot → List Instr
-copy_in_code image i slot =
-    let kind = slot.param.kind in
-    bounds_code image i slot
-    ++ until_equal 5 7 (Load (load_by kind) 28 5 0 ∷ element_meant_code kind ++ Store (store_by kind) 28 6 0 ∷ next_code kind)
+copy_in_code image i slot = bounds_code image i slot ++ until_equal 5 7 (copied_in_code slot.param.kind)
 
 abbrev pub argument_code : Fields → ℕ → Slot → Form → List Instr
 argument_code image i slot SingleWord = word_code image i slot
@@ -144,9 +156,7 @@ result_code (Some slot) = load_code result_register slot.offset
 abbrev pub copy_out_code : Fields → ℕ → Slot → Form → List Instr
 copy_out_code image i slot SingleWord = []
 copy_out_code image i slot FixedArray = []
-copy_out_code image i slot MutableArray =
-    let kind = slot.param.kind in
-    bounds_code image i slot ++ until_equal 5 7 (Load (load_by kind) 28 6 0 ∷ Store (store_by kind) 28 5 0 ∷ next_code kind)
+copy_out_code image i slot MutableArray = bounds_code image i slot ++ until_equal 5 7 (copied_out_code slot.param.kind)
 
 -- all arrays that may be changed, from the i-th argument on
 abbrev pub results_code : Fields → ℕ → List Slot → List Instr
@@ -175,11 +185,3 @@ leave_code image =
 
 unfoldable pub function_words : Fields → List ℕ
 function_words image = map word_of (enter_code image) ++ body_words image.words ++ map word_of (leave_code image)
-
--- Turns: those of the code around the body, of which each loop makes so many as there are blocks or elements.
-
-abbrev pub load_turns : ℕ → ℕ
-load_turns offset = length (load_code 5 offset)
-
-abbrev pub constant_turns : ℕ → ℕ
-constant_turns n = length (constant_code 5 n)

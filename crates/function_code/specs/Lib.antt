@@ -1,2 +1,3 @@
 pub mod Convention
 pub mod FunctionCode
+pub mod Sections

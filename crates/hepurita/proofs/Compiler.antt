@@ -6,6 +6,7 @@ use Rattle.arguments.specs.Within.{AreWithin}
 use Rattle.branch_removal.specs.Removed.{IsRemoved}
 use Rattle.branch_removal.specs.Straight.{StraightProgram}
 use Rattle.branch_removal.specs.StraightMeaning.{outcome_of, path_of}
+use Rattle.codegen.specs.Anywhere.{IsPlaced, IsLoaded}
 use Rattle.codegen.specs.Bases.{AreBases}
 use Rattle.codegen.specs.Followed.{RunsAs, IsGenerated}
 use Rattle.codegen.specs.Loaded.{params_of, results_in}
@@ -14,14 +15,16 @@ use Rattle.inline.specs.FlatMeaning.{outcome_of as outcome_of_flat}
 use Rattle.inline.specs.Numbering.{flattened, param_of}
 use Rattle.inline.specs.Path.{seen as seen_of}
 use Rattle.intervals.specs.Work.{ranged, work_of}
-use Rattle.rv_machine.specs.Machine.{State}
+use Rattle.rv_machine.specs.Machine.{State, Code}
 use Rattle.rv_machine.proofs.RunLaws.{Halts-determined}
 use Rattle.language.specs.declared.signature.Param.{Param}
 use Rattle.language.specs.declared.typing.WordType.{WordType}
 use Rattle.language.specs.declared.values.Arg.{Arg}
+use Rattle.language.specs.Meaning.{gives}
 use Rattle.language.specs.Results.{Results}
 use Rattle.language.specs.Tree.{ProcedureTree, ProgramTree}
 use Rattle.hepurita.specs.Compiled.{Means, WholeRun, RunsTo, TwoRuns, IsCompiled}
+use Rattle.hepurita.specs.Linked.{RunsLinked, IsLinked}
 use Rattle.source_work.specs.SourceWork.{source_work}
 use Rattle.word.specs.declared.profile.Profile.{Profile}
 
@@ -98,6 +101,42 @@ module _ (profile : Profile) (program : ProgramTree) (before : List ProcedureTre
       (subst (λ (params : List Param). AgreeInPublic params p.result (outcome_of straight one) (outcome_of straight other)) (removed.parameters ∙ sym same_params)
       (subst (λ (returned : Option WordType). AgreeInPublic straight.parameters returned (outcome_of straight one) (outcome_of straight other)) removed.returned public)))
 
+  -- The body, wherever its words stand.
+
+  runs_linked : (code : Code) (start frame : ℕ) (there : IsPlaced image code start frame) (args : List Arg) (s : State) → s.pc ≡ start → IsLoaded image frame args s → AreWithin (params_of image) args
+      → RunsLinked program image code start frame args s ((generated.anywhere code start frame there).shown (seen_of straight.profile (path_of straight args)))
+  runs_linked code start frame there args s at laid fits =
+      let inner = straight_within args (within args fits) in
+      let follows = (generated.anywhere code start frame there).runs args s at laid inner (removed.fine args inner) in
+      record {
+        run = follows.run;
+        outcome = subst (λ (results : Results). Means program args results) (sym (follows.outcome ∙ removed.outcome args inner)) (means args (within args fits));
+      }
+
+  -- what the source means is the outcome of the straight code
+  meant : (args : List Arg) (results : Results) → AreWithin (map param_of p.parameters) args → Means program args results → results ≡ outcome_of straight args
+  meant args results fits known =
+      let same : gives results ≡ gives (outcome_of_flat (flattened profile before p) args) = (means args fits).alone (gives results) known.given in
+      let one : results ≡ outcome_of_flat (flattened profile before p) args = cc in
+      one ∙ sym (removed.outcome args (straight_within args fits))
+
+  agree_in_public : (args args' : List Arg) (results results' : Results) → Agree (params_of image) args args' → Means program args results → Means program args' results' → AgreeInPublic (params_of image) p.result results results'
+  agree_in_public args args' results results' agree known known' =
+      let both = agreeing args args' agree in
+      let public = removed.public args args' (straight_agreeing args args' both) in
+      subst (λ (x : Results). AgreeInPublic (params_of image) p.result x results') (sym (meant args results both.one_within known))
+      (subst (λ (y : Results). AgreeInPublic (params_of image) p.result (outcome_of straight args) y) (sym (meant args' results' both.other_within known'))
+      (subst (λ (params : List Param). AgreeInPublic params p.result (outcome_of straight args) (outcome_of straight args')) (removed.parameters ∙ sym same_params)
+      (subst (λ (returned : Option WordType). AgreeInPublic straight.parameters returned (outcome_of straight args) (outcome_of straight args')) removed.returned public)))
+
+  linked : (code : Code) (start frame : ℕ) → IsPlaced image code start frame → IsLinked program p image code start frame
+  linked code start frame there = record {
+    shown = λ args. (generated.anywhere code start frame there).shown (seen_of straight.profile (path_of straight args));
+    runs = runs_linked code start frame there;
+    equal_leakage = λ args args' agree. ap (generated.anywhere code start frame there).shown (removed.paths args args' (straight_agreeing args args' (agreeing args args' agree)));
+    public_results = agree_in_public;
+  }
+
   same_work : straight.work ≡ source_work before p
   same_work = removed.work ∙ sym same_source
 
@@ -112,4 +151,5 @@ module _ (profile : Profile) (program : ProgramTree) (before : List ProcedureTre
     results = runs_to;
     equal_leakage = same_list;
     public_results = same_results;
+    linked = linked;
   }

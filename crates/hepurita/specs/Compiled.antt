@@ -8,22 +8,18 @@ use Rattle.source_work.specs.SourceWork.{source_work}
 use Rattle.image_fields.specs.Fields.{Fields, type_in}
 use Rattle.image_fields.specs.Limits.{most_frame_bytes}
 use Rattle.rv_machine.specs.Leakage.{Halts}
-use Rattle.rv_machine.specs.Machine.{State}
+use Rattle.rv_machine.specs.Machine.{State, Code}
 use Rattle.rv_machine.specs.declared.observation.Observation.{Observation}
 use Rattle.rv_machine.specs.declared.stops.Stop.TheVariants.{Ecall}
 use Rattle.language.specs.declared.values.Arg.{Arg}
-use Rattle.language.specs.Meaning.{Ending, Gives, gives}
-use Rattle.language.specs.Results.{Results}
 use Rattle.language.specs.Size.{extents_of, nodes_of}
 use Rattle.language.specs.Tree.{ProcedureTree, ProgramTree}
 use Rattle.arguments.specs.Agreement.{Agree}
+use Rattle.codegen.specs.Anywhere.{IsPlaced}
 use Rattle.codegen.specs.Bases.{AreBases, IsInside}
 use Rattle.codegen.specs.Loaded.{params_of, code_at, loaded_at, results_in}
-
--- on these arguments the program gives these results, and nothing else: it meets no fault
-pub record Means (program : ProgramTree) (args : List Arg) (results : Results) : Type 0 where
-  pub given : Gives program args (gives results)
-  pub alone : (other : Ending Results) → Gives program args other → other ≡ gives results
+use Rattle.hepurita.specs.Linked.{IsLinked}
+pub use Rattle.hepurita.specs.Meant.{Means}
 
 -- the image's run on arguments, at these bases: from where it is loaded to the ECALL that stops it
 pub record WholeRun (image : Fields) (code frame : ℕ) (args : List Arg) : Type 0 where
@@ -63,3 +59,5 @@ pub record IsCompiled (program : ProgramTree) (before : List ProcedureTree) (p :
   pub equal_leakage : (runs : TwoRuns image) → runs.one.seen ≡ runs.other.seen
   -- and leave one and the same return and `mut` arrays, where these are public
   pub public_results : (runs : TwoRuns image) → AgreeInPublic (params_of image) p.result (results_in runs.frame image runs.one.end.bytes) (results_in runs.frame image runs.other.end.bytes)
+  -- and its body does the same wherever its words stand
+  pub linked : (code : Code) (start frame : ℕ) → IsPlaced image code start frame → IsLinked program p image code start frame

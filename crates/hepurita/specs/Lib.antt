@@ -1,5 +1,7 @@
 pub mod Bases
 pub mod Frames
+pub mod Meant
+pub mod Linked
 pub mod Compiled
 pub mod Executed
 pub mod Faults

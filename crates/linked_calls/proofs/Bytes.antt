@@ -6,7 +6,7 @@ use Rattle.std.proofs.Math.Nat.{pow-suc}
 use Rattle.std.proofs.lemmas.Bool.{cases_eq, cases_lt, false≢true}
 use Rattle.rv_machine.specs.Bytes.{ByteMap, joined, number_at, with_byte, with_number}
 use Rattle.rv_machine.proofs.ByteLaws.{number_at-zero, number_at-suc, number_at_same, number_at_apart, number_at-with_number, with_number-zero, with_number-suc, with_number_below, with_number_above, with_byte_same, with_byte_other, is_some-with_number}
-use Rattle.linked_calls.proofs.Temp.{with_numbers, numbers_at}
+use Rattle.codegen.specs.Loaded.{with_numbers, numbers_at}
 
 -- all bytes of a stretch are data
 abbrev pub AreData : ℕ → ℕ → ByteMap → Type 0

@@ -28,7 +28,9 @@ use Rattle.linked_calls.proofs.Parts.{Part, From, part, part_to, Runs}
 use Rattle.linked_calls.proofs.Pieces.{Setting, Piece, block, weaken, loop, Placed-left, Placed-right}
 use Rattle.linked_calls.proofs.Registers.{unwritten, one_fit}
 use Rattle.linked_calls.proofs.Steps.{Placed, Data, Step, plain, access, instrs, computed, after, Reaches, AreFit}
-use Rattle.linked_calls.proofs.Temp.{until_equal, added, next_code, element_meant_code, load_by, store_by, with_numbers, numbers_at}
+use Rattle.codegen.specs.Loaded.{with_numbers, numbers_at}
+use Rattle.expression_code.specs.TermCode.{load_by}
+use Rattle.function_code.specs.FunctionCode.{until_equal, added, next_code, element_meant_code, store_by}
 
 -- two stretches of so many bytes do not meet
 abbrev pub AreApart : ℕ → ℕ → ℕ → Type 0

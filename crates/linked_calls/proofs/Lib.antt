@@ -6,4 +6,3 @@ pub mod Bytes
 pub mod Parts
 pub mod Zeroing
 pub mod Copying
-pub mod Entering

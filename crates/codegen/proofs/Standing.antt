@@ -1,0 +1,79 @@
+-- Words that stand among others run as they do alone.
+use Rattle.std.proofs.Common.{◌≡◌, ℕ, zero, suc, ◌+◌, ◌-◌, ◌*◌, ◌/◌, ◌%◌, ◌^◌, ◌<◌, ◌==◌, ◌&&◌, Bool, true, false, cond, nat_le, List, [], ◌∷◌, ◌++◌, length, map, None, Some, slice_get, refl, sym, ap, ◌∙◌, subst, arith}
+use Rattle.std.proofs.lemmas.Bool.Decides.{nat_tests}
+use Rattle.std.proofs.lemmas.Option.{none-some}
+use Rattle.codegen.specs.Anywhere.{body_words, Stand}
+use Rattle.codegen.proofs.Placing.{placed}
+use Rattle.expression_code.proofs.Logic.{Placed}
+use Rattle.rv_code.specs.declared.instructions.Instr.{Instr}
+use Rattle.rv_code.specs.Words.{word_of}
+use Rattle.rv_machine.specs.declared.observation.Observation.{Observation}
+use Rattle.rv_machine.specs.Leakage.{Leads, stays, turns}
+use Rattle.rv_machine.specs.Machine.{State, Code, goes_on, word_at, Turn, executes}
+use Rattle.word.specs.declared.profile.Profile.{Profile}
+
+-- these words and no others, from an address on
+abbrev pub words_alone : Profile → ℕ → List ℕ → Code
+words_alone profile start words = record { profile = profile; base = start; words = words }
+
+-- the words but the last, where one word is the last
+pub body_words_before : (is : List Instr) (last : Instr) → body_words (map word_of (is ++ last ∷ [])) ≡ map word_of is
+body_words_before [] last = refl
+body_words_before (i ∷ []) last = refl
+body_words_before (i ∷ j ∷ is) last = ap (λ (ws : List ℕ). word_of i ∷ ws) (body_words_before (j ∷ is) last)
+
+pub stand_placed : (code : Code) (p : ℕ) (is : List Instr) → Placed code p is → Stand code p (map word_of is)
+stand_placed code p [] there = tt
+stand_placed code p (i ∷ is) there = (there.0, there.1, there.2, stand_placed code (p + 4) is there.3)
+
+-- standing words end below the last address
+stand_ends : (code : Code) (p w : ℕ) (ws : List ℕ) → Stand code p (w ∷ ws) → p + 4 * suc (length ws) < 2 ^ 32
+stand_ends code p w [] there = let next = there.1 in omega (arith, next)
+stand_ends code p w (v ∷ ws) there = let rest = stand_ends code (p + 4) v ws there.3 in omega (arith, rest)
+
+-- so the instructions have their places in the words alone
+pub placed_alone : (profile : Profile) (code : Code) (start : ℕ) (is : List Instr) → Stand code start (map word_of is) → Placed (words_alone profile start (map word_of is)) start is
+placed_alone profile code start [] there = tt
+placed_alone profile code start (i ∷ is) there =
+    let ends = stand_ends code start (word_of i) (map word_of is) there in
+    placed profile start (map word_of (i ∷ is)) [] (i ∷ is) start there.0 (omega (arith, ends)) refl (omega arith)
+
+-- One word.
+
+stand_at : (code : Code) (p : ℕ) (ws : List ℕ) (k w : ℕ) → Stand code p ws → slice_get ws k ≡ Some w → word_at code (p + 4 * k) ≡ Some w
+stand_at code p [] k w there is = absurd (none-some w is)
+stand_at code p (v ∷ ws) zero w there is =
+    let e : p ≡ p + 4 * 0 = omega arith in
+    subst (λ q. word_at code q ≡ Some w) e (there.2 ∙ is)
+stand_at code p (v ∷ ws) (suc k) w there is =
+    let e : p + 4 + 4 * k ≡ p + 4 * suc k = omega arith in
+    subst (λ q. word_at code q ≡ Some w) e (stand_at code (p + 4) ws k w there.3 is)
+
+-- which of the words begins at an address
+pub record IsWordAt (start : ℕ) (words : List ℕ) (q w : ℕ) : Type 0 where
+  pub number : ℕ
+  pub there : q ≡ start + 4 * number
+  pub is : slice_get words number ≡ Some w
+
+word_by : (start : ℕ) (words : List ℕ) (q w : ℕ) (b : Bool) → (nat_le start q && ((q - start) % 4 == 0)) ≡ b → cond b (slice_get words ((q - start) / 4)) None ≡ Some w → IsWordAt start words q w
+word_by start words q w true on is = record { number = (q - start) / 4; there = grind (arith, nat_tests); is = is }
+word_by start words q w false on is = absurd (none-some w is)
+
+pub word_alone : (profile : Profile) (start : ℕ) (words : List ℕ) (q w : ℕ) → word_at (words_alone profile start words) q ≡ Some w → IsWordAt start words q w
+word_alone profile start words q w is = word_by start words q w (nat_le start q && ((q - start) % 4 == 0)) refl is
+
+-- Turns.
+
+module _ (code : Code) (start : ℕ) (words : List ℕ) (there : Stand code start words) where
+  word_among : (q w : ℕ) → word_at (words_alone code.profile start words) q ≡ Some w → word_at code q ≡ Some w
+  word_among q w is =
+      let found = word_alone code.profile start words q w is in
+      subst (λ a. word_at code a ≡ Some w) (sym found.there) (stand_at code start words found.number w there found.is)
+
+  turn_among : {s t : State} {o : Observation} → Turn (words_alone code.profile start words) s (goes_on o t) → Turn code s (goes_on o t)
+  turn_among {s} (executes i even is ok ends) = executes i even (word_among s.pc (word_of i) is) ok ends
+
+  -- what words alone lead to, they lead to among others
+  pub leads_among : {n : ℕ} {s t : State} {seen : List Observation} → Leads (words_alone code.profile start words) n s seen t → Leads code n s seen t
+  leads_among stays = stays
+  leads_among (turns turn rest) = turns (turn_among turn) (leads_among rest)

@@ -1,0 +1,3 @@
+mod DistinctTexts
+mod FoundRows
+mod OneOfGroups

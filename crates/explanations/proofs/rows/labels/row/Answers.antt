@@ -1,0 +1,6 @@
+use Rattle.explanations.specs.Listed.{labels}
+use Rattle.explanations.proofs.rows.labels.row.Goals as goal
+
+pub returns-clause-known : goal.returns-clause-known
+unfolding labels
+returns-clause-known c = c.row_of.ensures.known

@@ -1,0 +1,6 @@
+use Rattle.explanations.specs.Listed.{runs}
+use Rattle.explanations.proofs.rows.runs.row.Goals as goal
+
+pub returns-clause-known : goal.returns-clause-known
+unfolding runs
+returns-clause-known c = c.row_of.ensures.known

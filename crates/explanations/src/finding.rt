@@ -1,0 +1,21 @@
+ghost use Rattle.std.specs.Prelude.{◌≡◌, ◌↔◌, map, IfSome, IsSome, Contains};
+ghost use Rattle.std.specs.List.{find};
+ghost use Rattle.std.specs.Str.{bytes_eq};
+
+use crate::row::Explanation;
+
+/// The row of a code: there is one exactly if a row has this code.
+pub fn row_of(rows: &[Explanation], code: &str) -> Option<Explanation>
+    ensures asked { IfSome result (λ row. row.code.now ≡ code.now) }
+    ensures known { IsSome result ↔ (Contains (map (λ row. row.code.now) rows.now) code.now) }
+{
+    first_of(rows, code)
+}
+
+/// The first row that has a code.
+fn first_of(rows: &[Explanation], code: &str) -> Option<Explanation>
+    ensures first { result ≡ find (λ row. bytes_eq row.code.now code.now) rows.now }
+    ensures asked { IfSome result (λ row. row.code.now ≡ code.now) }
+{
+    rows.iter().copied().find(|row| row.code == code)
+}

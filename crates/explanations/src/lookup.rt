@@ -1,0 +1,89 @@
+ghost use Rattle.std.specs.Prelude.{◌≡◌, ◌↔◌, map, IfSome, IsSome, Contains};
+ghost use Rattle.std.specs.List.{IsDistinct};
+ghost use Rattle.std.specs.Str.{bytes_eq};
+ghost use Rattle.explanations.specs.Listed.{listed};
+
+use crate::row::Explanation;
+use crate::rows::{files, labels, limits, names_and_types, reading, runs};
+
+/// All codes, in the order of the tables.
+const CODES: [&str; 57] = [
+    "X1",
+    "X2",
+    "X3",
+    "X4",
+    "X5",
+    "N1",
+    "N2",
+    "N3",
+    "N4",
+    "T1",
+    "T2",
+    "T3",
+    "T4",
+    "T5",
+    "T6",
+    "T7",
+    "T8",
+    "T9",
+    "L1",
+    "L2",
+    "L3",
+    "L4",
+    "L5",
+    "L6",
+    "L7",
+    "S1",
+    "S2",
+    "I1",
+    "I2",
+    "S3",
+    "M1",
+    "B1",
+    "B2",
+    "B3",
+    "B4",
+    "B5",
+    "B6",
+    "A1",
+    "A2",
+    "A3",
+    "H1",
+    "H2",
+    "H3",
+    "H4",
+    "C1",
+    "C2",
+    "C3",
+    "F1",
+    "E1",
+    "E2",
+    "Ecall",
+    "Break",
+    "Illegal",
+    "AccessFault",
+    "Misaligned",
+    "Budget",
+    "RecorderRefused",
+];
+
+/// What a code means: there is an answer exactly for the codes that are listed.
+pub fn explanation(code: &str) -> Option<Explanation>
+    ensures asked { IfSome result (λ row. row.code.now ≡ code.now) }
+    ensures listed { IsSome result ↔ (Contains listed code.now) }
+{
+    reading::row(code)
+        .or(names_and_types::row(code))
+        .or(labels::row(code))
+        .or(limits::row(code))
+        .or(files::row(code))
+        .or(runs::row(code))
+}
+
+/// The codes that are explained, each once.
+pub fn codes() -> &'static [&'static str]
+    ensures all { map (λ code. code.now) result.now ≡ listed }
+    ensures once { IsDistinct bytes_eq listed }
+{
+    &CODES
+}

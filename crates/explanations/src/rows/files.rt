@@ -1,0 +1,159 @@
+// Errors of images, arguments, files of harts, code from elsewhere, and functions for C.
+
+ghost use Rattle.std.specs.Prelude.{◌≡◌, ◌↔◌, IfSome, IsSome, Contains};
+ghost use Rattle.explanations.specs.Listed.{files};
+
+use crate::finding::row_of;
+use crate::row::Explanation;
+
+const ROWS: [Explanation; 17] = [
+    Explanation {
+        code: "B1",
+        name: "magic",
+        rule: "An image begins with the four bytes `FACI`, and this file does not. Often a source was given in\n\
+               place of the image.",
+        violates: "",
+        mended: "",
+    },
+    Explanation {
+        code: "B2",
+        name: "version",
+        rule: "Images have version 1 of the format, and this file states another one. It was damaged, or\n\
+               another program made it.",
+        violates: "",
+        mended: "",
+    },
+    Explanation {
+        code: "B3",
+        name: "profile",
+        rule: "An image states for which observer its code was made, 1 or 2, and this file states something\n\
+               else. It was damaged, or another program made it.",
+        violates: "",
+        mended: "",
+    },
+    Explanation {
+        code: "B4",
+        name: "truncated",
+        rule: "The file ends before the image does: a copy is incomplete, or a write failed. Build or copy it\n\
+               again.",
+        violates: "",
+        mended: "",
+    },
+    Explanation {
+        code: "B5",
+        name: "field out of range",
+        rule: "A field of the image has a value that is not allowed, for example an unknown type, a slot that\n\
+               overlaps the one before it or lies outside the frame, or 0 for `max_steps`. The byte that is\n\
+               named is the field's first. `build` and `wrap` never write such a file: it was damaged, or\n\
+               another program made it.",
+        violates: "",
+        mended: "",
+    },
+    Explanation {
+        code: "B6",
+        name: "trailing bytes",
+        rule: "There are bytes after the last code word of the image. It was damaged, or something was appended\n\
+               to it.",
+        violates: "",
+        mended: "",
+    },
+    Explanation {
+        code: "A1",
+        name: "argument count",
+        rule: "There is one argument for each parameter of the export, and for `pair` two, first those of the\n\
+               one run and then those of the other. An array is one argument: its numbers, joined by `,`\n\
+               without blanks.",
+        violates: "",
+        mended: "",
+    },
+    Explanation {
+        code: "A2",
+        name: "shape",
+        rule: "The argument is not a number, or does not have as many numbers as the parameter has elements. A\n\
+               number is decimal digits, or hexadecimal digits after `0x`; a bool is 0 or 1; the numbers of an\n\
+               array are joined by `,` without blanks. `?` is an argument of `certify` alone, for a secret\n\
+               parameter.",
+        violates: "",
+        mended: "",
+    },
+    Explanation {
+        code: "A3",
+        name: "value outside type",
+        rule: "A number is above the greatest value of its type: 1 for a bool, 255 for a `uint8`, 65535 for a\n\
+               `uint16`, 4294967295 for a `uint32`.",
+        violates: "",
+        mended: "",
+    },
+    Explanation {
+        code: "H1",
+        name: "line form",
+        rule: "A line of a file of harts is `hart PATH ARG ..`, `turns K N` or `round N`. One blank stands\n\
+               between two fields, and none at the ends of the line; K and N are decimal; all `hart` lines come\n\
+               before the other ones. An empty line and a carriage return are errors too.",
+        violates: "",
+        mended: "",
+    },
+    Explanation {
+        code: "H2",
+        name: "hart count",
+        rule: "A file of harts names at least one hart and at most 8.",
+        violates: "",
+        mended: "",
+    },
+    Explanation {
+        code: "H3",
+        name: "no such hart",
+        rule: "The line gives turns to a hart that there is not. The `hart` lines are numbered from 0.",
+        violates: "",
+        mended: "",
+    },
+    Explanation {
+        code: "H4",
+        name: "too many turns",
+        rule: "With this line there are more than 1048576 turns. `round N` counts as N turns of each hart,\n\
+               whether it has stopped or not.",
+        violates: "",
+        mended: "",
+    },
+    Explanation {
+        code: "C1",
+        name: "code length",
+        rule: "The file of code is empty, its length is not a multiple of 4 bytes, or it has more than 192064\n\
+               words. It holds the bare code, as `objcopy -O binary` writes it, and not an object file.",
+        violates: "",
+        mended: "",
+    },
+    Explanation {
+        code: "C2",
+        name: "frame",
+        rule: "`--frame` is the size of the frame in bytes: a multiple of 4, at most 65536, with room for the\n\
+               slots of all parameters and of the result. Code that a C compiler made needs room for its stack\n\
+               too.",
+        violates: "",
+        mended: "",
+    },
+    Explanation {
+        code: "C3",
+        name: "steps",
+        rule: "`--steps` is how many steps a run makes at most: 1 to 137438953536.",
+        violates: "",
+        mended: "",
+    },
+    Explanation {
+        code: "F1",
+        name: "name",
+        rule: "The name of the export becomes the name of a function in C and in the assembler's text, and it\n\
+               cannot have this one: it is a keyword or a type of C or C++, a register as `x5` or `a0`, or a\n\
+               name that C reserves, as one that begins with `__`. Give the export another name.",
+        violates: "export secret uint32 a0(secret uint32 x) { return x + 1; }",
+        mended: "export secret uint32 add_one(secret uint32 x) { return x + 1; }",
+    },
+];
+
+/// The row of a code of this group.
+pub fn row(code: &str) -> Option<Explanation>
+    ensures asked { IfSome result (λ row. row.code.now ≡ code.now) }
+    ensures known { IsSome result ↔ (Contains files code.now) }
+{
+    row_of(&ROWS, code)
+}

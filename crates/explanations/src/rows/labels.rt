@@ -1,0 +1,137 @@
+// Rules on labels: what keeps secrets from public values and from what an observer sees.
+
+ghost use Rattle.std.specs.Prelude.{◌≡◌, ◌↔◌, IfSome, IsSome, Contains};
+ghost use Rattle.explanations.specs.Listed.{labels};
+
+use crate::finding::row_of;
+use crate::row::Explanation;
+
+const ROWS: [Explanation; 7] = [
+    Explanation {
+        code: "L1",
+        name: "secret to public",
+        rule: "A secret value stands where a public one is expected. What is public may be seen, so nothing\n\
+               that is computed from a secret becomes public. Declare the variable, the parameter or the result\n\
+               `secret`. Nothing in the language makes a secret public: the caller alone decides what becomes\n\
+               of a secret result.",
+        violates: "export public uint32 f(secret uint32 x) { return x; }",
+        mended: "export secret uint32 f(secret uint32 x) { return x; }",
+    },
+    Explanation {
+        code: "L2",
+        name: "public assigned under secret control",
+        rule: "In the arms of an `if` on a secret nothing public is assigned to, and nothing public is declared\n\
+               with `mut`: whether it has changed would tell what the condition was. Declare it `secret`, or\n\
+               assign to it outside of the `if`.",
+        violates: "\
+export public bool f(secret bool s) {
+    public mut bool seen = false;
+    if (s) {
+        seen = true;
+    }
+    return seen;
+}",
+        mended: "\
+export secret bool f(secret bool s) {
+    secret mut bool seen = false;
+    if (s) {
+        seen = true;
+    }
+    return seen;
+}",
+    },
+    Explanation {
+        code: "L3",
+        name: "secret index",
+        rule: "An index is public, since an observer sees the address of each access. To take the element at a\n\
+               secret index, go through all elements with a counter and keep the right one by `select` or `if`.",
+        violates: "\
+export secret uint32 f(secret uint32 place, secret uint32[8] table) {
+    return table[place];
+}",
+        mended: "\
+export secret uint32 f(secret uint32 place, secret uint32[8] table) {
+    secret mut uint32 found = 0;
+    for (uint32 i from 0 to 8) {
+        found = select(i == place, table[i], found);
+    }
+    return found;
+}",
+    },
+    Explanation {
+        code: "L4",
+        name: "secret bound",
+        rule: "The bounds of a loop are public, since an observer sees how many iterations it has. Loop up to\n\
+               the greatest number that there may be, and put what is done into an `if` on the secret.",
+        violates: "\
+export secret uint32 f(secret uint32 n, secret uint8[16] bytes) {
+    secret mut uint32 sum = 0;
+    for (uint32 i from 0 to n) {
+        sum = sum + uint32(bytes[i]);
+    }
+    return sum;
+}",
+        mended: "\
+export secret uint32 f(secret uint32 n, secret uint8[16] bytes) {
+    secret mut uint32 sum = 0;
+    for (uint32 i from 0 to 16) {
+        if (i < n) {
+            sum = sum + uint32(bytes[i]);
+        }
+    }
+    return sum;
+}",
+    },
+    Explanation {
+        code: "L5",
+        name: "secret division operand",
+        rule: "Both operands of `/` and `%` are public, since the time of a division depends on them and an\n\
+               observer sees it. Divide a secret by a power of 2 with `>>` and `&`.",
+        violates: "export secret uint32 f(secret uint32 x) { return x / 8 + x % 8; }",
+        mended: "export secret uint32 f(secret uint32 x) { return (x >> 3) + (x & 7); }",
+    },
+    Explanation {
+        code: "L6",
+        name: "call assigns public under secret control",
+        rule: "In the arms of an `if` on a secret no procedure is called that may assign to something public:\n\
+               one with a public `mut` array parameter, one that declares something public with `mut`, and one\n\
+               that calls such a procedure. Make these secret, or call it outside of the `if`.",
+        violates: "\
+void count(public mut uint32[1] total) {
+    total[0] = total[0] + 1;
+}
+
+export void f(secret bool s, public mut uint32[1] total) {
+    if (s) {
+        count(total);
+    }
+}",
+        mended: "\
+void count(secret mut uint32[1] total) {
+    total[0] = total[0] + 1;
+}
+
+export void f(secret bool s, secret mut uint32[1] total) {
+    if (s) {
+        count(total);
+    }
+}",
+    },
+    Explanation {
+        code: "L7",
+        name: "secret multiplication operand",
+        rule: "In profile 2 both operands of `*` are public: it is for processors on which the time of a\n\
+               multiplication depends on them. Multiply a secret by a constant with shifts and sums, or compile\n\
+               for profile 1 if the processor multiplies in constant time.",
+        violates: "export secret uint32 f(secret uint32 x) { return x * 5; }",
+        mended: "export secret uint32 f(secret uint32 x) { return (x << 2) + x; }",
+    },
+];
+
+/// The row of a code of this group.
+pub fn row(code: &str) -> Option<Explanation>
+    ensures asked { IfSome result (λ row. row.code.now ≡ code.now) }
+    ensures known { IsSome result ↔ (Contains labels code.now) }
+{
+    row_of(&ROWS, code)
+}

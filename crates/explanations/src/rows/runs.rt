@@ -1,0 +1,93 @@
+// Errors of an evaluation, and the stops of a run.
+
+ghost use Rattle.std.specs.Prelude.{◌≡◌, ◌↔◌, IfSome, IsSome, Contains};
+ghost use Rattle.explanations.specs.Listed.{runs};
+
+use crate::finding::row_of;
+use crate::row::Explanation;
+
+const ROWS: [Explanation; 9] = [
+    Explanation {
+        code: "E1",
+        name: "no meaning",
+        rule: "While a source was evaluated an index was not below the length of its array, or a divisor was 0.\n\
+               Only the library answers this, for programs that were not checked: a source that `eval` accepts\n\
+               has no such index or divisor (I1, I2).",
+        violates: "",
+        mended: "",
+    },
+    Explanation {
+        code: "E2",
+        name: "budget",
+        rule: "More nodes of a source were evaluated than the budget allows, or more than 64 bodies were open\n\
+               at once. Only the library answers this: the budget of `eval` is enough for each source that it\n\
+               accepts (S1, S3).",
+        violates: "",
+        mended: "",
+    },
+    Explanation {
+        code: "Ecall",
+        name: "end by ECALL",
+        rule: "The code has ended as it should, by the instruction ECALL. The slots of the result and of the\n\
+               `mut` arrays hold the outcome.",
+        violates: "",
+        mended: "",
+    },
+    Explanation {
+        code: "Break",
+        name: "end by EBREAK",
+        rule: "The code has come to the instruction EBREAK. C compilers write it where the C code has undefined\n\
+               behaviour. `build` writes none.",
+        violates: "",
+        mended: "",
+    },
+    Explanation {
+        code: "Illegal",
+        name: "illegal instruction",
+        rule: "The word at the program counter is not an instruction of RV32IM. Compile for this set alone\n\
+               (`-march=rv32im`): compressed instructions, atomics and floating point are not in it.",
+        violates: "",
+        mended: "",
+    },
+    Explanation {
+        code: "AccessFault",
+        name: "access outside of code or data",
+        rule: "There is no code at the program counter, or a load or a store goes to a byte outside of the\n\
+               frame. In code that a C compiler made, the stack has usually run out of the frame, or an address\n\
+               is that of a table or a variable outside of functions, which have no place in an image.",
+        violates: "",
+        mended: "",
+    },
+    Explanation {
+        code: "Misaligned",
+        name: "misaligned address",
+        rule: "The address of a load or store is not a multiple of its size, or the target of a jump is not a\n\
+               multiple of 4. In code that a C compiler made, compare the layout of the frame with the slots.",
+        violates: "",
+        mended: "",
+    },
+    Explanation {
+        code: "Budget",
+        name: "out of steps",
+        rule: "The run has made as many steps as the image allows (`max_steps`) and has not ended. Give `wrap`\n\
+               a greater `--steps`, or look for a loop without end. What `build` compiled always ends in time.",
+        violates: "",
+        mended: "",
+    },
+    Explanation {
+        code: "RecorderRefused",
+        name: "trace out of memory",
+        rule: "There was no memory to keep what the next instruction shows, and the run ended before it. Only\n\
+               calls of the library with a recorder that keeps the trace answer this.",
+        violates: "",
+        mended: "",
+    },
+];
+
+/// The row of a code of this group.
+pub fn row(code: &str) -> Option<Explanation>
+    ensures asked { IfSome result (λ row. row.code.now ≡ code.now) }
+    ensures known { IsSome result ↔ (Contains runs code.now) }
+{
+    row_of(&ROWS, code)
+}

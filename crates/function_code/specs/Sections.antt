@@ -1,0 +1,96 @@
+-- The code of a function in sections, each with one purpose: what its text says of them, and how many turns they make.
+use Rattle.std.specs.Prelude.{ℕ, ◌+◌, ◌-◌, ◌*◌, ◌/◌, ◌==◌, List, [], ◌∷◌, ◌++◌, length, map, sum, if◌then◌else◌}
+use Rattle.std.specs.List.{flat_map}
+use Rattle.expression_code.specs.TermCode.{constant_code}
+use Rattle.function_code.specs.Convention.{link_register, stack_register, saved_registers, argument_registers, scratch_registers}
+use Rattle.function_code.specs.FunctionCode.{above_frame, frame_room, room_of, stores_code, loads_code, until_equal, added, zeros_code, argument_code, bounds_code, copied_in_code, copied_out_code, result_code, copy_out_code, wipe_code, clear_registers_code}
+use Rattle.function_code.specs.declared.sections.Section.{Section}
+use Rattle.function_code.specs.declared.sections.Section.TheVariants.{RoomAboveFrame, SavedRegisters, ArgumentRegisters, FrameBase, ClearedFrame, ArgumentIn, ResultOut, ArrayOut, FrameTop, RestoredRegisters, CallersStack, WipedRoom, ClearedRegisters, Return}
+use Rattle.image_fields.specs.Fields.{Fields}
+use Rattle.image_fields.specs.declared.slot.Slot.{Slot}
+use Rattle.language.specs.declared.signature.Form.{Form}
+use Rattle.language.specs.declared.signature.Form.TheVariants.{SingleWord, FixedArray, MutableArray}
+use Rattle.rv_code.specs.declared.instructions.Instr.{Instr}
+use Rattle.rv_code.specs.declared.instructions.Instr.TheVariants.{Register, JumpRegister}
+use Rattle.rv_code.specs.declared.operations.RegisterOperation.TheVariants.{Add, Sub}
+
+-- the sections of a frame that has room
+abbrev pub frame_sections : ℕ → List Section
+frame_sections room = if room == 0 then [] else FrameBase ∷ ClearedFrame ∷ []
+
+-- those of all arguments from the i-th on
+abbrev pub argument_sections : ℕ → List Slot → List Section
+argument_sections i [] = []
+argument_sections i (slot ∷ slots) = ArgumentIn i slot ∷ argument_sections (i + 1) slots
+
+-- before the body
+abbrev pub enter_sections : Fields → List Section
+enter_sections image =
+    RoomAboveFrame ∷ SavedRegisters ∷ ArgumentRegisters ∷ frame_sections (frame_room image) ++ argument_sections 0 image.slots
+
+-- only an array that may be changed goes back
+abbrev pub array_section : ℕ → Slot → Form → List Section
+array_section i slot SingleWord = []
+array_section i slot FixedArray = []
+array_section i slot MutableArray = ArrayOut i slot ∷ []
+
+-- of the arguments from the i-th on
+abbrev pub array_sections : ℕ → List Slot → List Section
+array_sections i [] = []
+array_sections i (slot ∷ slots) = array_section i slot slot.param.form ++ array_sections (i + 1) slots
+
+-- behind the body
+abbrev pub leave_sections : Fields → List Section
+leave_sections image =
+    ResultOut ∷ array_sections 0 image.slots
+    ++ FrameTop ∷ RestoredRegisters ∷ CallersStack ∷ WipedRoom ∷ ClearedRegisters ∷ Return ∷ []
+
+abbrev pub section_code : Fields → Section → List Instr
+section_code image RoomAboveFrame = added stack_register (4096 - above_frame) ∷ []
+section_code image SavedRegisters = stores_code stack_register 0 saved_registers
+section_code image ArgumentRegisters = stores_code stack_register 48 argument_registers
+section_code image FrameBase = constant_code 5 (frame_room image) ++ Register Sub 5 stack_register 5 ∷ []
+section_code image ClearedFrame = until_equal stack_register 5 (added stack_register (4096 - 16) ∷ zeros_code)
+section_code image (ArgumentIn i slot) = argument_code image i slot slot.param.form
+section_code image ResultOut = result_code image.returned
+section_code image (ArrayOut i slot) = copy_out_code image i slot slot.param.form
+section_code image FrameTop = constant_code 5 (frame_room image) ++ Register Add 5 5 stack_register ∷ []
+section_code image RestoredRegisters = loads_code 5 0 saved_registers
+section_code image CallersStack = added 5 above_frame ∷ []
+section_code image WipedRoom = wipe_code
+section_code image ClearedRegisters = clear_registers_code scratch_registers
+section_code image Return = JumpRegister 0 link_register 0 ∷ []
+
+abbrev pub code_of : Fields → List Section → List Instr
+code_of image sections = flat_map (section_code image) sections
+
+-- Turns. A loop makes its turns once for each block of 16 bytes, or for each element.
+
+abbrev pub block_turns : ℕ → ℕ
+block_turns room = 6 * (room / 16)
+
+-- so many instructions and the branch, once for each element
+abbrev pub element_turns : List Instr → ℕ → ℕ
+element_turns element count = (length element + 1) * count
+
+abbrev pub argument_turns : Fields → ℕ → Slot → Form → ℕ
+argument_turns image i slot SingleWord = length (argument_code image i slot SingleWord)
+argument_turns image i slot FixedArray =
+    length (bounds_code image i slot) + element_turns (copied_in_code slot.param.kind) slot.param.length
+argument_turns image i slot MutableArray =
+    length (bounds_code image i slot) + element_turns (copied_in_code slot.param.kind) slot.param.length
+
+abbrev pub array_turns : Fields → ℕ → Slot → ℕ
+array_turns image i slot =
+    length (bounds_code image i slot) + element_turns (copied_out_code slot.param.kind) slot.param.length
+
+abbrev pub section_turns : Fields → Section → ℕ
+section_turns image ClearedFrame = block_turns (frame_room image)
+section_turns image (ArgumentIn i slot) = argument_turns image i slot slot.param.form
+section_turns image (ArrayOut i slot) = array_turns image i slot
+section_turns image WipedRoom = block_turns (room_of image)
+section_turns image section = length (section_code image section)
+
+-- of all that stands around the body
+abbrev pub around_turns : Fields → ℕ
+around_turns image = sum (map (section_turns image) (enter_sections image ++ leave_sections image))

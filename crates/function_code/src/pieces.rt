@@ -1,0 +1,115 @@
+// Instructions that several sections have: registers to memory and back, loops, and zeros.
+
+ghost use Rattle.std.specs.Prelude.{◌≡◌, ◌≤◌, ◌<◌, ◌+◌, ◌*◌, ◌++◌, length, map, OnOk};
+ghost use Rattle.function_code.specs.FunctionCode.{stores_code, loads_code, until_equal, added, zeros_code, clear_registers_code, store_by};
+
+use language::Kind;
+use rv_code::{
+    BranchOffset, BranchTest, Immediate12, ImmediateOperation, Instr, LoadOperation, Reg,
+    StoreOperation,
+};
+use std::alloc::AllocError;
+
+/// The values that a branch's offset may have, in halves.
+const BRANCH_HALVES: u32 = 4096;
+
+/// A number added to a register; 4096 - n takes n away.
+pub fn added(register: Reg, n: u32) -> Instr
+    requires { n < 4096 }
+    ensures { result ≡ added register n }
+{
+    Instr::Immediate(
+        ImmediateOperation::Addi,
+        register,
+        register,
+        Immediate12::from_bits(n),
+    )
+}
+
+/// Registers into one word after another, from an offset of a base on.
+pub fn stores(
+    code: &mut Vec<Instr>,
+    base: Reg,
+    offset: u32,
+    registers: &[Reg],
+) -> Result<(), AllocError>
+    requires { offset + 4 * length registers.now ≤ 4096 }
+    ensures { OnOk result (code.new.items ≡ code.old.items ++ stores_code base offset registers.now) }
+{
+    let mut place = offset;
+    for register in registers {
+        let low = Immediate12::from_bits(place);
+        code.push(Instr::Store(StoreOperation::Sw, *register, base, low))?;
+        place += 4;
+    }
+    Ok(())
+}
+
+/// And back.
+pub fn loads(
+    code: &mut Vec<Instr>,
+    base: Reg,
+    offset: u32,
+    registers: &[Reg],
+) -> Result<(), AllocError>
+    requires { offset + 4 * length registers.now ≤ 4096 }
+    ensures { OnOk result (code.new.items ≡ code.old.items ++ loads_code base offset registers.now) }
+{
+    let mut place = offset;
+    for register in registers {
+        let low = Immediate12::from_bits(place);
+        code.push(Instr::Load(LoadOperation::Lw, *register, base, low))?;
+        place += 4;
+    }
+    Ok(())
+}
+
+/// Registers become 0.
+pub fn clear_registers(code: &mut Vec<Instr>, registers: &[Reg]) -> Result<(), AllocError>
+    ensures { OnOk result (code.new.items ≡ code.old.items ++ clear_registers_code registers.now) }
+{
+    for register in registers {
+        code.push(Instr::Immediate(
+            ImmediateOperation::Addi,
+            *register,
+            Reg::X0,
+            Immediate12::from_bits(0),
+        ))?;
+    }
+    Ok(())
+}
+
+/// Four words of zeros from x2 on.
+pub fn zeros(code: &mut Vec<Instr>) -> Result<(), AllocError>
+    ensures { OnOk result (code.new.items ≡ code.old.items ++ zeros_code) }
+{
+    stores(code, Reg::X2, 0, &[Reg::X0, Reg::X0, Reg::X0, Reg::X0])
+}
+
+/// Instructions, and again from the first on as long as two registers differ.
+pub fn until_equal(
+    code: &mut Vec<Instr>,
+    one: Reg,
+    other: Reg,
+    body: &[Instr],
+) -> Result<(), AllocError>
+    requires some { 0 < length body.now }
+    requires near { length body.now ≤ 1024 }
+    ensures { OnOk result (code.new.items ≡ code.old.items ++ until_equal one other body.now) }
+{
+    code.extend_from_slice(body)?;
+    let back = BranchOffset::from_halves(BRANCH_HALVES - 2 * body.len() as u32);
+    code.push(Instr::Branch(BranchTest::Bne, one, other, back))?;
+    Ok(())
+}
+
+/// How an element is stored: as wide as it is.
+pub fn store_by(kind: Kind) -> StoreOperation
+    ensures { result ≡ store_by kind }
+{
+    match kind {
+        Kind::Boolean | Kind::Uint8 => StoreOperation::Sb,
+        Kind::Uint16 => StoreOperation::Sh,
+        Kind::Uint32 => StoreOperation::Sw,
+    }
+}

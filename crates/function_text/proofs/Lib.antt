@@ -1,0 +1,4 @@
+pub mod AssembledLemmas
+pub mod FunctionLemmas
+pub mod TextLaws
+pub mod WordLines

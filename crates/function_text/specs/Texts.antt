@@ -1,0 +1,12 @@
+-- Both texts of the function of a text.
+use Rattle.std.specs.Prelude.{◌≡◌, ℕ, List}
+use Rattle.function_text.specs.AssemblerText.{IsAssemblerText}
+use Rattle.function_text.specs.Functions.{Parts, IsFunctionOf}
+use Rattle.function_text.specs.HeaderText.{header_text}
+use Rattle.word.specs.declared.profile.Profile.{Profile}
+
+pub record AreTextsOf (profile : Profile) (text assembler header : List ℕ) : Type 0 where
+  pub parts : Parts
+  pub function : IsFunctionOf profile text parts
+  pub assembled : IsAssemblerText parts assembler
+  pub declared : header ≡ header_text parts

@@ -1,0 +1,133 @@
+// The function of a text.
+
+ghost use Rattle.std.specs.Prelude.{◌≡◌, List, [], Some, map, IfOk, IfErr};
+ghost use Rattle.function_text.specs.Functions.{IsFunctionOf, IsFaultOf, IsUnlessMemory, named, parts_of, written_parameter};
+ghost use Rattle.function_text.specs.private.OfExport.{IsOfExport, IsTaken};
+ghost use Rattle.image.specs.Reading.{Spells};
+ghost use Rattle.image_fields.specs.Fields.{Fields, IsImage};
+ghost use Rattle.language.specs.Signature.{exported};
+ghost use Rattle.language.specs.Tree.{ProcedureTree, parameter_tree, procedure_tree, program_tree};
+ghost use Rattle.language.specs.WantOfMemory.{IsWantOfMemory};
+
+use crate::fault::FunctionFault;
+use crate::naming::{Macros, is_taken_name, macros_of, written_name};
+use hepurita::build_as;
+use image::{Image, read};
+use image_fields::ImageFields;
+use language::{Param, Parameter, Procedure, Profile, Program, Refusal};
+use std::alloc::{AllocError, Global};
+use syntax::{one_answer_for_a_text, parse};
+
+/// A parameter under the name that is written for it.
+#[derive(Debug, Drop)]
+pub struct NamedParam {
+    pub name: String,
+    pub param: Param,
+}
+
+/// A function for C: the code of the image of an accepted text, under the names of its export.
+#[derive(Debug, Drop)]
+pub struct Function<'a> {
+    pub name: &'a str,
+    pub parameters: Vec<NamedParam>,
+    pub image: ImageFields,
+}
+
+/// The fields of an image that was read.
+fn fields_of(alloc: Global, image: &Image) -> Result<ImageFields, AllocError>
+    ensures { IfOk result (λ fields. fields ≡ image.now) }
+{
+    let slots = image.slots().to_vec(alloc)?;
+    let words = image.words().to_vec(alloc)?;
+    Ok(ImageFields::new(
+        image.profile(),
+        slots,
+        image.returned(),
+        image.frame_bytes(),
+        image.max_steps(),
+        words,
+    ))
+}
+
+/// Parameters under the names that are written for them.
+fn named_params(
+    alloc: Global,
+    macros: &Macros<'_>,
+    parameters: &[Parameter<'_>],
+) -> Result<Vec<NamedParam>, AllocError>
+    ensures { IfOk result (λ params. map named params.items ≡ map (λ parameter. written_parameter macros.now.function.now (parameter_tree parameter)) parameters.now) }
+{
+    let mut params = Vec::with_capacity(alloc, parameters.len())?;
+    for parameter in parameters {
+        let name = written_name(alloc, macros, parameter.name)?;
+        params.push(NamedParam {
+            name,
+            param: parameter.param(),
+        })?;
+    }
+    Ok(params)
+}
+
+/// The export of a program that has one.
+fn export_of<'p, 'a>(program: &'p Program<'a>) -> &'p Procedure<'a>
+    requires { (before : List ProcedureTree) × (export : ProcedureTree) × (exported [] (program_tree program.now).procedures ≡ Some (before, export)) }
+    ensures { (before : List ProcedureTree) × (exported [] (program_tree program.now).procedures ≡ Some (before, procedure_tree result.now)) }
+{
+    match program.exported() {
+        Some((_, export)) => export,
+        None => unreachable!(),
+    }
+}
+
+/// The image that bytes spell.
+fn image_of(alloc: Global, bytes: &[u8]) -> Result<ImageFields, Refusal>
+    requires { (image : Fields) × Spells bytes.now image }
+    ensures spelled { IfOk result (λ image. Spells bytes.now image) }
+    ensures allowed { IfOk result IsImage }
+    ensures memory { IfErr result (λ refusal. IsWantOfMemory refusal.rule refusal.place) }
+{
+    match read(alloc, bytes) {
+        Ok(image) => Ok(fields_of(alloc, &image)?),
+        Err(_) => Err(Refusal::memory()),
+    }
+}
+
+/// The function of an export, whose image the bytes spell.
+fn of_export<'a>(
+    alloc: Global,
+    export: &Procedure<'a>,
+    bytes: &[u8],
+) -> Result<Function<'a>, FunctionFault<Refusal>>
+    requires { (image : Fields) × Spells bytes.now image }
+    ensures made { IfOk result (λ function. IsOfExport (procedure_tree export.now) bytes.now (parts_of function)) }
+    ensures fault { IfErr result (λ fault. IsUnlessMemory fault (IsTaken (procedure_tree export.now))) }
+{
+    let name = export.name;
+    if is_taken_name(name) {
+        return Err(FunctionFault::Name(export.place));
+    }
+    let image = image_of(alloc, bytes)?;
+    let macros = macros_of(alloc, name)?;
+    let parameters = named_params(alloc, &macros, export.parameters.as_slice())?;
+    Ok(Function {
+        name,
+        parameters,
+        image,
+    })
+}
+
+/// The function of a text that is accepted for an observer of this profile. A text that is not is refused as by
+/// `build_as`, before its names are looked at; then an export's name that C, C++ or an assembler cannot take.
+pub fn function_of<'a>(
+    alloc: Global,
+    text: &'a str,
+    profile: Profile,
+) -> Result<Function<'a>, FunctionFault<Refusal>>
+    ensures made { IfOk result (λ function. IsFunctionOf profile text.now (parts_of function)) }
+    ensures fault { IfErr result (IsFaultOf profile text.now) }
+{
+    let bytes = build_as(alloc, text, profile)?;
+    let program = parse(alloc, text)?;
+    one_answer_for_a_text();
+    of_export(alloc, export_of(&program), bytes.as_slice())
+}

@@ -1,0 +1,38 @@
+// Both texts of the function of a text.
+
+ghost use Rattle.std.specs.Prelude.{IfOk, IfErr};
+ghost use Rattle.std.specs.String.{string_bytes};
+ghost use Rattle.function_text.specs.Functions.{IsFaultOf};
+ghost use Rattle.function_text.specs.Texts.{AreTextsOf};
+
+use crate::assembler::assembler_text;
+use crate::fault::FunctionFault;
+use crate::function::function_of;
+use crate::header::header_text;
+use language::{Profile, Refusal};
+use std::alloc::Global;
+
+/// A function for C as files have it.
+#[derive(Debug, Drop)]
+pub struct Texts {
+    /// For a GNU or LLVM assembler.
+    pub assembler: String,
+    /// The C header.
+    pub header: String,
+}
+
+/// Both texts of the function of a text, for an observer of this profile. A text that is not accepted is refused as by
+/// `build_as`, then an export's name that C, C++ or an assembler cannot take.
+pub fn texts_of(
+    alloc: Global,
+    text: &str,
+    profile: Profile,
+) -> Result<Texts, FunctionFault<Refusal>>
+    ensures made { IfOk result (λ texts. AreTextsOf profile text.now (string_bytes texts.assembler) (string_bytes texts.header)) }
+    ensures fault { IfErr result (IsFaultOf profile text.now) }
+{
+    let function = function_of(alloc, text, profile)?;
+    let assembler = assembler_text(alloc, &function)?;
+    let header = header_text(alloc, &function)?;
+    Ok(Texts { assembler, header })
+}
