@@ -1,6 +1,6 @@
 -- The entry: room above the frame, the caller's registers and the arguments in it, and the frame zeroed.
 use Rattle.std.specs.Prelude.{is_some}
-use Rattle.std.proofs.Common.{◌≡◌, ◌≢◌, ℕ, zero, suc, ◌+◌, ◌-◌, ◌*◌, ◌%◌, ◌^◌, ◌<◌, ◌≤◌, ◌==◌, Bool, true, ◌&&◌, cond, nat_lt, List, [], ◌∷◌, ◌++◌, length, map, Option, Some, refl, sym, ap, ap₂, ◌∙◌, subst, arith, ne_eqb}
+use Rattle.std.proofs.Common.{◌≡◌, ◌≢◌, ℕ, zero, suc, ◌+◌, ◌-◌, ◌*◌, ◌%◌, ◌^◌, ◌<◌, ◌≤◌, ◌==◌, Bool, true, ◌&&◌, cond, nat_lt, if◌then◌else◌, ◌/◌, append_assoc, List, [], ◌∷◌, ◌++◌, length, map, Option, Some, refl, sym, ap, ap₂, ◌∙◌, subst, arith, ne_eqb}
 use Rattle.std.proofs.lemmas.Bool.Decides.{nat_tests}
 use Rattle.rv_code.specs.declared.instructions.Instr.{Instr}
 use Rattle.rv_code.specs.declared.instructions.Instr.TheVariants.{Immediate, Register, Store}
@@ -10,13 +10,16 @@ use Rattle.rv_machine.specs.declared.memory.Size.TheVariants.{Word}
 use Rattle.rv_machine.specs.Bytes.{ByteMap, number_at, with_number}
 use Rattle.rv_machine.specs.Effects.{sum_of, difference_of, sign_extended}
 use Rattle.rv_machine.specs.Registers.{register, with_register}
+use Rattle.codegen.specs.Loaded.{with_numbers}
+use Rattle.expression_code.specs.TermCode.{constant_code}
+use Rattle.function_code.specs.Convention.{saved_registers, argument_registers}
+use Rattle.function_code.specs.FunctionCode.{stores_code, entry_code, frame_code, until_equal, added, zeros_code}
 use Rattle.linked_calls.proofs.Bytes.{AreData, number_there, stays_data, AreZeroed, no_zeros}
 use Rattle.linked_calls.proofs.Copying.{MayStore}
 use Rattle.linked_calls.proofs.Parts.{Part, Runs, straight_runs, then_runs, weaken_runs, part_to, Sets, constant_part}
 use Rattle.linked_calls.proofs.Pieces.{Setting, Makes, AreAllowed}
 use Rattle.linked_calls.proofs.Registers.{unwritten, near_address, one_fit, three_fit}
 use Rattle.linked_calls.proofs.Steps.{Placed, Data, Step, plain, access, instrs, computed, after, Reaches, AreFit}
-use Rattle.linked_calls.proofs.Temp.{with_numbers, stores_code, saved_registers, argument_registers, entry_code, frame_code, until_equal, added, zeros_code, constant_code}
 use Rattle.linked_calls.proofs.Zeroing.{BeginsDown, EndsDown, zero_down}
 
 -- Registers into words, one after another.
@@ -163,4 +166,69 @@ module _ (z : Setting) (above : ℕ) (even : above % 16 ≡ 0) (below : above + 
         stack = ap (λ (r : ℕ → ℕ). r 2) stored.regs ∙ saved.stack;
         bytes = stored.bytes ∙ ap₂ (λ (b : ByteMap) (vs : List ℕ). with_numbers b 4 (above + 48) vs) saved.bytes (argument_values s t saved);
         others = λ q h. ap (λ (r : ℕ → ℕ). r q) stored.regs ∙ saved.others q h;
+      })
+
+-- The frame, zeroed.
+
+-- x2 is the end of the frame, whose bytes are data
+pub record BeginsFrame (bottom room : ℕ) (s : Data) : Type 0 where
+  pub stack : s.regs 2 ≡ bottom + room
+  pub there : AreData bottom (bottom + room) s.bytes
+
+-- x2 is its base, and it is zeros
+pub record Framed (bottom room : ℕ) (s t : Data) : Type 0 where
+  pub stack : t.regs 2 ≡ bottom
+  pub zeroed : AreZeroed bottom (bottom + room) s.bytes t.bytes
+  pub there : AreData bottom (bottom + room) t.bytes
+  pub others : (q : ℕ) → q ≢ 2 → q ≢ 5 → t.regs q ≡ s.regs q
+
+-- how many turns that takes: six a block, and those that make the frame's base
+abbrev pub frame_turns : ℕ → ℕ
+frame_turns room = if room == 0 then 0 else length (constant_code 5 room) + 1 + room / 16 * 6
+
+module _ (z : Setting) (bottom : ℕ) (even : bottom % 16 ≡ 0) where
+  -- x5 is the frame's base
+  record Based (room : ℕ) (s t : Data) : Type 0 where
+    stop : t.regs 5 ≡ bottom
+    same : t.bytes ≡ s.bytes
+    others : (q : ℕ) → q ≢ 5 → t.regs q ≡ s.regs q
+
+  taken_away : (room : ℕ) → bottom + room < 2 ^ 32 → difference_of (bottom + room) room ≡ bottom
+  taken_away room below = omega arith
+
+  based_runs : (room : ℕ) → bottom + room < 2 ^ 32 → Runs z (length (constant_code 5 room) + 1) (constant_code 5 room ++ Register Sub 5 2 5 ∷ []) (BeginsFrame bottom room) (Based room)
+  based_runs room below =
+      then_runs z (constant_code 5 room) (Register Sub 5 2 5 ∷ [])
+      (weaken_runs z (constant_code 5 room) (λ s begins. tt) (λ s t begins sets. sets) (constant_part z 5 room (omega arith) (λ e. omega arith) (omega (arith, below))))
+      (straight_runs z {P = λ s. (s.regs 5 ≡ room) × (s.regs 2 ≡ bottom + room)} {R = λ s t. t ≡ computed s 5 (difference_of (s.regs 2) (s.regs 5))} (plain (Register Sub 5 2 5) ∷ []) (z.silent, tt)
+      (λ s begins. record { fit = (refl, tt, tt); done = refl }))
+      (λ s t begins sets. (sets.there, sets.others 2 (λ e. omega arith) ∙ begins.stack))
+      (λ s t u begins sets made.
+      let two : t.regs 2 ≡ bottom + room = sets.others 2 (λ e. omega arith) ∙ begins.stack in
+      let five : t.regs 5 ≡ room = sets.there in
+      let v = difference_of (t.regs 2) (t.regs 5) in
+      record {
+        stop = ap (λ (x : Data). x.regs 5) made ∙ ap₂ difference_of two five ∙ taken_away room below;
+        same = ap (λ (x : Data). x.bytes) made ∙ sets.same;
+        others = λ q h. ap (λ (x : Data). x.regs q) made ∙ unwritten t.regs 5 v q h ∙ sets.others q h;
+      })
+
+  -- so many blocks more than one
+  blocks_run : (k : ℕ) → bottom + 16 * suc k < 2 ^ 32 → MayStore z 4 Word bottom (bottom + 16 * suc k)
+      → Runs z (length (constant_code 5 (16 * suc k)) + 1 + suc k * 6) ((constant_code 5 (16 * suc k) ++ Register Sub 5 2 5 ∷ []) ++ until_equal 2 5 (added 2 (4096 - 16) ∷ zeros_code)) (BeginsFrame bottom (16 * suc k)) (Framed bottom (16 * suc k))
+  blocks_run k below may =
+      let room = 16 * suc k in
+      let top = bottom + room in
+      then_runs z (constant_code 5 room ++ Register Sub 5 2 5 ∷ []) (until_equal 2 5 (added 2 (4096 - 16) ∷ zeros_code)) (based_runs room below)
+      (λ p placed. part_to z (omega arith) refl (zero_down z bottom top even below may p k placed.0 placed refl))
+      (λ s t begins based. record {
+        stack = based.others 2 (λ e. omega arith) ∙ begins.stack;
+        stop = based.stop;
+        there = λ x l h. ap (λ (b : ByteMap). is_some (b x)) based.same ∙ begins.there x l h;
+      })
+      (λ s t u begins based ends. record {
+        stack = ends.stack;
+        zeroed = subst (λ (b : ByteMap). AreZeroed bottom top b u.bytes) based.same ends.zeroed;
+        there = ends.there;
+        others = λ q h l. ends.others q h ∙ based.others q l;
       })
