@@ -247,7 +247,7 @@ MayLoad z n size low high = (x : ℕ) → low ≤ x → x + n ≤ high → z.all
 abbrev pub MayStore : Setting → ℕ → Size → ℕ → ℕ → Type 0
 MayStore z n size low high = (x : ℕ) → low ≤ x → x + n ≤ high → z.allowed (Some (event.Store x size))
 
-truth_same : (v : ℕ) → word_of (nat_lt 0 v) ≡ meant Boolean v
+pub truth_same : (v : ℕ) → word_of (nat_lt 0 v) ≡ meant Boolean v
 truth_same zero = refl
 truth_same (suc v) = ap word_of (one_fit 0 (suc v) (omega arith)) ∙ sym (ap (λ b. word_of (not b)) (ne_eqb (suc v) 0 (λ e. omega arith)))
 

@@ -1,4 +1,3 @@
-pub mod Temp
 pub mod Steps
 pub mod Pieces
 pub mod Registers
@@ -6,3 +5,5 @@ pub mod Bytes
 pub mod Parts
 pub mod Zeroing
 pub mod Copying
+pub mod Entering
+pub mod Taking
