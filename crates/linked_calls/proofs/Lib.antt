@@ -7,3 +7,4 @@ pub mod Zeroing
 pub mod Copying
 pub mod Entering
 pub mod Taking
+pub mod Leaving

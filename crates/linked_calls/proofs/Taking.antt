@@ -149,20 +149,27 @@ pub record Takes (goal : Data → ByteMap) (s t : Data) : Type 0 where
   pub bytes : t.bytes ≡ goal s
   pub others : (q : ℕ) → q ≢ 5 → q ≢ 6 → q ≢ 7 → q ≢ 28 → t.regs q ≡ s.regs q
 
-module _ (z : Setting) (frame offset raw slot : ℕ) (kind : Kind) (even : (frame + offset) % 4 ≡ 0) (below : frame + offset < 2 ^ 32) (may : z.allowed (Some (event.Load (frame + offset) Word))) where
-  pub record BeginsWord (s : Data) : Type 0 where
-    pub argument : BeginsArgument frame offset raw s
-    pub slot_there : is_some (number_at s.bytes 4 (frame + slot)) ≡ true
+-- x2 is the frame's base, an argument's word is in the room, and so is its slot
+pub record BeginsWord (frame offset slot : ℕ) (s : Data) : Type 0 where
+  pub stack : s.regs 2 ≡ frame
+  pub raw_there : is_some (number_at s.bytes 4 (frame + offset)) ≡ true
+  pub slot_there : is_some (number_at s.bytes 4 (frame + slot)) ≡ true
 
-  -- a word into its slot
+-- the bytes with what an argument's word means in its slot
+abbrev pub word_taken : ℕ → ℕ → ℕ → Kind → Data → ByteMap
+word_taken frame offset slot kind s = with_number s.bytes 4 (frame + slot) (meant kind (unwrap_or (number_at s.bytes 4 (frame + offset)) 0))
+
+module _ (z : Setting) (frame offset slot : ℕ) (kind : Kind) (even : (frame + offset) % 4 ≡ 0) (below : frame + offset < 2 ^ 32) (may : z.allowed (Some (event.Load (frame + offset) Word))) where
+  -- a word into its slot, with one list for all words
   pub word_runs : (frame + slot) % 4 ≡ 0 → frame + slot < 2 ^ 32 → z.allowed (Some (event.Store (frame + slot) Word))
-      → Runs z (length (load_code 5 offset) + (length (meant_code 5 kind) + length (store_code 5 slot))) ((load_code 5 offset ++ meant_code 5 kind) ++ store_code 5 slot) BeginsWord
-        (Takes (λ s. with_number s.bytes 4 (frame + slot) (meant kind raw)))
+      → Runs z (length (load_code 5 offset) + (length (meant_code 5 kind) + length (store_code 5 slot))) ((load_code 5 offset ++ meant_code 5 kind) ++ store_code 5 slot) (BeginsWord frame offset slot)
+        (Takes (word_taken frame offset slot kind))
   word_runs slot_even low may' =
       as_code z (length (load_code 5 offset) + (length (meant_code 5 kind) + length (store_code 5 slot))) (load_code 5 offset ++ (meant_code 5 kind ++ store_code 5 slot)) ((load_code 5 offset ++ meant_code 5 kind) ++ store_code 5 slot)
       (sym (append_assoc (load_code 5 offset) (meant_code 5 kind) (store_code 5 slot)))
-      (then_runs z {S = Takes (λ s. with_number s.bytes 4 (frame + slot) (meant kind raw))} (load_code 5 offset) (meant_code 5 kind ++ store_code 5 slot)
-      (weaken_runs z {P' = BeginsWord} (load_code 5 offset) (λ s begins. begins.argument) (λ s t begins sets. sets) (raw_runs z frame offset raw even below may))
+      (then_runs z {S = Takes (word_taken frame offset slot kind)} (load_code 5 offset) (meant_code 5 kind ++ store_code 5 slot)
+      (weaken_runs z {P' = BeginsWord frame offset slot} (load_code 5 offset) (λ s begins. record { stack = begins.stack; there = begins.raw_there }) (λ s t begins sets. sets)
+      (load_part z frame 5 offset (omega arith) (λ e. omega arith) (λ e. omega arith) even below may))
       (then_runs z {P = HasWord frame slot} {S = λ s t. (t.bytes ≡ with_number s.bytes 4 (frame + slot) (meant kind (s.regs 5))) × ((q : ℕ) → q ≢ 5 → q ≢ 28 → t.regs q ≡ s.regs q)} (meant_code 5 kind) (store_code 5 slot)
       (weaken_runs z (meant_code 5 kind) (λ s begins. tt) (λ s t begins means. means) (meant_runs z kind))
       (store_part z frame 5 slot (omega arith) (λ e. omega arith) (λ e. omega arith) slot_even low may')
@@ -170,7 +177,7 @@ module _ (z : Setting) (frame offset raw slot : ℕ) (kind : Kind) (even : (fram
       (λ s t u begins means puts.
       (puts.written ∙ ap (λ (b : ByteMap). with_number b 4 (frame + slot) (t.regs 5)) means.same ∙ means.there s.bytes (frame + slot), λ q h k. puts.others q k ∙ means.others q h)))
       (λ s t begins sets. record {
-        stack = sets.others 2 (λ e. omega arith) ∙ begins.argument.stack;
+        stack = sets.others 2 (λ e. omega arith) ∙ begins.stack;
         there = ap (λ (b : ByteMap). is_some (number_at b 4 (frame + slot))) sets.same ∙ begins.slot_there;
       })
       (λ s t u begins sets more. record {
@@ -178,6 +185,7 @@ module _ (z : Setting) (frame offset raw slot : ℕ) (kind : Kind) (even : (fram
         others = λ q h k l m. more.1 q h m ∙ sets.others q h;
       }))
 
+module _ (z : Setting) (frame offset raw slot : ℕ) (kind : Kind) (even : (frame + offset) % 4 ≡ 0) (below : frame + offset < 2 ^ 32) (may : z.allowed (Some (event.Load (frame + offset) Word))) where
   -- an array of one element or more, and its slot
   pub record BeginsArray (count : ℕ) (s : Data) : Type 0 where
     pub argument : BeginsArgument frame offset raw s
