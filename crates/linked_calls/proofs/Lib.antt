@@ -8,3 +8,4 @@ pub mod Copying
 pub mod Entering
 pub mod Taking
 pub mod Leaving
+pub mod AllArguments
