@@ -6,11 +6,8 @@ use Rattle.std.proofs.Math.Nat.{pow-suc}
 use Rattle.std.proofs.lemmas.Bool.{cases_eq, cases_lt, false≢true}
 use Rattle.rv_machine.specs.Bytes.{ByteMap, joined, number_at, with_byte, with_number}
 use Rattle.rv_machine.proofs.ByteLaws.{number_at-zero, number_at-suc, number_at_same, number_at_apart, number_at-with_number, with_number-zero, with_number-suc, with_number_below, with_number_above, with_byte_same, with_byte_other, is_some-with_number}
+pub use Rattle.linked_calls.specs.Stretches.{AreData, AreZeroed}
 use Rattle.codegen.specs.Loaded.{with_numbers, numbers_at}
-
--- all bytes of a stretch are data
-abbrev pub AreData : ℕ → ℕ → ByteMap → Type 0
-AreData low high bytes = (x : ℕ) → low ≤ x → x < high → is_some (bytes x) ≡ true
 
 is_some-joined : (a b : Option ℕ) → is_some (joined a b) ≡ (is_some a && is_some b)
 is_some-joined (Some x) (Some y) = refl
@@ -116,11 +113,6 @@ held_numbers bytes n a [] h = refl
 held_numbers bytes n a (v ∷ vs) h = ap₂ (λ x (xs : List ℕ). x ∷ xs) (ap (λ o. unwrap_or o 0) h.0) (held_numbers bytes n (a + n) vs h.1)
 
 -- Zeros.
-
--- zeros from one address to another, and else what was there
-pub record AreZeroed (low high : ℕ) (old new : ByteMap) : Type 0 where
-  pub inside : (x : ℕ) → low ≤ x → x < high → new x ≡ Some 0
-  pub outside : (x : ℕ) → (x < low) ⊎ (high ≤ x) → new x ≡ old x
 
 pub no_zeros : (a : ℕ) (bytes : ByteMap) → AreZeroed a a bytes bytes
 no_zeros a bytes = record { inside = λ x low high. absurd (omega (arith, low, high)); outside = λ x where'. refl }

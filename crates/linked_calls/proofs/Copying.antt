@@ -22,6 +22,7 @@ use Rattle.rv_machine.specs.Registers.{with_register}
 use Rattle.rv_machine.specs.Sizes.{byte_count}
 use Rattle.rv_machine.proofs.ByteLaws.{number_at_apart}
 use Rattle.word.specs.Operators.{word_of}
+use Rattle.linked_calls.specs.Copies.{AreApart}
 use Rattle.linked_calls.specs.Meant.{meant}
 use Rattle.linked_calls.proofs.Bytes.{AreData, number_there, stays_data, with_number_cut, Holds, numbers_hold, numbers_count}
 use Rattle.linked_calls.proofs.Parts.{Part, From, part, part_to, Runs}
@@ -31,10 +32,6 @@ use Rattle.linked_calls.proofs.Steps.{Placed, Data, Step, plain, access, instrs,
 use Rattle.codegen.specs.Loaded.{with_numbers, numbers_at}
 use Rattle.expression_code.specs.TermCode.{load_by}
 use Rattle.function_code.specs.FunctionCode.{until_equal, added, next_code, element_meant_code, store_by}
-
--- two stretches of so many bytes do not meet
-abbrev pub AreApart : ℕ → ℕ → ℕ → Type 0
-AreApart n one other = (one + n ≤ other) ⊎ (other + n ≤ one)
 
 -- where the copying is: in the caller's array, and in its slot
 pub record Spot : Type 0 where
@@ -247,7 +244,7 @@ MayLoad z n size low high = (x : ℕ) → low ≤ x → x + n ≤ high → z.all
 abbrev pub MayStore : Setting → ℕ → Size → ℕ → ℕ → Type 0
 MayStore z n size low high = (x : ℕ) → low ≤ x → x + n ≤ high → z.allowed (Some (event.Store x size))
 
-truth_same : (v : ℕ) → word_of (nat_lt 0 v) ≡ meant Boolean v
+pub truth_same : (v : ℕ) → word_of (nat_lt 0 v) ≡ meant Boolean v
 truth_same zero = refl
 truth_same (suc v) = ap word_of (one_fit 0 (suc v) (omega arith)) ∙ sym (ap (λ b. word_of (not b)) (ne_eqb (suc v) 0 (λ e. omega arith)))
 

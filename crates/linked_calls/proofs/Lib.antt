@@ -5,3 +5,7 @@ pub mod Bytes
 pub mod Parts
 pub mod Zeroing
 pub mod Copying
+pub mod Placing
+pub mod Zeros
+pub mod Copies
+pub mod Words

@@ -17,21 +17,13 @@ use Rattle.rv_machine.specs.Leakage.{Leads, stays}
 use Rattle.rv_machine.specs.Machine.{State, Code, word_at, IsAt, with_value, with_stored, moved_to}
 use Rattle.rv_machine.specs.Registers.{register, with_register}
 use Rattle.rv_machine.specs.Sizes.{byte_count}
+pub use Rattle.linked_calls.specs.Does.{Data, at}
 use Rattle.rv_machine.proofs.RunLaws.{Leads-append}
 use Rattle.rv_machine.proofs.TurnLaws.{upper_leads, immediate_leads, shift_leads, register_leads, load_leads, store_leads}
 
 abbrev pub Placed : Code → ℕ → List Instr → Type 0
 Placed code p [] = Unit {0}
 Placed code p (i ∷ is) = (p % 4 ≡ 0) × (p + 4 < 2 ^ 32) × (word_at code p ≡ Some (word_of i)) × Placed code (p + 4) is
-
--- registers and bytes
-pub record Data : Type 0 where
-  pub regs : ℕ → ℕ
-  pub bytes : ByteMap
-
--- with a program counter
-abbrev pub at : ℕ → Data → State
-at p d = record { pc = p; regs = d.regs; bytes = d.bytes }
 
 -- an instruction, and the address of its access
 pub record Step : Type 0 where
