@@ -1,11 +1,11 @@
 -- The code that takes an array into its slot, and the code that hands it back: the bounds, and then the loop.
-use Rattle.std.specs.Prelude.{◌⊎◌, is_some, unwrap_or}
+use Rattle.std.specs.Prelude.{is_some, unwrap_or}
 use Rattle.std.proofs.Common.{◌≡◌, ◌≢◌, ℕ, zero, suc, ◌+◌, ◌*◌, ◌/◌, ◌%◌, ◌^◌, ◌<◌, ◌≤◌, true, List, [], ◌∷◌, ◌++◌, length, map, Option, Some, inl, inr, refl, sym, ap, ap₂, ◌∙◌, subst, arith, length-append, append_assoc}
 use Rattle.std.proofs.lemmas.List.{map-id}
 use Rattle.codegen.specs.Loaded.{with_numbers, numbers_at}
 use Rattle.expression_code.specs.TermCode.{load_code, constant_code}
 use Rattle.function_code.specs.FunctionCode.{argument_offset, array_bytes, bounds_code, argument_code, copy_out_code, copied_in_code, copied_out_code, until_equal}
-use Rattle.function_code.specs.Sections.{argument_turns, array_turns, element_turns}
+use Rattle.function_code.specs.Sections.{element_turns}
 use Rattle.image_fields.specs.Fields.{Fields}
 use Rattle.image_fields.specs.declared.slot.Slot.{Slot}
 use Rattle.language.specs.Size.{element_bytes}
@@ -19,21 +19,19 @@ use Rattle.rv_machine.specs.declared.memory.Size.TheVariants.{Word}
 use Rattle.rv_machine.specs.declared.observation.Event.TheVariants as event
 use Rattle.rv_machine.specs.Bytes.{ByteMap, number_at}
 use Rattle.rv_machine.specs.Effects.{sum_of}
-use Rattle.rv_machine.specs.Machine.{Code}
 use Rattle.rv_machine.specs.Registers.{register}
 use Rattle.linked_calls.specs.Copies.{Pointed, place_of, slot_of, CanBeCopied, HasArray, OthersAsBefore, IsCopying, IsTaken, ArrayIsTaken, IsHandedBack, ArrayIsHandedBack}
-use Rattle.linked_calls.specs.Does.{Data, Does, AreThere}
+use Rattle.linked_calls.specs.Does.{Data}
 use Rattle.linked_calls.specs.Meant.{meant}
 use Rattle.linked_calls.specs.Stretches.{AreData, LiesIn}
 use Rattle.linked_calls.proofs.Copying.{BeginsCopy, Copies, CanCopy, MayLoad, MayStore, copied_into, copied_back, element_size, copy_in_runs, copy_out_runs}
-use Rattle.linked_calls.proofs.Parts.{Part, Runs, Sets, HasWord, load_part, constant_part, straight_runs, then_runs, weaken_runs, part_to}
+use Rattle.linked_calls.proofs.Parts.{Runs, Sets, HasWord, load_part, constant_part, straight_runs, then_runs, weaken_runs, part_to}
 use Rattle.linked_calls.proofs.Pieces.{Setting}
 use Rattle.linked_calls.proofs.Placing.{placed, does}
 use Rattle.linked_calls.proofs.Registers.{register-at, written, unwritten, three_fit}
-use Rattle.linked_calls.proofs.Steps.{Placed, Step, plain}
+use Rattle.linked_calls.proofs.Steps.{plain}
 
 -- Loops over as many elements as there are.
-
 
 lies : (kind : Kind) (low high x : ℕ) → low ≤ x → x + element_bytes kind ≤ high → LiesIn low high x (element_size kind)
 lies Boolean low high x from to = (from, to)
@@ -242,10 +240,10 @@ array_is_taken code start image slot spot there can =
     let z : Setting = record { code = code; allowed = IsCopying (place_of image spot) bytes spot.pointer (slot_of slot spot); silent = tt } in
     let goal : ByteMap → ByteMap = λ b. with_numbers b (element_bytes kind) (slot_of slot spot) (map (meant kind) (numbers_at b (element_bytes kind) spot.pointer slot.param.length)) in
     let loop = counted_in z spot.pointer (slot_of slot spot) kind slot.param.length can.some (can_copy image slot spot can)
-          (λ x low high. inr (lies kind spot.pointer (spot.pointer + bytes) x low high)) (λ x low high. lies kind (slot_of slot spot) (slot_of slot spot + bytes) x low high) in
+    (λ x low high. inr (lies kind spot.pointer (spot.pointer + bytes) x low high)) (λ x low high. lies kind (slot_of slot spot) (slot_of slot spot + bytes) x low high) in
     does z (argument_code image spot.index slot FixedArray) {P = HasArray image slot spot} {Before = HasArray image slot spot} {R = Copied (λ s. goal s.bytes)} {After = IsTaken slot spot}
     (bounds_then z image slot spot can (inl refl) goal (element_turns (copied_in_code kind) slot.param.length) (until_equal 5 7 (copied_in_code kind)) loop start
-      (placed code start (argument_code image spot.index slot FixedArray) there))
+    (placed code start (argument_code image spot.index slot FixedArray) there))
     (λ s has. has)
     (λ s t has copied. record { bytes = copied.bytes; others = copied.others })
 
@@ -256,10 +254,10 @@ array_is_handed_back code start image slot spot there can =
     let z : Setting = record { code = code; allowed = IsCopying (place_of image spot) bytes (slot_of slot spot) spot.pointer; silent = tt } in
     let goal : ByteMap → ByteMap = λ b. with_numbers b (element_bytes kind) spot.pointer (map (λ v. v) (numbers_at b (element_bytes kind) (slot_of slot spot) slot.param.length)) in
     let loop = counted_out z spot.pointer (slot_of slot spot) kind slot.param.length can.some (can_copy image slot spot can)
-          (λ x low high. lies kind spot.pointer (spot.pointer + bytes) x low high) (λ x low high. inr (lies kind (slot_of slot spot) (slot_of slot spot + bytes) x low high)) in
+    (λ x low high. lies kind spot.pointer (spot.pointer + bytes) x low high) (λ x low high. inr (lies kind (slot_of slot spot) (slot_of slot spot + bytes) x low high)) in
     does z (copy_out_code image spot.index slot MutableArray) {P = HasArray image slot spot} {Before = HasArray image slot spot} {R = Copied (λ s. goal s.bytes)} {After = IsHandedBack slot spot}
     (bounds_then z image slot spot can (inl refl) goal (element_turns (copied_out_code kind) slot.param.length) (until_equal 5 7 (copied_out_code kind)) loop start
-      (placed code start (copy_out_code image spot.index slot MutableArray) there))
+    (placed code start (copy_out_code image spot.index slot MutableArray) there))
     (λ s has. has)
     (λ s t has copied. record {
       bytes = copied.bytes ∙ ap (λ vs. with_numbers s.bytes (element_bytes kind) spot.pointer vs) (map-id (numbers_at s.bytes (element_bytes kind) (slot_of slot spot) slot.param.length));

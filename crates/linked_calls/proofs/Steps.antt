@@ -1,7 +1,7 @@
 -- Straight-line code, run by a function. Each instruction stands beside the address that it accesses, so what the
 -- machine shows is read off the list, and what it makes of registers and bytes is computed.
 use Rattle.std.specs.Prelude.{is_some, unwrap_or}
-use Rattle.std.proofs.Common.{◌≡◌, ℕ, zero, suc, ◌+◌, ◌*◌, ◌%◌, ◌^◌, ◌<◌, ◌≤◌, Bool, true, false, ◌&&◌, nat_lt, List, [], ◌∷◌, ◌++◌, length, map, Option, Some, None, refl, sym, ap, ap₂, ◌∙◌, subst, arith}
+use Rattle.std.proofs.Common.{◌≡◌, ℕ, suc, ◌+◌, ◌*◌, ◌%◌, ◌^◌, ◌<◌, Bool, true, false, ◌&&◌, nat_lt, List, [], ◌∷◌, length, Option, Some, None, refl, ap, ◌∙◌, subst, arith}
 use Rattle.std.proofs.lemmas.Bool.Decides.{nat_tests}
 use Rattle.std.proofs.lemmas.Bool.{false≢true}
 use Rattle.rv_code.specs.declared.instructions.Instr.{Instr}
@@ -11,10 +11,10 @@ use Rattle.rv_code.specs.Words.{word_of, IsInstr}
 use Rattle.rv_machine.specs.declared.observation.Event.{Event}
 use Rattle.rv_machine.specs.declared.observation.Event.TheVariants as event
 use Rattle.rv_machine.specs.declared.observation.Observation.{Observation}
-use Rattle.rv_machine.specs.Bytes.{ByteMap, number_at, with_number}
+use Rattle.rv_machine.specs.Bytes.{number_at, with_number}
 use Rattle.rv_machine.specs.Effects.{sign_extended, upper_value, immediate_value, shift_value, register_value, load_size, loaded_value, store_size, address_of}
 use Rattle.rv_machine.specs.Leakage.{Leads, stays}
-use Rattle.rv_machine.specs.Machine.{State, Code, word_at, IsAt, with_value, with_stored, moved_to}
+use Rattle.rv_machine.specs.Machine.{State, Code, word_at, IsAt, with_value, with_stored}
 use Rattle.rv_machine.specs.Registers.{register, with_register}
 use Rattle.rv_machine.specs.Sizes.{byte_count}
 pub use Rattle.linked_calls.specs.Does.{Data, at}

@@ -1,11 +1,9 @@
 -- The code that takes a word: a load, what it means, and a store.
-use Rattle.std.specs.Prelude.{is_some, unwrap_or, not, bit_and}
-use Rattle.std.proofs.Common.{◌≡◌, ◌≢◌, ℕ, zero, suc, ◌+◌, ◌*◌, ◌/◌, ◌%◌, ◌^◌, ◌<◌, ◌≤◌, nat_lt, ◌==◌, true, List, [], ◌∷◌, ◌++◌, length, Option, Some, refl, sym, ap, ap₂, ◌∙◌, subst, arith, length-append, append_assoc}
+use Rattle.std.specs.Prelude.{is_some, unwrap_or, bit_and}
+use Rattle.std.proofs.Common.{◌≡◌, ◌≢◌, ℕ, ◌+◌, ◌*◌, ◌/◌, ◌%◌, ◌^◌, ◌<◌, nat_lt, true, List, [], ◌∷◌, ◌++◌, length, Some, refl, sym, ap, ap₂, ◌∙◌, subst, arith, length-append, append_assoc}
 use Rattle.std.proofs.lemmas.Nat.{and_mask}
 use Rattle.expression_code.specs.TermCode.{load_code, store_code}
 use Rattle.function_code.specs.FunctionCode.{argument_offset, argument_code, meant_code}
-use Rattle.image_fields.specs.Fields.{Fields}
-use Rattle.image_fields.specs.declared.slot.Slot.{Slot}
 use Rattle.language.specs.declared.signature.Form.TheVariants.{SingleWord}
 use Rattle.language.specs.declared.signature.Kind.{Kind}
 use Rattle.language.specs.declared.signature.Kind.TheVariants.{Boolean, Uint8, Uint16, Uint32}
@@ -18,15 +16,14 @@ use Rattle.rv_machine.specs.declared.memory.Size.TheVariants.{Word}
 use Rattle.rv_machine.specs.declared.observation.Event.TheVariants as event
 use Rattle.rv_machine.specs.Bytes.{ByteMap, number_at, with_number}
 use Rattle.rv_machine.specs.Effects.{shift_value}
-use Rattle.rv_machine.specs.Machine.{Code}
 use Rattle.rv_machine.specs.Registers.{with_register}
 use Rattle.word.specs.Operators.{word_of}
-use Rattle.linked_calls.specs.Does.{Data, Does, AreThere}
+use Rattle.linked_calls.specs.Does.{Data}
 use Rattle.linked_calls.specs.Meant.{meant}
-use Rattle.linked_calls.specs.Words.{CanBePut, HasWordArgument, IsPut, IsPutting, WordIsTaken}
-use Rattle.linked_calls.proofs.Bytes.{AreData, number_there, with_number_cut}
+use Rattle.linked_calls.specs.Words.{HasWordArgument, IsPut, IsPutting, WordIsTaken}
+use Rattle.linked_calls.proofs.Bytes.{number_there, with_number_cut}
 use Rattle.linked_calls.proofs.Copying.{truth_same}
-use Rattle.linked_calls.proofs.Parts.{Runs, Sets, HasWord, Puts, load_part, store_part, straight_runs, then_runs, weaken_runs, part_to}
+use Rattle.linked_calls.proofs.Parts.{Runs, Sets, load_part, store_part, straight_runs, then_runs, weaken_runs, part_to}
 use Rattle.linked_calls.proofs.Pieces.{Setting}
 use Rattle.linked_calls.proofs.Placing.{placed, does}
 use Rattle.linked_calls.proofs.Registers.{unwritten}
@@ -102,12 +99,12 @@ module _ (z : Setting) where
     word_runs : (frame + offset) % 4 ≡ 0 → frame + offset < 2 ^ 32 → z.allowed (Some (event.Load (frame + offset) Word))
         → (frame + target) % 4 ≡ 0 → frame + target < 2 ^ 32 → z.allowed (Some (event.Store (frame + target) Word))
         → Runs z (length (load_code 5 offset) + (length (meant_code 5 kind) + length (store_code 5 target))) (load_code 5 offset ++ put_code) HasBoth
-          (PutsMeant (λ s. unwrap_or (number_at s.bytes 4 (frame + offset)) 0))
+        (PutsMeant (λ s. unwrap_or (number_at s.bytes 4 (frame + offset)) 0))
     word_runs even below allowed slot_even slot_below slot_allowed =
         then_runs z {P = HasBoth} {S = PutsMeant (λ s. unwrap_or (number_at s.bytes 4 (frame + offset)) 0)} (load_code 5 offset) put_code
         (weaken_runs z {P' = HasBoth} {R' = Sets 5 (λ s. unwrap_or (number_at s.bytes 4 (frame + offset)) 0)} (load_code 5 offset)
-          (λ s g. record { stack = g.stack; there = g.there }) (λ s t g r. r)
-          (load_part z frame 5 offset (omega arith) (λ e. omega arith) (λ e. omega arith) even below allowed))
+        (λ s g. record { stack = g.stack; there = g.there }) (λ s t g r. r)
+        (load_part z frame 5 offset (omega arith) (λ e. omega arith) (λ e. omega arith) even below allowed))
         (put_runs slot_even slot_below slot_allowed)
         (λ s t given sets. record {
           stack = sets.others 2 (λ e. omega arith) ∙ given.stack;
@@ -134,9 +131,9 @@ word_is_taken code start image slot frame i there can =
     does z (argument_code image i slot SingleWord) {P = HasBoth z kind frame offset slot.offset} {Before = HasWordArgument image slot frame i}
     {R = PutsMeant z kind frame offset slot.offset (λ s. unwrap_or (number_at s.bytes 4 (frame + offset)) 0)} {After = IsPut image slot frame i}
     (part_to z refl turns
-      (subst (λ (is : List Instr). Runs z (length (load_code 5 offset) + (length (meant_code 5 kind) + length (store_code 5 slot.offset))) is (HasBoth z kind frame offset slot.offset)
-          (PutsMeant z kind frame offset slot.offset (λ s. unwrap_or (number_at s.bytes 4 (frame + offset)) 0))) (sym same)
-        (word_runs z kind frame offset slot.offset (place_even frame image.frame_bytes i can.frame_aligned) can.place_ends (refl, refl) can.slot_aligned can.slot_ends (refl, refl)) start
-        (placed code start (argument_code image i slot SingleWord) there)))
+    (subst (λ (is : List Instr). Runs z (length (load_code 5 offset) + (length (meant_code 5 kind) + length (store_code 5 slot.offset))) is (HasBoth z kind frame offset slot.offset)
+    (PutsMeant z kind frame offset slot.offset (λ s. unwrap_or (number_at s.bytes 4 (frame + offset)) 0))) (sym same)
+    (word_runs z kind frame offset slot.offset (place_even frame image.frame_bytes i can.frame_aligned) can.place_ends (refl, refl) can.slot_aligned can.slot_ends (refl, refl)) start
+    (placed code start (argument_code image i slot SingleWord) there)))
     (λ s has. record { stack = has.stack; there = number_there s.bytes 4 (frame + offset) has.argument_there; slot_there = number_there s.bytes 4 (frame + slot.offset) has.slot_there })
     (λ s t has puts. record { bytes = puts.bytes; others = puts.others })

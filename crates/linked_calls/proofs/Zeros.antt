@@ -1,5 +1,5 @@
 -- The code that zeroes a frame, and the code that wipes a room.
-use Rattle.std.proofs.Common.{◌≡◌, ◌≢◌, ℕ, zero, suc, ◌+◌, ◌-◌, ◌*◌, ◌/◌, ◌%◌, ◌^◌, ◌<◌, ◌≤◌, List, [], ◌∷◌, ◌++◌, length, Option, Some, refl, sym, ap, ap₂, ◌∙◌, subst, arith, length-append, ne_eqb, if◌then◌else◌}
+use Rattle.std.proofs.Common.{◌≡◌, ℕ, zero, suc, ◌+◌, ◌-◌, ◌*◌, ◌/◌, ◌%◌, ◌^◌, ◌<◌, List, [], ◌∷◌, ◌++◌, length, refl, sym, ap, ap₂, ◌∙◌, subst, arith, ne_eqb, if◌then◌else◌}
 use Rattle.expression_code.specs.TermCode.{constant_code}
 use Rattle.function_code.specs.FunctionCode.{frame_code, wipe_code, until_equal, added, zeros_code}
 use Rattle.function_code.specs.Sections.{block_turns}
@@ -14,12 +14,12 @@ use Rattle.linked_calls.specs.Does.{Data, at, Does, AreThere}
 use Rattle.linked_calls.specs.Stretches.{AreZeroed}
 use Rattle.linked_calls.specs.Zeros.{IsStoreIn, HasFrame, IsZeroFrame, frame_turns, FrameIsZeroed, HasRoom, IsWiped, RoomIsWiped}
 use Rattle.linked_calls.proofs.Bytes.{AreData, no_zeros}
-use Rattle.linked_calls.proofs.Parts.{Part, Runs, Sets, constant_part, straight_runs, then_runs, weaken_runs, part_to}
+use Rattle.linked_calls.proofs.Parts.{Runs, Sets, constant_part, straight_runs, then_runs, weaken_runs, part_to}
 use Rattle.linked_calls.proofs.Pieces.{Setting, All-none}
 use Rattle.linked_calls.proofs.Placing.{placed, does}
-use Rattle.linked_calls.proofs.Registers.{written, unwritten}
-use Rattle.linked_calls.proofs.Steps.{Placed, Step, plain}
-use Rattle.linked_calls.proofs.Zeroing.{BeginsDown, EndsDown, zero_down, BeginsUp, EndsUp, zero_up}
+use Rattle.linked_calls.proofs.Registers.{unwritten}
+use Rattle.linked_calls.proofs.Steps.{plain}
+use Rattle.linked_calls.proofs.Zeroing.{BeginsDown, EndsDown, zero_down, zero_up}
 
 abbrev setting : Code → ℕ → ℕ → Setting
 setting code low high = record { code = code; allowed = IsStoreIn low high; silent = tt }
@@ -132,6 +132,6 @@ room_is_wiped code start bottom (suc n) there even even_room some below =
     let e = whole n even_room in
     does z wipe_code {Before = HasRoom bottom room} {After = IsWiped bottom room}
     (part_to z (omega arith) (blocks n even_room)
-      (zero_up z bottom (bottom + room) even below (λ x low high. (low, high)) start (n / 16) ((placed code start wipe_code there).0) (placed code start wipe_code there) (omega (arith, e))))
+    (zero_up z bottom (bottom + room) even below (λ x low high. (low, high)) start (n / 16) ((placed code start wipe_code there).0) (placed code start wipe_code there) (omega (arith, e))))
     (λ s has. record { stack = has.stack; stop = has.top; there = has.there })
     (λ s t has ends. record { stack = ends.stack; zeroed = ends.zeroed; others = ends.others })

@@ -75,7 +75,7 @@ abbrev pub ArrayIsTaken : Type 0
 ArrayIsTaken =
     (code : Code) (start : ℕ) (image : Fields) (slot : Slot) (spot : Pointed) → AreThere code start (argument_code image spot.index slot FixedArray) → CanBeCopied image slot spot
     → Does code start (argument_code image spot.index slot FixedArray) (argument_turns image spot.index slot FixedArray)
-      (IsCopying (place_of image spot) (array_bytes slot) spot.pointer (slot_of slot spot)) (HasArray image slot spot) (IsTaken slot spot)
+    (IsCopying (place_of image spot) (array_bytes slot) spot.pointer (slot_of slot spot)) (HasArray image slot spot) (IsTaken slot spot)
 
 -- the array holds what the slot holds
 pub record IsHandedBack (slot : Slot) (spot : Pointed) (s t : Data) : Type 0 where
@@ -87,4 +87,4 @@ abbrev pub ArrayIsHandedBack : Type 0
 ArrayIsHandedBack =
     (code : Code) (start : ℕ) (image : Fields) (slot : Slot) (spot : Pointed) → AreThere code start (copy_out_code image spot.index slot MutableArray) → CanBeCopied image slot spot
     → Does code start (copy_out_code image spot.index slot MutableArray) (array_turns image spot.index slot)
-      (IsCopying (place_of image spot) (array_bytes slot) (slot_of slot spot) spot.pointer) (HasArray image slot spot) (IsHandedBack slot spot)
+    (IsCopying (place_of image spot) (array_bytes slot) (slot_of slot spot) spot.pointer) (HasArray image slot spot) (IsHandedBack slot spot)

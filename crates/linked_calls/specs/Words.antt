@@ -1,5 +1,5 @@
 -- An argument that is a word: what it means is put into its slot before the body.
-use Rattle.std.specs.Prelude.{◌≡◌, ◌≢◌, ℕ, ◌+◌, ◌%◌, ◌^◌, ◌<◌, length, Option, Some, None}
+use Rattle.std.specs.Prelude.{◌≡◌, ◌≢◌, ℕ, ◌+◌, ◌%◌, ◌^◌, ◌<◌, Option, Some, None}
 use Rattle.codegen.specs.Loaded.{with_argument, word_in}
 use Rattle.function_code.specs.FunctionCode.{argument_offset, argument_code}
 use Rattle.function_code.specs.Sections.{argument_turns}
@@ -46,4 +46,4 @@ abbrev pub WordIsTaken : Type 0
 WordIsTaken =
     (code : Code) (start : ℕ) (image : Fields) (slot : Slot) (frame i : ℕ) → AreThere code start (argument_code image i slot SingleWord) → CanBePut image slot frame i
     → Does code start (argument_code image i slot SingleWord) (argument_turns image i slot SingleWord)
-      (IsPutting (frame + argument_offset image i) (frame + slot.offset)) (HasWordArgument image slot frame i) (IsPut image slot frame i)
+    (IsPutting (frame + argument_offset image i) (frame + slot.offset)) (HasWordArgument image slot frame i) (IsPut image slot frame i)

@@ -4,4 +4,6 @@
 
 mod laws;
 
-pub use laws::{array_is_handed_back, array_is_taken, frame_is_zeroed, room_is_wiped, word_is_taken};
+pub use laws::{
+    array_is_handed_back, array_is_taken, frame_is_zeroed, room_is_wiped, word_is_taken,
+};
