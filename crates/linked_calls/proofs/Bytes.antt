@@ -1,16 +1,13 @@
 -- Bytes: data that stays data, numbers put one after another, and stretches of zeros.
 use Rattle.std.specs.Prelude.{◌⊎◌, is_some, unwrap_or}
-use Rattle.std.proofs.Common.{◌≡◌, ◌≢◌, ℕ, zero, suc, ◌+◌, ◌*◌, ◌/◌, ◌%◌, ◌^◌, ◌<◌, ◌≤◌, true, ◌&&◌, List, [], ◌∷◌, length, map, Option, Some, None, inl, inr, ⊎_elim, refl, sym, ap, ap₂, ◌∙◌, subst, arith}
+use Rattle.std.proofs.Common.{◌≡◌, ◌≢◌, ℕ, zero, suc, ◌+◌, ◌*◌, ◌/◌, ◌%◌, ◌^◌, ◌<◌, ◌≤◌, true, ◌&&◌, List, [], ◌∷◌, length, Option, Some, None, inl, inr, ⊎_elim, refl, sym, ap, ap₂, ◌∙◌, subst, arith}
 use Rattle.std.proofs.Math.Arith.{mod-mul}
 use Rattle.std.proofs.Math.Nat.{pow-suc}
 use Rattle.std.proofs.lemmas.Bool.{cases_eq, cases_lt, false≢true}
 use Rattle.rv_machine.specs.Bytes.{ByteMap, joined, number_at, with_byte, with_number}
-use Rattle.rv_machine.proofs.ByteLaws.{number_at-zero, number_at-suc, number_at_same, number_at_apart, number_at-with_number, with_number-zero, with_number-suc, with_number_below, with_number_above, with_byte_same, with_byte_other, is_some-with_number}
+use Rattle.rv_machine.proofs.ByteLaws.{number_at-zero, number_at-suc, number_at_same, with_number-zero, with_number-suc, with_number_below, with_number_above, with_byte_same, with_byte_other, is_some-with_number}
+pub use Rattle.linked_calls.specs.Stretches.{AreData, AreZeroed}
 use Rattle.codegen.specs.Loaded.{with_numbers, numbers_at}
-
--- all bytes of a stretch are data
-abbrev pub AreData : ℕ → ℕ → ByteMap → Type 0
-AreData low high bytes = (x : ℕ) → low ≤ x → x < high → is_some (bytes x) ≡ true
 
 is_some-joined : (a b : Option ℕ) → is_some (joined a b) ≡ (is_some a && is_some b)
 is_some-joined (Some x) (Some y) = refl
@@ -35,9 +32,9 @@ with_number_agree one other zero a v x same =
 with_number_agree one other (suc n) a v x same =
     ap (λ (m : ByteMap). m x) (with_number-suc one n a v)
     ∙ ⊎_elim
-      (λ (e : x ≡ a). with_byte_same (with_number one n (a + 1) (v / 256)) a (v % 256) x e ∙ sym (with_byte_same (with_number other n (a + 1) (v / 256)) a (v % 256) x e))
-      (λ (e : x ≢ a). with_byte_other (with_number one n (a + 1) (v / 256)) a (v % 256) x e ∙ with_number_agree one other n (a + 1) (v / 256) x same ∙ sym (with_byte_other (with_number other n (a + 1) (v / 256)) a (v % 256) x e))
-      (cases_eq x a)
+    (λ (e : x ≡ a). with_byte_same (with_number one n (a + 1) (v / 256)) a (v % 256) x e ∙ sym (with_byte_same (with_number other n (a + 1) (v / 256)) a (v % 256) x e))
+    (λ (e : x ≢ a). with_byte_other (with_number one n (a + 1) (v / 256)) a (v % 256) x e ∙ with_number_agree one other n (a + 1) (v / 256) x same ∙ sym (with_byte_other (with_number other n (a + 1) (v / 256)) a (v % 256) x e))
+    (cases_eq x a)
     ∙ sym (ap (λ (m : ByteMap). m x) (with_number-suc other n a v))
 
 pow-pos : (n : ℕ) → 0 < 256 ^ n
@@ -95,9 +92,10 @@ some_is None h = absurd (false≢true h)
 -- the numbers of a stretch of data are there
 pub numbers_hold : (bytes : ByteMap) (n a k : ℕ) → AreData a (a + n * k) bytes → Holds bytes n a (numbers_at bytes n a k)
 numbers_hold bytes n a zero there = tt
-numbers_hold bytes n a (suc k) there =
-    (some_is (number_at bytes n a) (number_there bytes n a (λ x low high. there x low (omega (arith, high)))),
-      numbers_hold bytes n (a + n) k (λ x low high. there x (omega (arith, low)) (omega (arith, high))))
+numbers_hold bytes n a (suc k) there = (
+  some_is (number_at bytes n a) (number_there bytes n a (λ x low high. there x low (omega (arith, high)))),
+  numbers_hold bytes n (a + n) k (λ x low high. there x (omega (arith, low)) (omega (arith, high))),
+)
 
 pub numbers_count : (bytes : ByteMap) (n a k : ℕ) → length (numbers_at bytes n a k) ≡ k
 numbers_count bytes n a zero = refl
@@ -106,9 +104,10 @@ numbers_count bytes n a (suc k) = ap suc (numbers_count bytes n (a + n) k)
 -- they are there in a map that agrees
 pub holds_same : (old new : ByteMap) (n a : ℕ) (vs : List ℕ) → ((x : ℕ) → a ≤ x → x < a + n * length vs → new x ≡ old x) → Holds old n a vs → Holds new n a vs
 holds_same old new n a [] same h = tt
-holds_same old new n a (v ∷ vs) same h =
-    (number_at_same old new n a (λ x low high. same x low (omega (arith, high))) ∙ h.0,
-      holds_same old new n (a + n) vs (λ x low high. same x (omega (arith, low)) (omega (arith, high))) h.1)
+holds_same old new n a (v ∷ vs) same h = (
+  number_at_same old new n a (λ x low high. same x low (omega (arith, high))) ∙ h.0,
+  holds_same old new n (a + n) vs (λ x low high. same x (omega (arith, low)) (omega (arith, high))) h.1,
+)
 
 -- and are what is read there
 pub held_numbers : (bytes : ByteMap) (n a : ℕ) (vs : List ℕ) → Holds bytes n a vs → numbers_at bytes n a (length vs) ≡ vs
@@ -116,11 +115,6 @@ held_numbers bytes n a [] h = refl
 held_numbers bytes n a (v ∷ vs) h = ap₂ (λ x (xs : List ℕ). x ∷ xs) (ap (λ o. unwrap_or o 0) h.0) (held_numbers bytes n (a + n) vs h.1)
 
 -- Zeros.
-
--- zeros from one address to another, and else what was there
-pub record AreZeroed (low high : ℕ) (old new : ByteMap) : Type 0 where
-  pub inside : (x : ℕ) → low ≤ x → x < high → new x ≡ Some 0
-  pub outside : (x : ℕ) → (x < low) ⊎ (high ≤ x) → new x ≡ old x
 
 pub no_zeros : (a : ℕ) (bytes : ByteMap) → AreZeroed a a bytes bytes
 no_zeros a bytes = record { inside = λ x low high. absurd (omega (arith, low, high)); outside = λ x where'. refl }
@@ -130,9 +124,9 @@ zero_inside bytes zero a x low high = absurd (omega (arith, low, high))
 zero_inside bytes (suc n) a x low high =
     ap (λ (m : ByteMap). m x) (with_number-suc bytes n a 0)
     ∙ ⊎_elim
-      (λ (e : x ≡ a). with_byte_same (with_number bytes n (a + 1) 0) a 0 x e)
-      (λ (e : x ≢ a). with_byte_other (with_number bytes n (a + 1) 0) a 0 x e ∙ zero_inside bytes n (a + 1) x (omega arith) (omega arith))
-      (cases_eq x a)
+    (λ (e : x ≡ a). with_byte_same (with_number bytes n (a + 1) 0) a 0 x e)
+    (λ (e : x ≢ a). with_byte_other (with_number bytes n (a + 1) 0) a 0 x e ∙ zero_inside bytes n (a + 1) x (omega arith) (omega arith))
+    (cases_eq x a)
 
 zero_outside : (bytes : ByteMap) (n a x : ℕ) → (x < a) ⊎ (a + n ≤ x) → with_number bytes n a 0 x ≡ bytes x
 zero_outside bytes n a x (inl below) = with_number_below bytes n a 0 x below

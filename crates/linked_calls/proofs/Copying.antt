@@ -1,14 +1,12 @@
 -- The loops that copy an array: from where an argument points into its slot, and back. In both x5 goes through the
 -- caller's array up to x7, and x6 through the slot.
 use Rattle.std.specs.Prelude.{◌⊎◌, is_some, unwrap_or, not}
-use Rattle.std.proofs.Common.{◌≡◌, ◌≢◌, ℕ, zero, suc, ◌+◌, ◌-◌, ◌*◌, ◌/◌, ◌%◌, ◌^◌, ◌<◌, ◌≤◌, ◌==◌, Bool, true, false, cond, nat_lt, List, [], ◌∷◌, ◌++◌, length, map, Option, Some, inl, inr, refl, sym, ap, ap₂, ◌∙◌, subst, arith, ne_eqb}
-use Rattle.std.proofs.lemmas.Bool.Decides.{nat_tests}
-use Rattle.std.proofs.lemmas.List.{map-id}
+use Rattle.std.proofs.Common.{◌≡◌, ◌≢◌, ℕ, zero, suc, ◌+◌, ◌-◌, ◌*◌, ◌%◌, ◌^◌, ◌<◌, ◌≤◌, true, nat_lt, List, [], ◌∷◌, ◌++◌, length, map, Option, Some, inl, inr, refl, sym, ap, ◌∙◌, subst, arith, ne_eqb}
 use Rattle.language.specs.Size.{element_bytes}
 use Rattle.language.specs.declared.signature.Kind.{Kind}
 use Rattle.language.specs.declared.signature.Kind.TheVariants.{Boolean, Uint8, Uint16, Uint32}
 use Rattle.rv_code.specs.declared.instructions.Instr.{Instr}
-use Rattle.rv_code.specs.declared.instructions.Instr.TheVariants.{Immediate, Register, Load, Store, Branch}
+use Rattle.rv_code.specs.declared.instructions.Instr.TheVariants.{Register, Load, Store, Branch}
 use Rattle.rv_code.specs.declared.operations.BranchTest.TheVariants.{Bne}
 use Rattle.rv_code.specs.declared.operations.LoadOperation.TheVariants.{Lw, Lbu, Lhu}
 use Rattle.rv_code.specs.declared.operations.RegisterOperation.TheVariants.{Sltu}
@@ -17,24 +15,19 @@ use Rattle.rv_machine.specs.declared.observation.Event.TheVariants as event
 use Rattle.rv_machine.specs.declared.memory.Size.{Size}
 use Rattle.rv_machine.specs.declared.memory.Size.TheVariants.{Byte, Half, Word}
 use Rattle.rv_machine.specs.Bytes.{ByteMap, number_at, with_number}
-use Rattle.rv_machine.specs.Effects.{sum_of, sign_extended, load_size}
 use Rattle.rv_machine.specs.Registers.{with_register}
-use Rattle.rv_machine.specs.Sizes.{byte_count}
 use Rattle.rv_machine.proofs.ByteLaws.{number_at_apart}
 use Rattle.word.specs.Operators.{word_of}
+use Rattle.linked_calls.specs.Copies.{AreApart}
 use Rattle.linked_calls.specs.Meant.{meant}
 use Rattle.linked_calls.proofs.Bytes.{AreData, number_there, stays_data, with_number_cut, Holds, numbers_hold, numbers_count}
-use Rattle.linked_calls.proofs.Parts.{Part, From, part, part_to, Runs}
+use Rattle.linked_calls.proofs.Parts.{Part, part, part_to, Runs}
 use Rattle.linked_calls.proofs.Pieces.{Setting, Piece, block, weaken, loop, Placed-left, Placed-right}
 use Rattle.linked_calls.proofs.Registers.{unwritten, one_fit}
-use Rattle.linked_calls.proofs.Steps.{Placed, Data, Step, plain, access, instrs, computed, after, Reaches, AreFit}
+use Rattle.linked_calls.proofs.Steps.{Placed, Data, plain, access, Reaches}
 use Rattle.codegen.specs.Loaded.{with_numbers, numbers_at}
 use Rattle.expression_code.specs.TermCode.{load_by}
 use Rattle.function_code.specs.FunctionCode.{until_equal, added, next_code, element_meant_code, store_by}
-
--- two stretches of so many bytes do not meet
-abbrev pub AreApart : ℕ → ℕ → ℕ → Type 0
-AreApart n one other = (one + n ≤ other) ⊎ (other + n ≤ one)
 
 -- where the copying is: in the caller's array, and in its slot
 pub record Spot : Type 0 where
@@ -198,8 +191,8 @@ pub record LeftOut (n : ℕ) (both : Stretches n) (goal : Data → ByteMap) (j :
   pub there : AreData spot.pointer (spot.pointer + n * j) d.bytes
 
 module _ (n : ℕ) (both : Stretches n) (goal : Data → ByteMap) (j : ℕ) (spot : Spot) (s d : Data) (regs : ℕ → ℕ) (w : ℕ)
-         (five : regs 5 ≡ (d.regs 5 + n) % 2 ^ 32) (six : regs 6 ≡ (d.regs 6 + n) % 2 ^ 32) (others : (q : ℕ) → q ≢ 5 → q ≢ 6 → q ≢ 28 → regs q ≡ d.regs q)
-         (known : Known n both (suc j) spot) where
+    (five : regs 5 ≡ (d.regs 5 + n) % 2 ^ 32) (six : regs 6 ≡ (d.regs 6 + n) % 2 ^ 32) (others : (q : ℕ) → q ≢ 5 → q ≢ 6 → q ≢ 28 → regs q ≡ d.regs q)
+    (known : Known n both (suc j) spot) where
   copied_in : (mean : ℕ → ℕ) → ((v : ℕ) → number_at d.bytes n spot.pointer ≡ Some v → with_number d.bytes n spot.slot w ≡ with_number d.bytes n spot.slot (mean v))
       → LeftIn n mean both goal (suc j) spot s d → LeftIn n mean both goal j (past n spot) s (record { regs = regs; bytes = with_number d.bytes n spot.slot w })
   copied_in mean same left =
@@ -272,10 +265,13 @@ module _ (z : Setting) where
       let w = word_of (nat_lt 0 v) in
       let one : Data = record { regs = with_register (with_register d.regs 28 v) 28 w; bytes = d.bytes } in
       record {
-        fit = (refl, reach_five d spot.pointer 1 left.running.pointer low_pointer known.pointer_even (found_there _ put.value put.there),
-          (refl, tt, (refl, reach_six one spot.slot 1 left.running.slot low_slot known.slot_even (first_there 1 j spot.slot d.bytes left.there), (refl, tt, (refl, tt, tt)))));
+        fit = (
+          refl,
+          reach_five d spot.pointer 1 left.running.pointer low_pointer known.pointer_even (found_there _ put.value put.there),
+          (refl, tt, (refl, reach_six one spot.slot 1 left.running.slot low_slot known.slot_even (first_there 1 j spot.slot d.bytes left.there), (refl, tt, (refl, tt, tt)))),
+        );
         done = copied_in 1 both goal j spot s d (stepped 1 (with_register d.regs 28 v) w) w refl refl (λ q h k l. stepped_others 1 (with_register d.regs 28 v) w q h k l ∙ unwritten d.regs 28 v q l) known (meant Boolean)
-          (λ x e. ap (λ x. with_number d.bytes 1 spot.slot x) (truth_same v ∙ ap (meant Boolean) (found_is _ x e))) left;
+            (λ x e. ap (λ x. with_number d.bytes 1 spot.slot x) (truth_same v ∙ ap (meant Boolean) (found_is _ x e))) left;
       })
 
   byte_in : (goal : Data → ByteMap) (both : Stretches 1) → MayLoad z 1 Byte both.pointer_low both.pointer_high → MayStore z 1 Byte both.slot_low both.slot_high
@@ -296,10 +292,13 @@ module _ (z : Setting) where
       let w = v in
       let one : Data = record { regs = with_register d.regs 28 v; bytes = d.bytes } in
       record {
-        fit = (refl, reach_five d spot.pointer 1 left.running.pointer low_pointer known.pointer_even (found_there _ put.value put.there),
-          (refl, reach_six one spot.slot 1 left.running.slot low_slot known.slot_even (first_there 1 j spot.slot d.bytes left.there), (refl, tt, (refl, tt, tt))));
+        fit = (
+          refl,
+          reach_five d spot.pointer 1 left.running.pointer low_pointer known.pointer_even (found_there _ put.value put.there),
+          (refl, reach_six one spot.slot 1 left.running.slot low_slot known.slot_even (first_there 1 j spot.slot d.bytes left.there), (refl, tt, (refl, tt, tt))),
+        );
         done = copied_in 1 both goal j spot s d (stepped 1 d.regs v) w refl refl (stepped_others 1 d.regs v) known (meant Uint8)
-          (λ x e. ap (λ y. with_number d.bytes 1 spot.slot y) (found_is _ x e) ∙ sym (with_number_cut d.bytes 1 spot.slot x)) left;
+            (λ x e. ap (λ y. with_number d.bytes 1 spot.slot y) (found_is _ x e) ∙ sym (with_number_cut d.bytes 1 spot.slot x)) left;
       })
 
   half_in : (goal : Data → ByteMap) (both : Stretches 2) → MayLoad z 2 Half both.pointer_low both.pointer_high → MayStore z 2 Half both.slot_low both.slot_high
@@ -320,10 +319,13 @@ module _ (z : Setting) where
       let w = v in
       let one : Data = record { regs = with_register d.regs 28 v; bytes = d.bytes } in
       record {
-        fit = (refl, reach_five d spot.pointer 2 left.running.pointer low_pointer known.pointer_even (found_there _ put.value put.there),
-          (refl, reach_six one spot.slot 2 left.running.slot low_slot known.slot_even (first_there 2 j spot.slot d.bytes left.there), (refl, tt, (refl, tt, tt))));
+        fit = (
+          refl,
+          reach_five d spot.pointer 2 left.running.pointer low_pointer known.pointer_even (found_there _ put.value put.there),
+          (refl, reach_six one spot.slot 2 left.running.slot low_slot known.slot_even (first_there 2 j spot.slot d.bytes left.there), (refl, tt, (refl, tt, tt))),
+        );
         done = copied_in 2 both goal j spot s d (stepped 2 d.regs v) w refl refl (stepped_others 2 d.regs v) known (meant Uint16)
-          (λ x e. ap (λ y. with_number d.bytes 2 spot.slot y) (found_is _ x e) ∙ sym (with_number_cut d.bytes 2 spot.slot x)) left;
+            (λ x e. ap (λ y. with_number d.bytes 2 spot.slot y) (found_is _ x e) ∙ sym (with_number_cut d.bytes 2 spot.slot x)) left;
       })
 
   word_in : (goal : Data → ByteMap) (both : Stretches 4) → MayLoad z 4 Word both.pointer_low both.pointer_high → MayStore z 4 Word both.slot_low both.slot_high
@@ -344,10 +346,13 @@ module _ (z : Setting) where
       let w = v in
       let one : Data = record { regs = with_register d.regs 28 v; bytes = d.bytes } in
       record {
-        fit = (refl, reach_five d spot.pointer 4 left.running.pointer low_pointer known.pointer_even (found_there _ put.value put.there),
-          (refl, reach_six one spot.slot 4 left.running.slot low_slot known.slot_even (first_there 4 j spot.slot d.bytes left.there), (refl, tt, (refl, tt, tt))));
+        fit = (
+          refl,
+          reach_five d spot.pointer 4 left.running.pointer low_pointer known.pointer_even (found_there _ put.value put.there),
+          (refl, reach_six one spot.slot 4 left.running.slot low_slot known.slot_even (first_there 4 j spot.slot d.bytes left.there), (refl, tt, (refl, tt, tt))),
+        );
         done = copied_in 4 both goal j spot s d (stepped 4 d.regs v) w refl refl (stepped_others 4 d.regs v) known (meant Uint32)
-          (λ x e. ap (λ y. with_number d.bytes 4 spot.slot y) (found_is _ x e) ∙ sym (with_number_cut d.bytes 4 spot.slot x)) left;
+            (λ x e. ap (λ y. with_number d.bytes 4 spot.slot y) (found_is _ x e) ∙ sym (with_number_cut d.bytes 4 spot.slot x)) left;
       })
 
   byte_out : (goal : Data → ByteMap) (both : Stretches 1) → MayStore z 1 Byte both.pointer_low both.pointer_high → MayLoad z 1 Byte both.slot_low both.slot_high
@@ -367,10 +372,13 @@ module _ (z : Setting) where
       let v = unwrap_or (number_at d.bytes 1 spot.slot) 0 in
       let one : Data = record { regs = with_register d.regs 28 v; bytes = d.bytes } in
       record {
-        fit = (refl, reach_six d spot.slot 1 left.running.slot low_slot known.slot_even (found_there _ put.value put.there),
-          (refl, reach_five one spot.pointer 1 left.running.pointer low_pointer known.pointer_even (first_there 1 j spot.pointer d.bytes left.there), (refl, tt, (refl, tt, tt))));
+        fit = (
+          refl,
+          reach_six d spot.slot 1 left.running.slot low_slot known.slot_even (found_there _ put.value put.there),
+          (refl, reach_five one spot.pointer 1 left.running.pointer low_pointer known.pointer_even (first_there 1 j spot.pointer d.bytes left.there), (refl, tt, (refl, tt, tt))),
+        );
         done = copied_out 1 both goal j spot s d (stepped 1 d.regs v) v refl refl (stepped_others 1 d.regs v) known
-          (λ x e. ap (λ y. with_number d.bytes 1 spot.pointer y) (found_is _ x e)) left;
+            (λ x e. ap (λ y. with_number d.bytes 1 spot.pointer y) (found_is _ x e)) left;
       })
 
   half_out : (goal : Data → ByteMap) (both : Stretches 2) → MayStore z 2 Half both.pointer_low both.pointer_high → MayLoad z 2 Half both.slot_low both.slot_high
@@ -390,10 +398,13 @@ module _ (z : Setting) where
       let v = unwrap_or (number_at d.bytes 2 spot.slot) 0 in
       let one : Data = record { regs = with_register d.regs 28 v; bytes = d.bytes } in
       record {
-        fit = (refl, reach_six d spot.slot 2 left.running.slot low_slot known.slot_even (found_there _ put.value put.there),
-          (refl, reach_five one spot.pointer 2 left.running.pointer low_pointer known.pointer_even (first_there 2 j spot.pointer d.bytes left.there), (refl, tt, (refl, tt, tt))));
+        fit = (
+          refl,
+          reach_six d spot.slot 2 left.running.slot low_slot known.slot_even (found_there _ put.value put.there),
+          (refl, reach_five one spot.pointer 2 left.running.pointer low_pointer known.pointer_even (first_there 2 j spot.pointer d.bytes left.there), (refl, tt, (refl, tt, tt))),
+        );
         done = copied_out 2 both goal j spot s d (stepped 2 d.regs v) v refl refl (stepped_others 2 d.regs v) known
-          (λ x e. ap (λ y. with_number d.bytes 2 spot.pointer y) (found_is _ x e)) left;
+            (λ x e. ap (λ y. with_number d.bytes 2 spot.pointer y) (found_is _ x e)) left;
       })
 
   word_out : (goal : Data → ByteMap) (both : Stretches 4) → MayStore z 4 Word both.pointer_low both.pointer_high → MayLoad z 4 Word both.slot_low both.slot_high
@@ -413,10 +424,13 @@ module _ (z : Setting) where
       let v = unwrap_or (number_at d.bytes 4 spot.slot) 0 in
       let one : Data = record { regs = with_register d.regs 28 v; bytes = d.bytes } in
       record {
-        fit = (refl, reach_six d spot.slot 4 left.running.slot low_slot known.slot_even (found_there _ put.value put.there),
-          (refl, reach_five one spot.pointer 4 left.running.pointer low_pointer known.pointer_even (first_there 4 j spot.pointer d.bytes left.there), (refl, tt, (refl, tt, tt))));
+        fit = (
+          refl,
+          reach_six d spot.slot 4 left.running.slot low_slot known.slot_even (found_there _ put.value put.there),
+          (refl, reach_five one spot.pointer 4 left.running.pointer low_pointer known.pointer_even (first_there 4 j spot.pointer d.bytes left.there), (refl, tt, (refl, tt, tt))),
+        );
         done = copied_out 4 both goal j spot s d (stepped 4 d.regs v) v refl refl (stepped_others 4 d.regs v) known
-          (λ x e. ap (λ y. with_number d.bytes 4 spot.pointer y) (found_is _ x e)) left;
+            (λ x e. ap (λ y. with_number d.bytes 4 spot.pointer y) (found_is _ x e)) left;
       })
 
 -- Whole arrays.
@@ -499,7 +513,7 @@ other_stop n j both spot s regs some known running same =
     omega (arith, a, b, c, d, e, same)
 
 module _ (z : Setting) (n : ℕ) (some : 0 < n) (step_even : (x : ℕ) → x % n ≡ 0 → (x + n) % n ≡ 0) (k pointer slot : ℕ) (can : CanCopy n (suc k) pointer slot)
-         (p count turns : ℕ) (few : count < 1024) (more : 0 < count) (even : p % 4 ≡ 0) (placed : Placed z.code (p + 4 * count) (Branch Bne 5 7 (2 ^ 12 - 2 * count) ∷ [])) where
+    (p count turns : ℕ) (few : count < 1024) (more : 0 < count) (even : p % 4 ≡ 0) (placed : Placed z.code (p + 4 * count) (Branch Bne 5 7 (2 ^ 12 - 2 * count) ∷ [])) where
   abbrev both : Stretches n
   both = stretches_of n (suc k) pointer slot can
 

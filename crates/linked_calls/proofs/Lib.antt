@@ -9,3 +9,7 @@ pub mod Entering
 pub mod Taking
 pub mod Leaving
 pub mod AllArguments
+pub mod Placing
+pub mod Zeros
+pub mod Copies
+pub mod Words

@@ -1,7 +1,7 @@
 -- Parts of code, by what their end has to do with their beginning; and those that are emitted for words of the room and
 -- for numbers.
 use Rattle.std.specs.Prelude.{is_some, unwrap_or}
-use Rattle.std.proofs.Common.{◌≡◌, ◌≢◌, ℕ, zero, suc, ◌+◌, ◌-◌, ◌*◌, ◌%◌, ◌^◌, ◌<◌, ◌≤◌, Bool, true, false, cond, nat_lt, List, [], ◌∷◌, ◌++◌, length, map, All, Option, Some, None, refl, sym, ap, ap₂, ◌∙◌, subst, arith, length-append}
+use Rattle.std.proofs.Common.{◌≡◌, ◌≢◌, ℕ, suc, ◌+◌, ◌*◌, ◌%◌, ◌^◌, ◌<◌, Bool, true, false, cond, nat_lt, List, [], ◌∷◌, ◌++◌, length, All, Some, refl, sym, ap, ap₂, ◌∙◌, subst, arith, length-append}
 use Rattle.std.proofs.lemmas.Bool.Decides.{nat_tests}
 use Rattle.std.proofs.lemmas.List.Elements.{All-append}
 use Rattle.rv_code.specs.declared.instructions.Instr.{Instr}
@@ -14,13 +14,13 @@ use Rattle.rv_code.specs.declared.operations.StoreOperation.TheVariants.{Sw}
 use Rattle.rv_machine.specs.declared.observation.Event.TheVariants as event
 use Rattle.rv_machine.specs.declared.observation.Observation.{Observation}
 use Rattle.rv_machine.specs.declared.memory.Size.TheVariants.{Word}
-use Rattle.rv_machine.specs.Bytes.{ByteMap, number_at, with_number}
+use Rattle.rv_machine.specs.Bytes.{number_at, with_number}
 use Rattle.rv_machine.specs.Effects.{sum_of, sign_extended}
 use Rattle.rv_machine.specs.Registers.{register, with_register}
 use Rattle.rv_machine.proofs.RunLaws.{Leads-append}
 use Rattle.linked_calls.proofs.Registers.{register-at, written, unwritten, parts, far_address, near_address, upper_fits, lower_fits, two_fit, three_fit}
 use Rattle.linked_calls.proofs.Pieces.{Setting, Ends, Piece, Makes, AreAllowed, block, Placed-left, Placed-right}
-use Rattle.linked_calls.proofs.Steps.{Placed, Data, at, Step, plain, access, instrs, computed, after, Reaches, AreFit, some_of}
+use Rattle.linked_calls.proofs.Steps.{Placed, Data, Step, plain, access, instrs}
 use Rattle.expression_code.specs.TermCode.{upper_part, lower_part, load_code, store_code, constant_code}
 
 -- code from one address to another in an exact number of turns, which shows one list
@@ -127,13 +127,16 @@ module _ (z : Setting) (base : ℕ) where
     load_part_by : (p : ℕ) (b : Bool) → nat_lt offset 2048 ≡ b
         → Placed z.code p (cond b (Load Lw r 2 offset ∷ []) (Upper Lui r (upper_part offset) ∷ Register Add r r 2 ∷ Load Lw r r (lower_part offset) ∷ []))
         → Part z p (p + 4 * length (cond b (Load Lw r 2 offset ∷ []) (Upper Lui r (upper_part offset) ∷ Register Add r r 2 ∷ Load Lw r r (lower_part offset) ∷ [])))
-          (length (cond b (Load Lw r 2 offset ∷ []) (Upper Lui r (upper_part offset) ∷ Register Add r r 2 ∷ Load Lw r r (lower_part offset) ∷ []))) (HasWord base offset) (Sets r found)
+        (length (cond b (Load Lw r 2 offset ∷ []) (Upper Lui r (upper_part offset) ∷ Register Add r r 2 ∷ Load Lw r r (lower_part offset) ∷ []))) (HasWord base offset) (Sets r found)
     load_part_by p true h placed =
         let near : offset < 2048 = grind (arith, nat_tests) in
         straight z p (access (Load Lw r 2 offset) (base + offset) ∷ []) placed (allowed, tt)
         (λ s has. record {
-          fit = (three_fit r 32 2 32 offset 4096 few (omega arith) (omega (arith, near)),
-            record { address = ap (λ x. sum_of x (sign_extended 12 offset)) has.stack ∙ near_address base offset near below; even = even; there = has.there }, tt);
+          fit = (
+            three_fit r 32 2 32 offset 4096 few (omega arith) (omega (arith, near)),
+            record { address = ap (λ x. sum_of x (sign_extended 12 offset)) has.stack ∙ near_address base offset near below; even = even; there = has.there },
+            tt,
+          );
           done = record { there = written s.regs r (found s) nonzero; others = λ q h. unwritten s.regs r (found s) q h; same = refl };
         })
     load_part_by p false h placed =
@@ -146,8 +149,19 @@ module _ (z : Setting) (base : ℕ) where
         let v_is : v ≡ sum_of u base = ap₂ sum_of (register-at one r nonzero ∙ written s.regs r u nonzero) (unwritten s.regs r u 2 (λ e. other (sym e)) ∙ has.stack) in
         let reads : register two r ≡ sum_of u base = register-at two r nonzero ∙ written one r v nonzero ∙ v_is in
         record {
-          fit = (two_fit r 32 (upper_part offset) 1048576 few (upper_fits offset), tt, (three_fit r 32 r 32 2 32 few few (omega arith), tt, (three_fit r 32 r 32 (lower_part offset) 4096 few few (lower_fits offset),
-            record { address = ap (λ x. sum_of x (sign_extended 12 (lower_part offset))) reads ∙ far_address base offset below; even = even; there = has.there }, tt)));
+          fit = (
+            two_fit r 32 (upper_part offset) 1048576 few (upper_fits offset),
+            tt,
+            (
+              three_fit r 32 r 32 2 32 few few (omega arith),
+              tt,
+              (
+                three_fit r 32 r 32 (lower_part offset) 4096 few few (lower_fits offset),
+                record { address = ap (λ x. sum_of x (sign_extended 12 (lower_part offset))) reads ∙ far_address base offset below; even = even; there = has.there },
+                tt,
+              ),
+            ),
+          );
           done = record {
             there = written two r (found s) nonzero;
             others = λ q h. unwritten two r (found s) q h ∙ unwritten one r v q h ∙ unwritten s.regs r u q h;
@@ -168,13 +182,16 @@ module _ (z : Setting) (base : ℕ) where
     store_part_by : (p : ℕ) (b : Bool) → nat_lt offset 2048 ≡ b
         → Placed z.code p (cond b (Store Sw r 2 offset ∷ []) (Upper Lui 28 (upper_part offset) ∷ Register Add 28 28 2 ∷ Store Sw r 28 (lower_part offset) ∷ []))
         → Part z p (p + 4 * length (cond b (Store Sw r 2 offset ∷ []) (Upper Lui 28 (upper_part offset) ∷ Register Add 28 28 2 ∷ Store Sw r 28 (lower_part offset) ∷ [])))
-          (length (cond b (Store Sw r 2 offset ∷ []) (Upper Lui 28 (upper_part offset) ∷ Register Add 28 28 2 ∷ Store Sw r 28 (lower_part offset) ∷ []))) (HasWord base offset) (Puts 4 r (base + offset))
+        (length (cond b (Store Sw r 2 offset ∷ []) (Upper Lui 28 (upper_part offset) ∷ Register Add 28 28 2 ∷ Store Sw r 28 (lower_part offset) ∷ []))) (HasWord base offset) (Puts 4 r (base + offset))
     store_part_by p true h placed =
         let near : offset < 2048 = grind (arith, nat_tests) in
         straight z p (access (Store Sw r 2 offset) (base + offset) ∷ []) placed (allowed, tt)
         (λ s has. record {
-          fit = (three_fit r 32 2 32 offset 4096 few (omega arith) (omega (arith, near)),
-            record { address = ap (λ x. sum_of x (sign_extended 12 offset)) has.stack ∙ near_address base offset near below; even = even; there = has.there }, tt);
+          fit = (
+            three_fit r 32 2 32 offset 4096 few (omega arith) (omega (arith, near)),
+            record { address = ap (λ x. sum_of x (sign_extended 12 offset)) has.stack ∙ near_address base offset near below; even = even; there = has.there },
+            tt,
+          );
           done = record { written = ap (λ v. with_number s.bytes 4 (base + offset) v) (register-at s.regs r nonzero); others = λ q h. refl };
         })
     store_part_by p false h placed =
@@ -186,8 +203,19 @@ module _ (z : Setting) (base : ℕ) where
         let two = with_register one 28 v in
         let value : register two r ≡ s.regs r = register-at two r nonzero ∙ unwritten one 28 v r other ∙ unwritten s.regs 28 u r other in
         record {
-          fit = (two_fit 28 32 (upper_part offset) 1048576 (omega arith) (upper_fits offset), tt, (refl, tt, (three_fit r 32 28 32 (lower_part offset) 4096 few (omega arith) (lower_fits offset),
-            record { address = ap (λ x. sum_of (sum_of u x) (sign_extended 12 (lower_part offset))) has.stack ∙ far_address base offset below; even = even; there = has.there }, tt)));
+          fit = (
+            two_fit 28 32 (upper_part offset) 1048576 (omega arith) (upper_fits offset),
+            tt,
+            (
+              refl,
+              tt,
+              (
+                three_fit r 32 28 32 (lower_part offset) 4096 few (omega arith) (lower_fits offset),
+                record { address = ap (λ x. sum_of (sum_of u x) (sign_extended 12 (lower_part offset))) has.stack ∙ far_address base offset below; even = even; there = has.there },
+                tt,
+              ),
+            ),
+          );
           done = record {
             written = ap (λ x. with_number s.bytes 4 (base + offset) x) value;
             others = λ q h. unwritten one 28 v q h ∙ unwritten s.regs 28 u q h;
@@ -202,7 +230,7 @@ module _ (z : Setting) (r n : ℕ) (few : r < 32) (nonzero : r ≢ 0) (below : n
   constant_part_by : (p : ℕ) (b : Bool) → nat_lt n 2048 ≡ b
       → Placed z.code p (cond b (Immediate Addi r 0 n ∷ []) (Upper Lui r (upper_part n) ∷ Immediate Addi r r (lower_part n) ∷ []))
       → Part z p (p + 4 * length (cond b (Immediate Addi r 0 n ∷ []) (Upper Lui r (upper_part n) ∷ Immediate Addi r r (lower_part n) ∷ [])))
-        (length (cond b (Immediate Addi r 0 n ∷ []) (Upper Lui r (upper_part n) ∷ Immediate Addi r r (lower_part n) ∷ []))) (λ s. Unit {0}) (Sets r (λ s. n))
+      (length (cond b (Immediate Addi r 0 n ∷ []) (Upper Lui r (upper_part n) ∷ Immediate Addi r r (lower_part n) ∷ []))) (λ s. Unit {0}) (Sets r (λ s. n))
   constant_part_by p true h placed =
       let near : n < 2048 = grind (arith, nat_tests) in
       straight z p (plain (Immediate Addi r 0 n) ∷ []) placed (z.silent, tt)

@@ -2,19 +2,18 @@
 -- begin in, of allowed accesses alone. So what follows in a list is known before any state is given, which is equal
 -- leakage. Logical variables (E) stand for what a state has to do with what it was before.
 use Rattle.std.specs.Prelude.{not}
-use Rattle.std.proofs.Common.{◌≡◌, ◌≢◌, ℕ, zero, suc, ◌+◌, ◌-◌, ◌*◌, ◌%◌, ◌^◌, ◌<◌, ◌≤◌, ◌==◌, true, false, List, [], ◌∷◌, ◌++◌, length, All, Option, Some, None, refl, sym, ap, ap₂, ◌∙◌, subst, arith, length-append, append_assoc, eq-eqb, ne_eqb}
+use Rattle.std.proofs.Common.{◌≡◌, ◌≢◌, ℕ, zero, suc, ◌+◌, ◌-◌, ◌*◌, ◌%◌, ◌^◌, ◌<◌, ◌≤◌, true, false, List, [], ◌∷◌, ◌++◌, length, All, Option, None, refl, ap, ◌∙◌, subst, arith, eq-eqb, ne_eqb}
 use Rattle.std.proofs.lemmas.Bool.Decides.{nat_tests}
 use Rattle.std.proofs.lemmas.List.Elements.{All-append}
 use Rattle.rv_code.specs.declared.instructions.Instr.{Instr}
 use Rattle.rv_code.specs.declared.instructions.Instr.TheVariants.{Branch}
 use Rattle.rv_code.specs.declared.operations.BranchTest.TheVariants.{Bne}
-use Rattle.rv_code.specs.Words.{word_of, IsInstr}
 use Rattle.rv_machine.specs.declared.observation.Event.{Event}
 use Rattle.rv_machine.specs.declared.observation.Observation.{Observation}
 use Rattle.rv_machine.specs.Effects.{holds, branch_target, sign_extended}
 use Rattle.rv_machine.specs.Leakage.{Leads, stays}
-use Rattle.rv_machine.specs.Machine.{State, Code, word_at, IsAt, moved_to, here, next}
-use Rattle.rv_machine.specs.Registers.{register, with_register}
+use Rattle.rv_machine.specs.Machine.{Code, IsAt, moved_to}
+use Rattle.rv_machine.specs.Registers.{register}
 use Rattle.rv_machine.proofs.RunLaws.{Leads-append}
 use Rattle.rv_machine.proofs.TurnLaws.{branch_leads, branch_passes}
 use Rattle.linked_calls.proofs.Steps.{Placed, Data, at, Step, instrs, after, event_of, shown, AreFit, steps_lead}
@@ -191,12 +190,12 @@ module _ (z : Setting) {E : Type 0} (one other : ℕ) (small : (one < 32) × (ot
   -- A loop of so many rounds, each of which begins at a place that the one before has moved on to. What is known of
   -- the places is known before any state; Left j holds where j rounds are left.
   module _ (A : Type 0) (onward : A → A) (Known : ℕ → A → Type 0) (Left : ℕ → A → E → Data → Type 0) (Q : E → Data → Type 0) (p count n : ℕ)
-           (few : count < 1024) (some : 0 < count) (even : p % 4 ≡ 0) (placed : Placed z.code (p + 4 * count) (Branch Bne one other (back_over count) ∷ []))
-           (move : (j : ℕ) (a : A) → Known (suc (suc j)) a → Known (suc j) (onward a))
-           (round : (j : ℕ) (a : A) → Known (suc j) a → Piece z E p (p + 4 * count) n (Left (suc j) a) (Left j (onward a)))
-           (over : (a : A) (e : E) (d : Data) → Left 0 a e d → register d.regs one ≡ register d.regs other)
-           (more : (j : ℕ) (a : A) (e : E) (d : Data) → Known (suc j) a → Left (suc j) a e d → register d.regs one ≢ register d.regs other)
-           (finish : (a : A) (e : E) (d : Data) → Left 0 a e d → Q e d) where
+      (few : count < 1024) (some : 0 < count) (even : p % 4 ≡ 0) (placed : Placed z.code (p + 4 * count) (Branch Bne one other (back_over count) ∷ []))
+      (move : (j : ℕ) (a : A) → Known (suc (suc j)) a → Known (suc j) (onward a))
+      (round : (j : ℕ) (a : A) → Known (suc j) a → Piece z E p (p + 4 * count) n (Left (suc j) a) (Left j (onward a)))
+      (over : (a : A) (e : E) (d : Data) → Left 0 a e d → register d.regs one ≡ register d.regs other)
+      (more : (j : ℕ) (a : A) (e : E) (d : Data) → Known (suc j) a → Left (suc j) a e d → register d.regs one ≢ register d.regs other)
+      (finish : (a : A) (e : E) (d : Data) → Left 0 a e d → Q e d) where
     pub loop : (k : ℕ) (a : A) → Known (suc k) a → Piece z E p (p + 4 * count + 4) (suc k * suc n) (Left (suc k) a) Q
     loop zero a known =
         to z refl (omega arith) (seq z (round 0 a known) (weaken z (λ e d left. left) (λ e d left. finish (onward a) e d left) (falls_through {P = Left 0 (onward a)} (p + 4 * count) count few some placed (over (onward a)))))

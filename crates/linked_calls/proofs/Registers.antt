@@ -1,7 +1,7 @@
 -- Registers after writes, and numbers in registers.
-use Rattle.std.proofs.Common.{◌≡◌, ◌≢◌, ℕ, ◌+◌, ◌-◌, ◌*◌, ◌/◌, ◌%◌, ◌^◌, ◌<◌, ◌≤◌, Bool, true, false, cond, ◌&&◌, nat_lt, nat_eq, refl, sym, ap, ◌∙◌, arith, eq-eqb, ne_eqb}
+use Rattle.std.proofs.Common.{◌≡◌, ◌≢◌, ℕ, ◌+◌, ◌*◌, ◌^◌, ◌<◌, ◌≤◌, Bool, true, false, cond, ◌&&◌, nat_lt, nat_eq, refl, ap, ◌∙◌, arith, eq-eqb, ne_eqb}
 use Rattle.std.proofs.lemmas.Bool.Decides.{nat_tests}
-use Rattle.rv_machine.specs.Effects.{sum_of, difference_of, sign_extended}
+use Rattle.rv_machine.specs.Effects.{sum_of, sign_extended}
 use Rattle.rv_machine.specs.Registers.{register, with_register}
 use Rattle.expression_code.specs.TermCode.{upper_part, lower_part}
 

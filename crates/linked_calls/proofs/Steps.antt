@@ -1,7 +1,7 @@
 -- Straight-line code, run by a function. Each instruction stands beside the address that it accesses, so what the
 -- machine shows is read off the list, and what it makes of registers and bytes is computed.
 use Rattle.std.specs.Prelude.{is_some, unwrap_or}
-use Rattle.std.proofs.Common.{◌≡◌, ℕ, zero, suc, ◌+◌, ◌*◌, ◌%◌, ◌^◌, ◌<◌, ◌≤◌, Bool, true, false, ◌&&◌, nat_lt, List, [], ◌∷◌, ◌++◌, length, map, Option, Some, None, refl, sym, ap, ap₂, ◌∙◌, subst, arith}
+use Rattle.std.proofs.Common.{◌≡◌, ℕ, suc, ◌+◌, ◌*◌, ◌%◌, ◌^◌, ◌<◌, Bool, true, false, ◌&&◌, nat_lt, List, [], ◌∷◌, length, Option, Some, None, refl, ap, ◌∙◌, subst, arith}
 use Rattle.std.proofs.lemmas.Bool.Decides.{nat_tests}
 use Rattle.std.proofs.lemmas.Bool.{false≢true}
 use Rattle.rv_code.specs.declared.instructions.Instr.{Instr}
@@ -11,27 +11,19 @@ use Rattle.rv_code.specs.Words.{word_of, IsInstr}
 use Rattle.rv_machine.specs.declared.observation.Event.{Event}
 use Rattle.rv_machine.specs.declared.observation.Event.TheVariants as event
 use Rattle.rv_machine.specs.declared.observation.Observation.{Observation}
-use Rattle.rv_machine.specs.Bytes.{ByteMap, number_at, with_number}
+use Rattle.rv_machine.specs.Bytes.{number_at, with_number}
 use Rattle.rv_machine.specs.Effects.{sign_extended, upper_value, immediate_value, shift_value, register_value, load_size, loaded_value, store_size, address_of}
 use Rattle.rv_machine.specs.Leakage.{Leads, stays}
-use Rattle.rv_machine.specs.Machine.{State, Code, word_at, IsAt, with_value, with_stored, moved_to}
+use Rattle.rv_machine.specs.Machine.{State, Code, word_at, IsAt, with_value, with_stored}
 use Rattle.rv_machine.specs.Registers.{register, with_register}
 use Rattle.rv_machine.specs.Sizes.{byte_count}
+pub use Rattle.linked_calls.specs.Does.{Data, at}
 use Rattle.rv_machine.proofs.RunLaws.{Leads-append}
 use Rattle.rv_machine.proofs.TurnLaws.{upper_leads, immediate_leads, shift_leads, register_leads, load_leads, store_leads}
 
 abbrev pub Placed : Code → ℕ → List Instr → Type 0
 Placed code p [] = Unit {0}
 Placed code p (i ∷ is) = (p % 4 ≡ 0) × (p + 4 < 2 ^ 32) × (word_at code p ≡ Some (word_of i)) × Placed code (p + 4) is
-
--- registers and bytes
-pub record Data : Type 0 where
-  pub regs : ℕ → ℕ
-  pub bytes : ByteMap
-
--- with a program counter
-abbrev pub at : ℕ → Data → State
-at p d = record { pc = p; regs = d.regs; bytes = d.bytes }
 
 -- an instruction, and the address of its access
 pub record Step : Type 0 where

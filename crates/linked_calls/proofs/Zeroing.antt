@@ -1,19 +1,18 @@
 -- The two loops that put zeros: over the frame, downward, and over all the room, upward.
 use Rattle.std.specs.Prelude.{is_some}
-use Rattle.std.proofs.Common.{◌≡◌, ◌≢◌, ℕ, zero, suc, ◌+◌, ◌-◌, ◌*◌, ◌%◌, ◌^◌, ◌<◌, ◌≤◌, true, List, [], ◌∷◌, ◌++◌, Option, Some, refl, sym, ap, ap₂, ◌∙◌, subst, arith}
-use Rattle.rv_code.specs.declared.instructions.Instr.TheVariants.{Immediate, Store, Branch}
+use Rattle.std.proofs.Common.{◌≡◌, ◌≢◌, ℕ, suc, ◌+◌, ◌-◌, ◌*◌, ◌%◌, ◌^◌, ◌<◌, ◌≤◌, true, List, [], ◌∷◌, ◌++◌, Some, refl, sym, ap, ◌∙◌, subst, arith}
+use Rattle.rv_code.specs.declared.instructions.Instr.TheVariants.{Store, Branch}
 use Rattle.rv_code.specs.declared.operations.BranchTest.TheVariants.{Bne}
 use Rattle.rv_code.specs.declared.operations.StoreOperation.TheVariants.{Sw}
 use Rattle.rv_machine.specs.declared.observation.Event.TheVariants as event
 use Rattle.rv_machine.specs.declared.memory.Size.TheVariants.{Word}
 use Rattle.rv_machine.specs.Bytes.{ByteMap, number_at, with_number}
 use Rattle.rv_machine.specs.Effects.{sum_of, sign_extended}
-use Rattle.rv_machine.specs.Registers.{with_register}
 use Rattle.linked_calls.proofs.Bytes.{AreData, number_there, stays_data, AreZeroed, no_zeros, block_zeroed, zeros_up, zeros_down}
-use Rattle.linked_calls.proofs.Parts.{Part, From, part}
+use Rattle.linked_calls.proofs.Parts.{Part, part}
 use Rattle.linked_calls.proofs.Pieces.{Setting, Piece, block, weaken, loop, Placed-left, Placed-right}
 use Rattle.linked_calls.proofs.Registers.{unwritten, near_address}
-use Rattle.linked_calls.proofs.Steps.{Placed, Data, Step, plain, access, instrs, computed, after, Reaches, AreFit}
+use Rattle.linked_calls.proofs.Steps.{Placed, Data, Step, plain, access, computed, Reaches, AreFit}
 use Rattle.function_code.specs.FunctionCode.{until_equal, added, zeros_code}
 
 -- the four stores of a block
