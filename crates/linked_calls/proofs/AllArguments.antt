@@ -1,6 +1,6 @@
 -- All arguments, taken one after another: each is read from where it was at the call, since only the frame is written.
 use Rattle.std.specs.Prelude.{◌⊎◌, is_some, unwrap_or}
-use Rattle.std.proofs.Common.{◌≡◌, ℕ, zero, suc, ◌+◌, ◌*◌, ◌%◌, ◌^◌, ◌<◌, ◌≤◌, true, List, [], ◌∷◌, ◌++◌, length, map, Option, Some, inl, inr, refl, sym, ap, ◌∙◌, subst, arith}
+use Rattle.std.proofs.Common.{◌≡◌, ℕ, suc, ◌+◌, ◌*◌, ◌%◌, ◌^◌, ◌<◌, ◌≤◌, true, List, [], ◌∷◌, ◌++◌, length, map, Some, inl, inr, refl, sym, ap, ◌∙◌, subst, arith}
 use Rattle.std.proofs.lemmas.List.{length-map}
 use Rattle.codegen.specs.Loaded.{with_numbers, numbers_at}
 use Rattle.expression_code.specs.TermCode.{load_code, store_code}
@@ -21,7 +21,7 @@ use Rattle.linked_calls.proofs.Entering.{numbers_data}
 use Rattle.linked_calls.proofs.Parts.{Runs, straight_runs, then_runs, weaken_runs}
 use Rattle.linked_calls.proofs.Pieces.{Setting}
 use Rattle.linked_calls.proofs.Steps.{Data}
-use Rattle.linked_calls.proofs.Taking.{BeginsArgument, BeginsWord, BeginsArray, Takes, bounds, bounds_turns, word_runs, array_in_runs}
+use Rattle.linked_calls.proofs.Taking.{BeginsArray, Takes, bounds, bounds_turns, word_runs, array_in_runs}
 
 -- an address before a stretch or behind it
 abbrev pub IsOutside : ℕ → ℕ → ℕ → Type 0
@@ -114,9 +114,9 @@ module _ (z : Setting) (image : Fields) (frame size : ℕ) (pointers : ℕ → �
 
   array_runs : (i : ℕ) (slot : Slot) → KnownArray i slot
       → Runs z (bounds_turns (argument_offset image i) slot.offset (bytes_of slot slot.param.length) + slot.param.length * in_turns slot.param.kind)
-        (bounds (argument_offset image i) slot.offset (bytes_of slot slot.param.length) ++ until_equal 5 7 (copied_in_code slot.param.kind))
-        (BeginsTaking (λ bytes. ReadyArray bytes i slot))
-        (Takes (copied_into (element_bytes slot.param.kind) (meant slot.param.kind) slot.param.length (pointers i) (slot_at slot)))
+      (bounds (argument_offset image i) slot.offset (bytes_of slot slot.param.length) ++ until_equal 5 7 (copied_in_code slot.param.kind))
+      (BeginsTaking (λ bytes. ReadyArray bytes i slot))
+      (Takes (copied_into (element_bytes slot.param.kind) (meant slot.param.kind) slot.param.length (pointers i) (slot_at slot)))
   array_runs i slot known =
       let kind = slot.param.kind in
       let inside = known.inside in
@@ -128,11 +128,11 @@ module _ (z : Setting) (image : Fields) (frame size : ℕ) (pointers : ℕ → �
       })
       (λ s t begins takes. takes)
       (subst (λ n. Runs z (bounds_turns (argument_offset image i) slot.offset (element_bytes kind * n) + n * in_turns kind)
-                     (bounds (argument_offset image i) slot.offset (element_bytes kind * n) ++ until_equal 5 7 (copied_in_code kind))
-                     (BeginsArray z frame (argument_offset image i) (pointers i) slot.offset kind known.even known.below known.may n)
-                     (Takes (copied_into (element_bytes kind) (meant kind) n (pointers i) (slot_at slot))))
-       known.count_is
-       (array_in_runs z frame (argument_offset image i) (pointers i) slot.offset kind known.even known.below known.may known.count known.slot_below known.few known.can known.loads known.stores))
+      (bounds (argument_offset image i) slot.offset (element_bytes kind * n) ++ until_equal 5 7 (copied_in_code kind))
+      (BeginsArray z frame (argument_offset image i) (pointers i) slot.offset kind known.even known.below known.may n)
+      (Takes (copied_into (element_bytes kind) (meant kind) n (pointers i) (slot_at slot))))
+      known.count_is
+      (array_in_runs z frame (argument_offset image i) (pointers i) slot.offset kind known.even known.below known.may known.count known.slot_below known.few known.can known.loads known.stores))
 
   argument_runs : (i : ℕ) (slot : Slot) (form : Form) → IsKnown i slot form
       → Runs z (argument_turns i slot form) (argument_code image i slot form) (BeginsTaking (λ bytes. IsReady bytes i slot form)) (Takes (λ s. taken s.bytes i slot form))
@@ -226,9 +226,9 @@ module _ (z : Setting) (image : Fields) (frame size : ℕ) (pointers : ℕ → �
         let form = slot.param.form in
         then_runs z (argument_code image i slot form) (arguments_code image (i + 1) slots)
         (weaken_runs z {P' = BeginsTaking (λ bytes. AreReady bytes i (slot ∷ slots))} (argument_code image i slot form)
-         (λ s begins. record { stack = begins.stack; frame_there = begins.frame_there; ready = begins.ready.0 })
-         (λ s t begins takes. takes)
-         (argument_runs i slot form known.0))
+        (λ s begins. record { stack = begins.stack; frame_there = begins.frame_there; ready = begins.ready.0 })
+        (λ s t begins takes. takes)
+        (argument_runs i slot form known.0))
         (arguments_runs (i + 1) slots known.1)
         (λ s t begins takes. record {
           stack = takes.others 2 (λ e. omega arith) (λ e. omega arith) (λ e. omega arith) (λ e. omega arith) ∙ begins.stack;

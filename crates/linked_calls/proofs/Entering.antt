@@ -1,26 +1,26 @@
 -- The entry: room above the frame, the caller's registers and the arguments in it, and the frame zeroed.
 use Rattle.std.specs.Prelude.{is_some}
-use Rattle.std.proofs.Common.{◌≡◌, ◌≢◌, ℕ, zero, suc, ◌+◌, ◌-◌, ◌*◌, ◌%◌, ◌^◌, ◌<◌, ◌≤◌, ◌==◌, Bool, true, ◌&&◌, cond, nat_lt, if◌then◌else◌, ◌/◌, append_assoc, List, [], ◌∷◌, ◌++◌, length, map, Option, Some, refl, sym, ap, ap₂, ◌∙◌, subst, arith, ne_eqb}
+use Rattle.std.proofs.Common.{◌≡◌, ◌≢◌, ℕ, suc, ◌+◌, ◌-◌, ◌*◌, ◌%◌, ◌^◌, ◌<◌, ◌≤◌, ◌==◌, Bool, true, ◌&&◌, nat_lt, if◌then◌else◌, ◌/◌, List, [], ◌∷◌, ◌++◌, length, map, refl, sym, ap, ap₂, ◌∙◌, subst, arith}
 use Rattle.std.proofs.lemmas.Bool.Decides.{nat_tests}
 use Rattle.rv_code.specs.declared.instructions.Instr.{Instr}
-use Rattle.rv_code.specs.declared.instructions.Instr.TheVariants.{Immediate, Register, Store}
+use Rattle.rv_code.specs.declared.instructions.Instr.TheVariants.{Register, Store}
 use Rattle.rv_code.specs.declared.operations.RegisterOperation.TheVariants.{Sub}
 use Rattle.rv_code.specs.declared.operations.StoreOperation.TheVariants.{Sw}
 use Rattle.rv_machine.specs.declared.memory.Size.TheVariants.{Word}
-use Rattle.rv_machine.specs.Bytes.{ByteMap, number_at, with_number}
-use Rattle.rv_machine.specs.Effects.{sum_of, difference_of, sign_extended}
-use Rattle.rv_machine.specs.Registers.{register, with_register}
+use Rattle.rv_machine.specs.Bytes.{ByteMap, with_number}
+use Rattle.rv_machine.specs.Effects.{sum_of, difference_of}
+use Rattle.rv_machine.specs.Registers.{register}
 use Rattle.codegen.specs.Loaded.{with_numbers}
 use Rattle.expression_code.specs.TermCode.{constant_code}
 use Rattle.function_code.specs.Convention.{saved_registers, argument_registers}
-use Rattle.function_code.specs.FunctionCode.{stores_code, entry_code, frame_code, until_equal, added, zeros_code}
-use Rattle.linked_calls.proofs.Bytes.{AreData, number_there, stays_data, AreZeroed, no_zeros}
+use Rattle.function_code.specs.FunctionCode.{stores_code, entry_code, until_equal, added, zeros_code}
+use Rattle.linked_calls.proofs.Bytes.{AreData, number_there, stays_data, AreZeroed}
 use Rattle.linked_calls.proofs.Copying.{MayStore}
-use Rattle.linked_calls.proofs.Parts.{Part, Runs, straight_runs, then_runs, weaken_runs, part_to, Sets, constant_part}
-use Rattle.linked_calls.proofs.Pieces.{Setting, Makes, AreAllowed}
-use Rattle.linked_calls.proofs.Registers.{unwritten, near_address, one_fit, three_fit}
-use Rattle.linked_calls.proofs.Steps.{Placed, Data, Step, plain, access, instrs, computed, after, Reaches, AreFit}
-use Rattle.linked_calls.proofs.Zeroing.{BeginsDown, EndsDown, zero_down}
+use Rattle.linked_calls.proofs.Parts.{Part, Runs, straight_runs, then_runs, weaken_runs, part_to, constant_part}
+use Rattle.linked_calls.proofs.Pieces.{Setting, AreAllowed}
+use Rattle.linked_calls.proofs.Registers.{unwritten, near_address, three_fit}
+use Rattle.linked_calls.proofs.Steps.{Placed, Data, Step, plain, access, instrs, computed, after, AreFit}
+use Rattle.linked_calls.proofs.Zeroing.{zero_down}
 
 -- Registers into words, one after another.
 
@@ -58,11 +58,12 @@ stores_fit : (base offset a : ℕ) (rs : List ℕ) (d : Data) → are_registers 
 stores_fit base offset a [] d registers few root even near below there = tt
 stores_fit base offset a (r ∷ rs) d registers few root even near below there =
     let each = both_true r (are_registers rs) registers in
-    let here = number_there d.bytes 4 a (λ x low high. there x low (omega (arith, high))) in
-    (three_fit r 32 base 32 offset 4096 each.0 few (omega (arith, near)),
+    let here = number_there d.bytes 4 a (λ x low high. there x low (omega (arith, high))) in (
+      three_fit r 32 base 32 offset 4096 each.0 few (omega (arith, near)),
       record { address = near_address (register d.regs base) offset (omega (arith, near)) (omega (arith, below)) ∙ root; even = even; there = here },
       stores_fit base (offset + 4) (a + 4) rs (record { regs = d.regs; bytes = with_number d.bytes 4 a (register d.regs r) }) each.1 few (omega arith) (omega arith) (omega (arith, near)) (omega (arith, below))
-      (λ x low high. stays_data d.bytes 4 a (register d.regs r) a (a + 4 * suc (length rs)) here there x (omega (arith, low)) (omega (arith, high))))
+          (λ x low high. stays_data d.bytes 4 a (register d.regs r) a (a + 4 * suc (length rs)) here there x (omega (arith, low)) (omega (arith, high))),
+    )
 
 -- a base register is so far below an address, from which on there is room for so many words
 pub record BeginsStores (base offset a n : ℕ) (s : Data) : Type 0 where
@@ -74,7 +75,7 @@ pub record Stores (a : ℕ) (rs : List ℕ) (s t : Data) : Type 0 where
   pub bytes : t.bytes ≡ with_numbers s.bytes 4 a (map (λ r. register s.regs r) rs)
 
 module _ (z : Setting) (base offset a : ℕ) (rs : List ℕ) (registers : are_registers rs ≡ true) (few : base < 32) (even : a % 4 ≡ 0) (near : offset + 4 * length rs ≤ 2048) (below : a + 4 * length rs ≤ 2 ^ 32)
-         (may : MayStore z 4 Word a (a + 4 * length rs)) where
+    (may : MayStore z 4 Word a (a + 4 * length rs)) where
   pub stores_runs : Runs z (length rs) (stores_code base offset rs) (BeginsStores base offset a (length rs)) (Stores a rs)
   stores_runs p placed =
       let steps = stores_steps base offset a rs in
@@ -146,7 +147,7 @@ module _ (z : Setting) (above : ℕ) (even : above % 16 ≡ 0) (below : above + 
       record { root = omega arith; there = λ x l h. ap (λ (b : ByteMap). is_some (b x)) low.bytes ∙ begins.there x l (omega (arith, h)) })
       (λ s t u begins low stored.
       let bytes : u.bytes ≡ with_numbers s.bytes 4 above (map (λ r. register s.regs r) saved_registers) =
-            stored.bytes ∙ ap₂ (λ (b : ByteMap) (vs : List ℕ). with_numbers b 4 above vs) low.bytes (saved_values s t low) in
+      stored.bytes ∙ ap₂ (λ (b : ByteMap) (vs : List ℕ). with_numbers b 4 above vs) low.bytes (saved_values s t low) in
       record {
         stack = ap (λ (r : ℕ → ℕ). r 2) stored.regs ∙ low.stack;
         bytes = bytes;

@@ -1,21 +1,19 @@
 -- The way back: the caller's registers restored, all the room wiped, and the other registers cleared.
 use Rattle.std.specs.Prelude.{is_some, unwrap_or}
-use Rattle.std.proofs.Common.{◌≡◌, ◌≢◌, ℕ, zero, suc, ◌+◌, ◌*◌, ◌%◌, ◌^◌, ◌<◌, ◌≤◌, Bool, true, ◌&&◌, nat_lt, List, [], ◌∷◌, ◌++◌, length, map, Option, Some, refl, sym, ap, ap₂, ◌∙◌, subst, arith}
+use Rattle.std.proofs.Common.{◌≡◌, ℕ, ◌+◌, ◌%◌, ◌^◌, ◌<◌, ◌≤◌, true, List, [], ◌∷◌, map, Some, refl, ap, ◌∙◌, subst, arith}
 use Rattle.function_code.specs.Convention.{saved_registers, scratch_registers}
 use Rattle.function_code.specs.FunctionCode.{loads_code, clear_registers_code}
-use Rattle.rv_code.specs.declared.instructions.Instr.{Instr}
 use Rattle.rv_code.specs.declared.instructions.Instr.TheVariants.{Immediate, Load}
 use Rattle.rv_code.specs.declared.operations.ImmediateOperation.TheVariants.{Addi}
 use Rattle.rv_code.specs.declared.operations.LoadOperation.TheVariants.{Lw}
 use Rattle.rv_machine.specs.declared.observation.Event.TheVariants as event
 use Rattle.rv_machine.specs.declared.memory.Size.TheVariants.{Word}
 use Rattle.rv_machine.specs.Bytes.{ByteMap, number_at}
-use Rattle.rv_machine.specs.Registers.{register, with_register}
 use Rattle.linked_calls.proofs.Copying.{MayLoad}
-use Rattle.linked_calls.proofs.Parts.{Part, Runs, straight_runs, part_to}
-use Rattle.linked_calls.proofs.Pieces.{Setting, Makes, AreAllowed}
+use Rattle.linked_calls.proofs.Parts.{Runs, straight_runs}
+use Rattle.linked_calls.proofs.Pieces.{Setting}
 use Rattle.linked_calls.proofs.Registers.{near_address}
-use Rattle.linked_calls.proofs.Steps.{Placed, Data, Step, plain, access, instrs, computed, after, Reaches, AreFit}
+use Rattle.linked_calls.proofs.Steps.{Data, Step, plain, access, Reaches}
 
 -- The caller's registers.
 
@@ -55,17 +53,63 @@ module _ (z : Setting) (a : ℕ) (even : a % 4 ≡ 0) (below : a + 48 < 2 ^ 32) 
   -- the data after the loads of a list of registers is that of their words
   pub restore_runs : Runs z 12 (loads_code 5 0 saved_registers) (BeginsRestore a) (Restores a)
   restore_runs =
-      straight_runs z (saved_steps a)
-      (may a (omega arith) (omega arith), (may_at 4 (omega arith), (may_at 8 (omega arith), (may_at 12 (omega arith), (may_at 16 (omega arith), (may_at 20 (omega arith),
-        (may_at 24 (omega arith), (may_at 28 (omega arith), (may_at 32 (omega arith), (may_at 36 (omega arith), (may_at 40 (omega arith), (may_at 44 (omega arith), tt))))))))))))
+      straight_runs z (saved_steps a) (
+        may a (omega arith) (omega arith),
+        (
+          may_at 4 (omega arith),
+          (
+            may_at 8 (omega arith),
+            (
+              may_at 12 (omega arith),
+              (
+                may_at 16 (omega arith),
+                (
+                  may_at 20 (omega arith),
+                  (may_at 24 (omega arith), (may_at 28 (omega arith), (may_at 32 (omega arith), (may_at 36 (omega arith), (may_at 40 (omega arith), (may_at 44 (omega arith), tt)))))),
+                ),
+              ),
+            ),
+          ),
+        ),
+      )
       (λ s begins.
       let go = λ (d : Data) (k : ℕ) (root : d.regs 5 ≡ a) (small : k + 4 ≤ 48) (whole : k % 4 ≡ 0) (bytes : d.bytes ≡ s.bytes).
-            reach d k root small whole (ap (λ (b : ByteMap). is_some (number_at b 4 (a + k))) bytes ∙ begins.there k small) in
+      reach d k root small whole (ap (λ (b : ByteMap). is_some (number_at b 4 (a + k))) bytes ∙ begins.there k small) in
       let r = begins.root in
       record {
-        fit = (refl, reach_first s r (begins.there 0 (omega arith)), (refl, go _ 4 r (omega arith) refl refl, (refl, go _ 8 r (omega arith) refl refl, (refl, go _ 12 r (omega arith) refl refl,
-          (refl, go _ 16 r (omega arith) refl refl, (refl, go _ 20 r (omega arith) refl refl, (refl, go _ 24 r (omega arith) refl refl, (refl, go _ 28 r (omega arith) refl refl,
-          (refl, go _ 32 r (omega arith) refl refl, (refl, go _ 36 r (omega arith) refl refl, (refl, go _ 40 r (omega arith) refl refl, (refl, go _ 44 r (omega arith) refl refl, tt))))))))))));
+        fit = (
+          refl,
+          reach_first s r (begins.there 0 (omega arith)),
+          (
+            refl,
+            go _ 4 r (omega arith) refl refl,
+            (
+              refl,
+              go _ 8 r (omega arith) refl refl,
+              (
+                refl,
+                go _ 12 r (omega arith) refl refl,
+                (
+                  refl,
+                  go _ 16 r (omega arith) refl refl,
+                  (
+                    refl,
+                    go _ 20 r (omega arith) refl refl,
+                    (
+                      refl,
+                      go _ 24 r (omega arith) refl refl,
+                      (
+                        refl,
+                        go _ 28 r (omega arith) refl refl,
+                        (refl, go _ 32 r (omega arith) refl refl, (refl, go _ 36 r (omega arith) refl refl, (refl, go _ 40 r (omega arith) refl refl, (refl, go _ 44 r (omega arith) refl refl, tt)))),
+                      ),
+                    ),
+                  ),
+                ),
+              ),
+            ),
+          ),
+        );
         done = record { regs = refl; others = refl; same = refl };
       })
 

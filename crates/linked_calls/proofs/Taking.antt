@@ -1,10 +1,10 @@
 -- The arguments, taken into their slots: a word is cut to what it means, and an array copied element by element.
-use Rattle.std.specs.Prelude.{◌⊎◌, is_some, unwrap_or}
-use Rattle.std.proofs.Common.{◌≡◌, ◌≢◌, ℕ, zero, suc, ◌+◌, ◌-◌, ◌*◌, ◌/◌, ◌%◌, ◌^◌, ◌<◌, ◌≤◌, true, List, [], ◌∷◌, ◌++◌, length, map, Option, Some, None, bit_and, refl, sym, ap, ap₂, ◌∙◌, subst, arith, append_assoc}
+use Rattle.std.specs.Prelude.{is_some, unwrap_or}
+use Rattle.std.proofs.Common.{◌≡◌, ◌≢◌, ℕ, suc, ◌+◌, ◌*◌, ◌/◌, ◌%◌, ◌^◌, ◌<◌, true, List, [], ◌∷◌, ◌++◌, length, map, Option, Some, bit_and, refl, sym, ap, ap₂, ◌∙◌, subst, arith, append_assoc}
 use Rattle.std.proofs.lemmas.Grind.{and_numeral}
 use Rattle.codegen.specs.Loaded.{with_numbers, numbers_at}
 use Rattle.expression_code.specs.TermCode.{load_code, store_code, constant_code}
-use Rattle.function_code.specs.FunctionCode.{meant_code, until_equal, added, copied_in_code, copied_out_code}
+use Rattle.function_code.specs.FunctionCode.{meant_code, until_equal, copied_in_code, copied_out_code}
 use Rattle.language.specs.Size.{element_bytes}
 use Rattle.language.specs.declared.signature.Kind.{Kind}
 use Rattle.language.specs.declared.signature.Kind.TheVariants.{Boolean, Uint8, Uint16, Uint32}
@@ -16,15 +16,15 @@ use Rattle.rv_code.specs.declared.operations.ShiftOperation.TheVariants.{Slli, S
 use Rattle.rv_machine.specs.declared.observation.Event.TheVariants as event
 use Rattle.rv_machine.specs.declared.memory.Size.TheVariants.{Word}
 use Rattle.rv_machine.specs.Bytes.{ByteMap, number_at, with_number}
-use Rattle.rv_machine.specs.Effects.{sum_of, register_value, immediate_value, shift_value, sign_extended}
+use Rattle.rv_machine.specs.Effects.{sum_of, register_value, shift_value}
 use Rattle.rv_machine.specs.Registers.{register, with_register}
 use Rattle.linked_calls.specs.Meant.{meant}
 use Rattle.linked_calls.proofs.Bytes.{AreData, with_number_cut}
-use Rattle.linked_calls.proofs.Copying.{CanCopy, MayLoad, MayStore, BeginsCopy, Copies, copied_into, copied_back, element_size, in_turns, copy_in_runs, copy_out_runs, truth_same}
-use Rattle.linked_calls.proofs.Parts.{Part, Runs, straight_runs, then_runs, weaken_runs, part_to, Sets, constant_part, HasWord, load_part, Puts, store_part}
-use Rattle.linked_calls.proofs.Pieces.{Setting, Makes, AreAllowed}
+use Rattle.linked_calls.proofs.Copying.{CanCopy, MayLoad, MayStore, BeginsCopy, copied_into, copied_back, element_size, in_turns, copy_in_runs, copy_out_runs, truth_same}
+use Rattle.linked_calls.proofs.Parts.{Runs, straight_runs, then_runs, weaken_runs, Sets, constant_part, HasWord, load_part, store_part}
+use Rattle.linked_calls.proofs.Pieces.{Setting}
 use Rattle.linked_calls.proofs.Registers.{register-at, written, unwritten, three_fit}
-use Rattle.linked_calls.proofs.Steps.{Placed, Data, Step, plain, access, instrs, computed, after, Reaches, AreFit}
+use Rattle.linked_calls.proofs.Steps.{Data, plain}
 
 -- the same code, otherwise written
 pub as_code : (z : Setting) {P : Data → Type 0} {R : Data → Data → Type 0} (n : ℕ) (is js : List Instr) → is ≡ js → Runs z n is P R → Runs z n js P R
@@ -163,7 +163,7 @@ module _ (z : Setting) (frame offset slot : ℕ) (kind : Kind) (even : (frame + 
   -- a word into its slot, with one list for all words
   pub word_runs : (frame + slot) % 4 ≡ 0 → frame + slot < 2 ^ 32 → z.allowed (Some (event.Store (frame + slot) Word))
       → Runs z (length (load_code 5 offset) + (length (meant_code 5 kind) + length (store_code 5 slot))) ((load_code 5 offset ++ meant_code 5 kind) ++ store_code 5 slot) (BeginsWord frame offset slot)
-        (Takes (word_taken frame offset slot kind))
+      (Takes (word_taken frame offset slot kind))
   word_runs slot_even low may' =
       as_code z (length (load_code 5 offset) + (length (meant_code 5 kind) + length (store_code 5 slot))) (load_code 5 offset ++ (meant_code 5 kind ++ store_code 5 slot)) ((load_code 5 offset ++ meant_code 5 kind) ++ store_code 5 slot)
       (sym (append_assoc (load_code 5 offset) (meant_code 5 kind) (store_code 5 slot)))
@@ -205,7 +205,7 @@ module _ (z : Setting) (frame offset raw slot : ℕ) (kind : Kind) (even : (fram
     -- into its slot
     pub array_in_runs : MayLoad z (element_bytes kind) (element_size kind) raw (raw + element_bytes kind * suc k) → MayStore z (element_bytes kind) (element_size kind) (frame + slot) (frame + slot + element_bytes kind * suc k)
         → Runs z (bounds_turns offset slot (element_bytes kind * suc k) + suc k * in_turns kind) (bounds offset slot (element_bytes kind * suc k) ++ until_equal 5 7 (copied_in_code kind)) (BeginsArray (suc k))
-          (Takes (copied_into (element_bytes kind) (meant kind) (suc k) raw (frame + slot)))
+        (Takes (copied_into (element_bytes kind) (meant kind) (suc k) raw (frame + slot)))
     array_in_runs loads stores =
         then_runs z (bounds offset slot (element_bytes kind * suc k)) (until_equal 5 7 (copied_in_code kind))
         (weaken_runs z {P' = BeginsArray (suc k)} (bounds offset slot (element_bytes kind * suc k)) (λ s begins. begins.argument) (λ s t begins bounded. bounded) (bounds_runs z frame offset raw even below may slot (element_bytes kind * suc k) low few))
@@ -219,7 +219,7 @@ module _ (z : Setting) (frame offset raw slot : ℕ) (kind : Kind) (even : (fram
     -- and back
     pub array_out_runs : MayStore z (element_bytes kind) (element_size kind) raw (raw + element_bytes kind * suc k) → MayLoad z (element_bytes kind) (element_size kind) (frame + slot) (frame + slot + element_bytes kind * suc k)
         → Runs z (bounds_turns offset slot (element_bytes kind * suc k) + suc k * 5) (bounds offset slot (element_bytes kind * suc k) ++ until_equal 5 7 (copied_out_code kind)) (BeginsArray (suc k))
-          (Takes (copied_back (element_bytes kind) (suc k) raw (frame + slot)))
+        (Takes (copied_back (element_bytes kind) (suc k) raw (frame + slot)))
     array_out_runs stores loads =
         then_runs z (bounds offset slot (element_bytes kind * suc k)) (until_equal 5 7 (copied_out_code kind))
         (weaken_runs z {P' = BeginsArray (suc k)} (bounds offset slot (element_bytes kind * suc k)) (λ s begins. begins.argument) (λ s t begins bounded. bounded) (bounds_runs z frame offset raw even below may slot (element_bytes kind * suc k) low few))
