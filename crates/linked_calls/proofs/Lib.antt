@@ -1,0 +1,15 @@
+pub mod Steps
+pub mod Pieces
+pub mod Registers
+pub mod Bytes
+pub mod Parts
+pub mod Zeroing
+pub mod Copying
+pub mod Entering
+pub mod Taking
+pub mod Leaving
+pub mod AllArguments
+pub mod Placing
+pub mod Zeros
+pub mod Copies
+pub mod Words

@@ -1,0 +1,90 @@
+-- An argument that points to an array: the array is copied into its slot before the body, and back behind it where it may be
+-- changed.
+use Rattle.std.specs.Prelude.{◌≡◌, ◌≢◌, ◌⊎◌, ℕ, ◌+◌, ◌%◌, ◌^◌, ◌<◌, ◌≤◌, map, Option, Some, None}
+use Rattle.codegen.specs.Loaded.{with_argument, with_numbers, numbers_at}
+use Rattle.function_code.specs.FunctionCode.{argument_offset, array_bytes, argument_code, copy_out_code}
+use Rattle.function_code.specs.Sections.{argument_turns, array_turns}
+use Rattle.image_fields.specs.Fields.{Fields}
+use Rattle.image_fields.specs.declared.slot.Slot.{Slot}
+use Rattle.language.specs.Size.{element_bytes}
+use Rattle.language.specs.declared.signature.Form.TheVariants.{FixedArray, MutableArray}
+use Rattle.language.specs.declared.values.Arg.TheVariants.{Array}
+use Rattle.linked_calls.specs.Does.{Data, Does, AreThere}
+use Rattle.linked_calls.specs.Meant.{meant}
+use Rattle.linked_calls.specs.Stretches.{AreData, LiesIn}
+use Rattle.rv_machine.specs.Bytes.{number_at}
+use Rattle.rv_machine.specs.declared.observation.Event.{Event}
+use Rattle.rv_machine.specs.declared.observation.Event.TheVariants.{Load, Store, Div, Mul}
+use Rattle.rv_machine.specs.Machine.{Code}
+
+-- where the frame of a call lies, which argument it is, and where the argument points
+pub record Pointed : Type 0 where
+  pub frame : ℕ
+  pub index : ℕ
+  pub pointer : ℕ
+
+-- where the raw argument stands
+abbrev pub place_of : Fields → Pointed → ℕ
+place_of image spot = spot.frame + argument_offset image spot.index
+
+-- where the slot lies
+abbrev pub slot_of : Slot → Pointed → ℕ
+slot_of slot spot = spot.frame + slot.offset
+
+-- two stretches of so many bytes do not meet
+abbrev pub AreApart : ℕ → ℕ → ℕ → Type 0
+AreApart n one other = (one + n ≤ other) ⊎ (other + n ≤ one)
+
+-- an array and its slot lie so that the one can be copied to the other
+pub record CanBeCopied (image : Fields) (slot : Slot) (spot : Pointed) : Type 0 where
+  pub some : 0 < slot.param.length
+  pub frame_aligned : spot.frame % 4 ≡ 0
+  pub array_aligned : spot.pointer % element_bytes slot.param.kind ≡ 0
+  pub slot_aligned : slot_of slot spot % element_bytes slot.param.kind ≡ 0
+  pub place_ends : place_of image spot < 2 ^ 32
+  pub array_ends : spot.pointer + array_bytes slot ≤ 2 ^ 32
+  pub slot_ends : slot_of slot spot + array_bytes slot < 2 ^ 32
+  pub apart : AreApart (array_bytes slot) spot.pointer (slot_of slot spot)
+
+-- the frame's base is in x2, the pointer where the raw argument stands, and array and slot are data
+pub record HasArray (image : Fields) (slot : Slot) (spot : Pointed) (s : Data) : Type 0 where
+  pub stack : s.regs 2 ≡ spot.frame
+  pub argument : number_at s.bytes 4 (place_of image spot) ≡ Some spot.pointer
+  pub array_there : AreData spot.pointer (spot.pointer + array_bytes slot) s.bytes
+  pub slot_there : AreData (slot_of slot spot) (slot_of slot spot + array_bytes slot) s.bytes
+
+-- the registers that the copying code writes
+abbrev pub OthersAsBefore : Data → Data → Type 0
+OthersAsBefore s t = (q : ℕ) → q ≢ 5 → q ≢ 6 → q ≢ 7 → q ≢ 28 → t.regs q ≡ s.regs q
+
+-- loads of the raw argument and of one stretch of so many bytes, stores to another, and no other access
+abbrev pub IsCopying : ℕ → ℕ → ℕ → ℕ → Option Event → Type 0
+IsCopying place n from to None = Unit {0}
+IsCopying place n from to (Some (Load a size)) = (a ≡ place) ⊎ LiesIn from (from + n) a size
+IsCopying place n from to (Some (Store a size)) = LiesIn to (to + n) a size
+IsCopying place n from to (Some (Div a b)) = ⊥
+IsCopying place n from to (Some (Mul a b)) = ⊥
+
+-- the slot holds the elements of the array, each as it is meant
+pub record IsTaken (slot : Slot) (spot : Pointed) (s t : Data) : Type 0 where
+  pub bytes : t.bytes ≡ with_argument spot.frame s.bytes slot (Array (map (meant slot.param.kind) (numbers_at s.bytes (element_bytes slot.param.kind) spot.pointer slot.param.length)))
+  pub others : OthersAsBefore s t
+
+-- the code that takes an array does so, whether it may be changed or not
+abbrev pub ArrayIsTaken : Type 0
+ArrayIsTaken =
+    (code : Code) (start : ℕ) (image : Fields) (slot : Slot) (spot : Pointed) → AreThere code start (argument_code image spot.index slot FixedArray) → CanBeCopied image slot spot
+    → Does code start (argument_code image spot.index slot FixedArray) (argument_turns image spot.index slot FixedArray)
+    (IsCopying (place_of image spot) (array_bytes slot) spot.pointer (slot_of slot spot)) (HasArray image slot spot) (IsTaken slot spot)
+
+-- the array holds what the slot holds
+pub record IsHandedBack (slot : Slot) (spot : Pointed) (s t : Data) : Type 0 where
+  pub bytes : t.bytes ≡ with_numbers s.bytes (element_bytes slot.param.kind) spot.pointer (numbers_at s.bytes (element_bytes slot.param.kind) (slot_of slot spot) slot.param.length)
+  pub others : OthersAsBefore s t
+
+-- the code that hands an array back does so
+abbrev pub ArrayIsHandedBack : Type 0
+ArrayIsHandedBack =
+    (code : Code) (start : ℕ) (image : Fields) (slot : Slot) (spot : Pointed) → AreThere code start (copy_out_code image spot.index slot MutableArray) → CanBeCopied image slot spot
+    → Does code start (copy_out_code image spot.index slot MutableArray) (array_turns image spot.index slot)
+    (IsCopying (place_of image spot) (array_bytes slot) (slot_of slot spot) spot.pointer) (HasArray image slot spot) (IsHandedBack slot spot)

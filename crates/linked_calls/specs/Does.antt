@@ -1,0 +1,36 @@
+-- What a piece of code does wherever it stands: from every state of some kind it leads to behind its instructions in an
+-- exact number of turns. What it shows is one list, given before the state, so that no two such states show different ones.
+use Rattle.std.specs.Prelude.{ℕ, ◌+◌, ◌*◌, List, length, map, All, Option}
+use Rattle.codegen.specs.Anywhere.{Stand}
+use Rattle.rv_code.specs.declared.instructions.Instr.{Instr}
+use Rattle.rv_code.specs.Words.{word_of}
+use Rattle.rv_machine.specs.declared.observation.Event.{Event}
+use Rattle.rv_machine.specs.declared.observation.Observation.{Observation}
+use Rattle.rv_machine.specs.Bytes.{ByteMap}
+use Rattle.rv_machine.specs.Leakage.{Leads}
+use Rattle.rv_machine.specs.Machine.{State, Code}
+
+-- what a state holds beside its program counter
+pub record Data : Type 0 where
+  pub regs : ℕ → ℕ
+  pub bytes : ByteMap
+
+-- with a program counter
+abbrev pub at : ℕ → Data → State
+at p d = record { pc = p; regs = d.regs; bytes = d.bytes }
+
+-- a run that shows this list, from the first of the instructions to behind the last
+pub record RunOf (code : Code) (start : ℕ) (is : List Instr) (turns : ℕ) (list : List Observation) (After : Data → Data → Type 0) (s : Data) : Type 0 where
+  pub end : Data
+  pub leads : Leads code turns (at start s) list (at (start + 4 * length is) end)
+  pub done : After s end
+
+-- instructions from an address on: turns, the accesses that they make, what they begin in and what they make of it
+pub record Does (code : Code) (start : ℕ) (is : List Instr) (turns : ℕ) (Allowed : Option Event → Type 0) (Before : Data → Type 0) (After : Data → Data → Type 0) : Type 0 where
+  pub shown : List Observation
+  pub within : All (λ (o : Observation). Allowed o.event) shown
+  pub runs : (s : Data) → Before s → RunOf code start is turns shown After s
+
+-- the words of instructions stand in code from an address on
+abbrev pub AreThere : Code → ℕ → List Instr → Type 0
+AreThere code start is = Stand code start (map word_of is)

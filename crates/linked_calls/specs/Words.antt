@@ -1,0 +1,49 @@
+-- An argument that is a word: what it means is put into its slot before the body.
+use Rattle.std.specs.Prelude.{◌≡◌, ◌≢◌, ℕ, ◌+◌, ◌%◌, ◌^◌, ◌<◌, Option, Some, None}
+use Rattle.codegen.specs.Loaded.{with_argument, word_in}
+use Rattle.function_code.specs.FunctionCode.{argument_offset, argument_code}
+use Rattle.function_code.specs.Sections.{argument_turns}
+use Rattle.image_fields.specs.Fields.{Fields}
+use Rattle.image_fields.specs.declared.slot.Slot.{Slot}
+use Rattle.language.specs.declared.signature.Form.TheVariants.{SingleWord}
+use Rattle.language.specs.declared.values.Arg.TheVariants.{Word}
+use Rattle.linked_calls.specs.Does.{Data, Does, AreThere}
+use Rattle.linked_calls.specs.Meant.{meant}
+use Rattle.linked_calls.specs.Stretches.{AreData}
+use Rattle.rv_machine.specs.declared.memory.Size.TheVariants as sizes
+use Rattle.rv_machine.specs.declared.observation.Event.{Event}
+use Rattle.rv_machine.specs.declared.observation.Event.TheVariants as event
+use Rattle.rv_machine.specs.Machine.{Code}
+
+-- the raw argument and the slot are words at multiples of 4, below 2^32
+pub record CanBePut (image : Fields) (slot : Slot) (frame i : ℕ) : Type 0 where
+  pub frame_aligned : frame % 4 ≡ 0
+  pub slot_aligned : (frame + slot.offset) % 4 ≡ 0
+  pub place_ends : frame + argument_offset image i < 2 ^ 32
+  pub slot_ends : frame + slot.offset < 2 ^ 32
+
+-- the frame's base is in x2, and both words are data
+pub record HasWordArgument (image : Fields) (slot : Slot) (frame i : ℕ) (s : Data) : Type 0 where
+  pub stack : s.regs 2 ≡ frame
+  pub argument_there : AreData (frame + argument_offset image i) (frame + argument_offset image i + 4) s.bytes
+  pub slot_there : AreData (frame + slot.offset) (frame + slot.offset + 4) s.bytes
+
+-- the slot holds what the raw argument means
+pub record IsPut (image : Fields) (slot : Slot) (frame i : ℕ) (s t : Data) : Type 0 where
+  pub bytes : t.bytes ≡ with_argument frame s.bytes slot (Word (meant slot.param.kind (word_in frame s.bytes (argument_offset image i))))
+  pub others : (q : ℕ) → q ≢ 5 → q ≢ 28 → t.regs q ≡ s.regs q
+
+-- one load of a word, one store of a word, and no other access
+abbrev pub IsPutting : ℕ → ℕ → Option Event → Type 0
+IsPutting place target None = Unit {0}
+IsPutting place target (Some (event.Load a size)) = (a ≡ place) × (size ≡ sizes.Word)
+IsPutting place target (Some (event.Store a size)) = (a ≡ target) × (size ≡ sizes.Word)
+IsPutting place target (Some (event.Div a b)) = ⊥
+IsPutting place target (Some (event.Mul a b)) = ⊥
+
+-- the code that takes a word does so, and shows nothing of it
+abbrev pub WordIsTaken : Type 0
+WordIsTaken =
+    (code : Code) (start : ℕ) (image : Fields) (slot : Slot) (frame i : ℕ) → AreThere code start (argument_code image i slot SingleWord) → CanBePut image slot frame i
+    → Does code start (argument_code image i slot SingleWord) (argument_turns image i slot SingleWord)
+    (IsPutting (frame + argument_offset image i) (frame + slot.offset)) (HasWordArgument image slot frame i) (IsPut image slot frame i)

@@ -1,0 +1,56 @@
+-- The frame of a call, zeroed before the body, and all its room, zeroed behind it.
+use Rattle.std.specs.Prelude.{◌≡◌, ◌≢◌, ℕ, ◌+◌, ◌%◌, ◌^◌, ◌<◌, ◌==◌, length, Option, Some, None, if◌then◌else◌}
+use Rattle.expression_code.specs.TermCode.{constant_code}
+use Rattle.function_code.specs.FunctionCode.{frame_code, wipe_code}
+use Rattle.function_code.specs.Sections.{block_turns}
+use Rattle.linked_calls.specs.Does.{Data, Does, AreThere}
+use Rattle.linked_calls.specs.Stretches.{AreData, AreZeroed, LiesIn}
+use Rattle.rv_machine.specs.declared.observation.Event.{Event}
+use Rattle.rv_machine.specs.declared.observation.Event.TheVariants.{Load, Store, Div, Mul}
+use Rattle.rv_machine.specs.Machine.{Code}
+
+-- stores that lie in a stretch, and no other access
+abbrev pub IsStoreIn : ℕ → ℕ → Option Event → Type 0
+IsStoreIn low high None = Unit {0}
+IsStoreIn low high (Some (Load a size)) = ⊥
+IsStoreIn low high (Some (Store a size)) = LiesIn low high a size
+IsStoreIn low high (Some (Div a b)) = ⊥
+IsStoreIn low high (Some (Mul a b)) = ⊥
+
+-- so many bytes below x2 are data
+pub record HasFrame (bottom room : ℕ) (s : Data) : Type 0 where
+  pub stack : s.regs 2 ≡ bottom + room
+  pub there : AreData bottom (bottom + room) s.bytes
+
+-- they are zeros, and x2 is where they begin
+pub record IsZeroFrame (bottom room : ℕ) (s t : Data) : Type 0 where
+  pub stack : t.regs 2 ≡ bottom
+  pub zeroed : AreZeroed bottom (bottom + room) s.bytes t.bytes
+  pub others : (q : ℕ) → q ≢ 2 → q ≢ 5 → t.regs q ≡ s.regs q
+
+abbrev pub frame_turns : ℕ → ℕ
+frame_turns room = if room == 0 then 0 else length (constant_code 5 room) + 1 + block_turns room
+
+-- the code that zeroes a frame does so
+abbrev pub FrameIsZeroed : Type 0
+FrameIsZeroed =
+    (code : Code) (start bottom room : ℕ) → AreThere code start (frame_code room) → bottom % 16 ≡ 0 → room % 16 ≡ 0 → bottom + room < 2 ^ 32
+    → Does code start (frame_code room) (frame_turns room) (IsStoreIn bottom (bottom + room)) (HasFrame bottom room) (IsZeroFrame bottom room)
+
+-- x2 is where a room of so many bytes begins, and x5 where it ends
+pub record HasRoom (bottom room : ℕ) (s : Data) : Type 0 where
+  pub stack : s.regs 2 ≡ bottom
+  pub top : s.regs 5 ≡ bottom + room
+  pub there : AreData bottom (bottom + room) s.bytes
+
+-- it is zeros, and x2 is where it ends
+pub record IsWiped (bottom room : ℕ) (s t : Data) : Type 0 where
+  pub stack : t.regs 2 ≡ bottom + room
+  pub zeroed : AreZeroed bottom (bottom + room) s.bytes t.bytes
+  pub others : (q : ℕ) → q ≢ 2 → t.regs q ≡ s.regs q
+
+-- the code that wipes a room does so
+abbrev pub RoomIsWiped : Type 0
+RoomIsWiped =
+    (code : Code) (start bottom room : ℕ) → AreThere code start wipe_code → bottom % 16 ≡ 0 → room % 16 ≡ 0 → 0 < room → bottom + room < 2 ^ 32
+    → Does code start wipe_code (block_turns room) (IsStoreIn bottom (bottom + room)) (HasRoom bottom room) (IsWiped bottom room)
