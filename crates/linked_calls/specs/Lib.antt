@@ -1,7 +1,6 @@
 pub mod Copies
 pub mod Does
 pub mod Meant
-pub mod Arguments
 pub mod Stretches
 pub mod Words
 pub mod Zeros
