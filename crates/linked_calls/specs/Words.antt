@@ -85,4 +85,4 @@ ResultIsHandedBack =
     → (frame + slot.offset) % 4 ≡ 0
     → frame + slot.offset < 2 ^ 32
     → Does code start (result_code (Some slot)) (length (result_code (Some slot)))
-      (IsLoadOf (frame + slot.offset)) (HasResult slot frame) (IsReturned slot frame)
+    (IsLoadOf (frame + slot.offset)) (HasResult slot frame) (IsReturned slot frame)

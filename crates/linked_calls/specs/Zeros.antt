@@ -40,7 +40,7 @@ FrameIsZeroed =
     → room % 16 ≡ 0
     → bottom + room < 2 ^ 32
     → Does code start (frame_code room) (frame_turns room)
-      (IsStoreIn bottom (bottom + room)) (HasFrame bottom room) (IsZeroFrame bottom room)
+    (IsStoreIn bottom (bottom + room)) (HasFrame bottom room) (IsZeroFrame bottom room)
 
 -- x2 is where a room of so many bytes begins, and x5 where it ends
 pub record HasRoom (bottom room : ℕ) (s : Data) : Type 0 where
@@ -64,4 +64,4 @@ RoomIsWiped =
     → 0 < room
     → bottom + room < 2 ^ 32
     → Does code start wipe_code (block_turns room)
-      (IsStoreIn bottom (bottom + room)) (HasRoom bottom room) (IsWiped bottom room)
+    (IsStoreIn bottom (bottom + room)) (HasRoom bottom room) (IsWiped bottom room)
