@@ -9,3 +9,4 @@ pub mod Placing
 pub mod Zeros
 pub mod Copies
 pub mod Words
+pub mod Cleared

@@ -1,5 +1,6 @@
 // What the pieces of a function's code do, wherever they stand. These hold of the definitions alone.
 
+ghost use Rattle.linked_calls.specs.Cleared.{RegistersAreCleared};
 ghost use Rattle.linked_calls.specs.Copies.{ArrayIsTaken, ArrayIsHandedBack};
 ghost use Rattle.linked_calls.specs.Words.{ResultIsHandedBack, WordIsTaken};
 ghost use Rattle.linked_calls.specs.Zeros.{FrameIsZeroed, RoomIsWiped};
@@ -35,4 +36,9 @@ pub fn room_is_wiped()
 /// The code that hands a result back loads it into a0. What it shows is one list, whatever the result.
 pub fn result_is_handed_back()
     ensures { ResultIsHandedBack }
+{}
+
+/// The code that clears the registers which a function may change leaves 0 in each, and changes nothing else.
+pub fn registers_are_cleared()
+    ensures { RegistersAreCleared }
 {}
