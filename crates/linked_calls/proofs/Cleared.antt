@@ -1,14 +1,12 @@
 -- The code that clears registers, one after another.
-use Rattle.std.proofs.Common.{◌≡◌, ◌≢◌, ℕ, zero, suc, ◌+◌, ◌*◌, ◌<◌, Bool, true, false, ◌&&◌, nat_lt, List, [], ◌∷◌, length, All, Option, None, refl, sym, ap, ◌∙◌, arith, ⊎_elim}
+use Rattle.std.proofs.Common.{◌≡◌, ◌≢◌, ℕ, suc, ◌<◌, List, [], ◌∷◌, length, All, refl, ap, ◌∙◌, arith, ⊎_elim}
 use Rattle.std.proofs.lemmas.Bool.{cases_eq}
 use Rattle.function_code.specs.Convention.{scratch_registers}
 use Rattle.function_code.specs.FunctionCode.{clear_registers_code}
 use Rattle.rv_code.specs.declared.instructions.Instr.TheVariants.{Immediate}
 use Rattle.rv_code.specs.declared.operations.ImmediateOperation.TheVariants.{Addi}
-use Rattle.rv_machine.specs.Machine.{Code}
-use Rattle.rv_machine.specs.Registers.{with_register}
 use Rattle.linked_calls.specs.Cleared.{IsSilent, AreCleared, RegistersAreCleared}
-use Rattle.linked_calls.specs.Does.{Data, Does, AreThere}
+use Rattle.linked_calls.specs.Does.{Data}
 use Rattle.linked_calls.proofs.Parts.{Runs, Sets, straight_runs, then_runs, part_to}
 use Rattle.linked_calls.proofs.Pieces.{Setting, All-none, All-cons}
 use Rattle.linked_calls.proofs.Placing.{placed, does}
@@ -63,11 +61,55 @@ module _ (z : Setting) where
 pub registers_are_cleared : RegistersAreCleared
 registers_are_cleared code start there =
     let z : Setting = record { code = code; allowed = IsSilent; silent = refl } in
-    let are : AreRegisters scratch_registers =
-          (omega arith, (λ e. omega arith), (omega arith, (λ e. omega arith), (omega arith, (λ e. omega arith), (omega arith, (λ e. omega arith),
-          (omega arith, (λ e. omega arith), (omega arith, (λ e. omega arith), (omega arith, (λ e. omega arith), (omega arith, (λ e. omega arith),
-          (omega arith, (λ e. omega arith), (omega arith, (λ e. omega arith), (omega arith, (λ e. omega arith), (omega arith, (λ e. omega arith),
-          (omega arith, (λ e. omega arith), (omega arith, (λ e. omega arith), tt)))))))))))))) in
+    let are : AreRegisters scratch_registers = (
+      omega arith,
+      (λ e. omega arith),
+      (
+        omega arith,
+        (λ e. omega arith),
+        (
+          omega arith,
+          (λ e. omega arith),
+          (
+            omega arith,
+            (λ e. omega arith),
+            (
+              omega arith,
+              (λ e. omega arith),
+              (
+                omega arith,
+                (λ e. omega arith),
+                (
+                  omega arith,
+                  (λ e. omega arith),
+                  (
+                    omega arith,
+                    (λ e. omega arith),
+                    (
+                      omega arith,
+                      (λ e. omega arith),
+                      (
+                        omega arith,
+                        (λ e. omega arith),
+                        (
+                          omega arith,
+                          (λ e. omega arith),
+                          (
+                            omega arith,
+                            (λ e. omega arith),
+                            (omega arith, (λ e. omega arith), (omega arith, (λ e. omega arith), tt)),
+                          ),
+                        ),
+                      ),
+                    ),
+                  ),
+                ),
+              ),
+            ),
+          ),
+        ),
+      ),
+    ) in
     does z (clear_registers_code scratch_registers) {P = λ s. Unit {0}} {Before = λ s. Unit {0}} {R = Clears scratch_registers} {After = AreCleared scratch_registers}
     (all_cleared z scratch_registers are start (placed code start (clear_registers_code scratch_registers) there))
     (λ s u. u) (λ s t u clears. clears.cleared)

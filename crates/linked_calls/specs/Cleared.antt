@@ -1,5 +1,5 @@
 -- The registers that a call clears behind its body.
-use Rattle.std.specs.Prelude.{◌≡◌, ◌≢◌, ℕ, List, length, All, Option, None, Some}
+use Rattle.std.specs.Prelude.{◌≡◌, ◌≢◌, ℕ, List, length, All, Option, None}
 use Rattle.function_code.specs.Convention.{scratch_registers}
 use Rattle.function_code.specs.FunctionCode.{clear_registers_code}
 use Rattle.linked_calls.specs.Does.{Data, Does, AreThere}
@@ -22,4 +22,4 @@ RegistersAreCleared =
     (code : Code) (start : ℕ)
     → AreThere code start (clear_registers_code scratch_registers)
     → Does code start (clear_registers_code scratch_registers) (length scratch_registers)
-      IsSilent (λ s. Unit {0}) (AreCleared scratch_registers)
+    IsSilent (λ s. Unit {0}) (AreCleared scratch_registers)
