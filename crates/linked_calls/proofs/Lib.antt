@@ -13,3 +13,4 @@ pub mod Placing
 pub mod Zeros
 pub mod Copies
 pub mod Words
+pub mod Cleared

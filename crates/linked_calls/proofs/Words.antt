@@ -20,10 +20,10 @@ use Rattle.rv_machine.specs.Registers.{with_register}
 use Rattle.word.specs.Operators.{word_of}
 use Rattle.linked_calls.specs.Does.{Data}
 use Rattle.linked_calls.specs.Meant.{meant}
-use Rattle.linked_calls.specs.Words.{HasWordArgument, IsPut, IsPutting, WordIsTaken}
+use Rattle.linked_calls.specs.Words.{HasWordArgument, IsPut, IsPutting, WordIsTaken, HasResult, IsReturned, IsLoadOf, ResultIsHandedBack}
 use Rattle.linked_calls.proofs.Bytes.{number_there, with_number_cut}
 use Rattle.linked_calls.proofs.Copying.{truth_same}
-use Rattle.linked_calls.proofs.Parts.{Runs, Sets, load_part, store_part, straight_runs, then_runs, weaken_runs, part_to}
+use Rattle.linked_calls.proofs.Parts.{HasWord, Runs, Sets, load_part, store_part, straight_runs, then_runs, weaken_runs, part_to}
 use Rattle.linked_calls.proofs.Pieces.{Setting}
 use Rattle.linked_calls.proofs.Placing.{placed, does}
 use Rattle.linked_calls.proofs.Registers.{unwritten}
@@ -137,3 +137,12 @@ word_is_taken code start image slot frame i there can =
     (placed code start (argument_code image i slot SingleWord) there)))
     (λ s has. record { stack = has.stack; there = number_there s.bytes 4 (frame + offset) has.argument_there; slot_there = number_there s.bytes 4 (frame + slot.offset) has.slot_there })
     (λ s t has puts. record { bytes = puts.bytes; others = puts.others })
+
+pub result_is_handed_back : ResultIsHandedBack
+result_is_handed_back code start slot frame there even below =
+    let z : Setting = record { code = code; allowed = IsLoadOf (frame + slot.offset); silent = tt } in
+    does z (load_code 10 slot.offset) {P = HasWord frame slot.offset} {Before = HasResult slot frame}
+    {R = Sets 10 (λ s. unwrap_or (number_at s.bytes 4 (frame + slot.offset)) 0)} {After = IsReturned slot frame}
+    (load_part z frame 10 slot.offset (omega arith) (λ e. omega arith) (λ e. omega arith) even below (refl, refl) start (placed code start (load_code 10 slot.offset) there))
+    (λ s has. record { stack = has.stack; there = number_there s.bytes 4 (frame + slot.offset) has.slot_there })
+    (λ s t has sets. record { result = sets.there; others = sets.others; bytes = sets.same })

@@ -1,6 +1,6 @@
--- An argument that points to an array: the array is copied into its slot before the body, and back behind it where it may be
--- changed.
-use Rattle.std.specs.Prelude.{◌≡◌, ◌≢◌, ◌⊎◌, ℕ, ◌+◌, ◌%◌, ◌^◌, ◌<◌, ◌≤◌, map, Option, Some, None}
+-- An argument that points to an array: the array is copied into its slot before the body, and back behind it where it
+-- may be changed.
+use Rattle.std.specs.Prelude.{◌≡◌, ◌≢◌, ◌⊎◌, ℕ, ◌+◌, ◌%◌, ◌^◌, ◌<◌, ◌≤◌, List, map, Option, Some, None}
 use Rattle.codegen.specs.Loaded.{with_argument, with_numbers, numbers_at}
 use Rattle.function_code.specs.FunctionCode.{argument_offset, array_bytes, argument_code, copy_out_code}
 use Rattle.function_code.specs.Sections.{argument_turns, array_turns}
@@ -12,7 +12,7 @@ use Rattle.language.specs.declared.values.Arg.TheVariants.{Array}
 use Rattle.linked_calls.specs.Does.{Data, Does, AreThere}
 use Rattle.linked_calls.specs.Meant.{meant}
 use Rattle.linked_calls.specs.Stretches.{AreData, LiesIn}
-use Rattle.rv_machine.specs.Bytes.{number_at}
+use Rattle.rv_machine.specs.Bytes.{ByteMap, number_at}
 use Rattle.rv_machine.specs.declared.observation.Event.{Event}
 use Rattle.rv_machine.specs.declared.observation.Event.TheVariants.{Load, Store, Div, Mul}
 use Rattle.rv_machine.specs.Machine.{Code}
@@ -53,7 +53,11 @@ pub record HasArray (image : Fields) (slot : Slot) (spot : Pointed) (s : Data) :
   pub array_there : AreData spot.pointer (spot.pointer + array_bytes slot) s.bytes
   pub slot_there : AreData (slot_of slot spot) (slot_of slot spot + array_bytes slot) s.bytes
 
--- the registers that the copying code writes
+-- the elements from an address on, as many as the slot's array has
+abbrev pub elements_at : Slot → ByteMap → ℕ → List ℕ
+elements_at slot bytes a = numbers_at bytes (element_bytes slot.param.kind) a slot.param.length
+
+-- no register has changed but those that the copying code writes
 abbrev pub OthersAsBefore : Data → Data → Type 0
 OthersAsBefore s t = (q : ℕ) → q ≢ 5 → q ≢ 6 → q ≢ 7 → q ≢ 28 → t.regs q ≡ s.regs q
 
@@ -67,24 +71,28 @@ IsCopying place n from to (Some (Mul a b)) = ⊥
 
 -- the slot holds the elements of the array, each as it is meant
 pub record IsTaken (slot : Slot) (spot : Pointed) (s t : Data) : Type 0 where
-  pub bytes : t.bytes ≡ with_argument spot.frame s.bytes slot (Array (map (meant slot.param.kind) (numbers_at s.bytes (element_bytes slot.param.kind) spot.pointer slot.param.length)))
+  pub bytes : t.bytes ≡ with_argument spot.frame s.bytes slot (Array (map (meant slot.param.kind) (elements_at slot s.bytes spot.pointer)))
   pub others : OthersAsBefore s t
 
 -- the code that takes an array does so, whether it may be changed or not
 abbrev pub ArrayIsTaken : Type 0
 ArrayIsTaken =
-    (code : Code) (start : ℕ) (image : Fields) (slot : Slot) (spot : Pointed) → AreThere code start (argument_code image spot.index slot FixedArray) → CanBeCopied image slot spot
+    (code : Code) (start : ℕ) (image : Fields) (slot : Slot) (spot : Pointed)
+    → AreThere code start (argument_code image spot.index slot FixedArray)
+    → CanBeCopied image slot spot
     → Does code start (argument_code image spot.index slot FixedArray) (argument_turns image spot.index slot FixedArray)
     (IsCopying (place_of image spot) (array_bytes slot) spot.pointer (slot_of slot spot)) (HasArray image slot spot) (IsTaken slot spot)
 
 -- the array holds what the slot holds
 pub record IsHandedBack (slot : Slot) (spot : Pointed) (s t : Data) : Type 0 where
-  pub bytes : t.bytes ≡ with_numbers s.bytes (element_bytes slot.param.kind) spot.pointer (numbers_at s.bytes (element_bytes slot.param.kind) (slot_of slot spot) slot.param.length)
+  pub bytes : t.bytes ≡ with_numbers s.bytes (element_bytes slot.param.kind) spot.pointer (elements_at slot s.bytes (slot_of slot spot))
   pub others : OthersAsBefore s t
 
 -- the code that hands an array back does so
 abbrev pub ArrayIsHandedBack : Type 0
 ArrayIsHandedBack =
-    (code : Code) (start : ℕ) (image : Fields) (slot : Slot) (spot : Pointed) → AreThere code start (copy_out_code image spot.index slot MutableArray) → CanBeCopied image slot spot
+    (code : Code) (start : ℕ) (image : Fields) (slot : Slot) (spot : Pointed)
+    → AreThere code start (copy_out_code image spot.index slot MutableArray)
+    → CanBeCopied image slot spot
     → Does code start (copy_out_code image spot.index slot MutableArray) (array_turns image spot.index slot)
     (IsCopying (place_of image spot) (array_bytes slot) (slot_of slot spot) spot.pointer) (HasArray image slot spot) (IsHandedBack slot spot)

@@ -1,5 +1,5 @@
 -- What a piece of code does wherever it stands: from every state of some kind it leads to behind its instructions in an
--- exact number of turns. What it shows is one list, given before the state, so that no two such states show different ones.
+-- exact number of turns. What it shows is one list, given before the state, so all such states show the same.
 use Rattle.std.specs.Prelude.{ℕ, ◌+◌, ◌*◌, List, length, map, All, Option}
 use Rattle.codegen.specs.Anywhere.{Stand}
 use Rattle.rv_code.specs.declared.instructions.Instr.{Instr}

@@ -1,3 +1,4 @@
+pub mod Cleared
 pub mod Copies
 pub mod Does
 pub mod Meant

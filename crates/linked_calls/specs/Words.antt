@@ -1,9 +1,11 @@
--- An argument that is a word: what it means is put into its slot before the body.
-use Rattle.std.specs.Prelude.{◌≡◌, ◌≢◌, ℕ, ◌+◌, ◌%◌, ◌^◌, ◌<◌, Option, Some, None}
+-- An argument that is a word, of which what it means is put into its slot before the body, and the result behind it.
+use Rattle.std.specs.Prelude.{◌≡◌, ◌≢◌, ℕ, ◌+◌, ◌%◌, ◌^◌, ◌<◌, length, Option, Some, None}
 use Rattle.codegen.specs.Loaded.{with_argument, word_in}
-use Rattle.function_code.specs.FunctionCode.{argument_offset, argument_code}
+use Rattle.function_code.specs.Convention.{result_register}
+use Rattle.function_code.specs.FunctionCode.{argument_offset, argument_code, result_code}
 use Rattle.function_code.specs.Sections.{argument_turns}
 use Rattle.image_fields.specs.Fields.{Fields}
+use Rattle.image_fields.specs.declared.slot.ResultSlot.{ResultSlot}
 use Rattle.image_fields.specs.declared.slot.Slot.{Slot}
 use Rattle.language.specs.declared.signature.Form.TheVariants.{SingleWord}
 use Rattle.language.specs.declared.values.Arg.TheVariants.{Word}
@@ -28,9 +30,13 @@ pub record HasWordArgument (image : Fields) (slot : Slot) (frame i : ℕ) (s : D
   pub argument_there : AreData (frame + argument_offset image i) (frame + argument_offset image i + 4) s.bytes
   pub slot_there : AreData (frame + slot.offset) (frame + slot.offset + 4) s.bytes
 
--- the slot holds what the raw argument means
+-- what the raw argument means
+abbrev pub meant_in : Fields → Slot → ℕ → ℕ → Data → ℕ
+meant_in image slot frame i s = meant slot.param.kind (word_in frame s.bytes (argument_offset image i))
+
+-- the slot holds it
 pub record IsPut (image : Fields) (slot : Slot) (frame i : ℕ) (s t : Data) : Type 0 where
-  pub bytes : t.bytes ≡ with_argument frame s.bytes slot (Word (meant slot.param.kind (word_in frame s.bytes (argument_offset image i))))
+  pub bytes : t.bytes ≡ with_argument frame s.bytes slot (Word (meant_in image slot frame i s))
   pub others : (q : ℕ) → q ≢ 5 → q ≢ 28 → t.regs q ≡ s.regs q
 
 -- one load of a word, one store of a word, and no other access
@@ -44,6 +50,39 @@ IsPutting place target (Some (event.Mul a b)) = ⊥
 -- the code that takes a word does so, and shows nothing of it
 abbrev pub WordIsTaken : Type 0
 WordIsTaken =
-    (code : Code) (start : ℕ) (image : Fields) (slot : Slot) (frame i : ℕ) → AreThere code start (argument_code image i slot SingleWord) → CanBePut image slot frame i
+    (code : Code) (start : ℕ) (image : Fields) (slot : Slot) (frame i : ℕ)
+    → AreThere code start (argument_code image i slot SingleWord)
+    → CanBePut image slot frame i
     → Does code start (argument_code image i slot SingleWord) (argument_turns image i slot SingleWord)
     (IsPutting (frame + argument_offset image i) (frame + slot.offset)) (HasWordArgument image slot frame i) (IsPut image slot frame i)
+
+-- The result, which a call hands back in a0.
+
+-- the frame's base is in x2, and the result's slot is data
+pub record HasResult (slot : ResultSlot) (frame : ℕ) (s : Data) : Type 0 where
+  pub stack : s.regs 2 ≡ frame
+  pub slot_there : AreData (frame + slot.offset) (frame + slot.offset + 4) s.bytes
+
+-- a0 is what the slot holds, and nothing else has changed
+pub record IsReturned (slot : ResultSlot) (frame : ℕ) (s t : Data) : Type 0 where
+  pub result : t.regs result_register ≡ word_in frame s.bytes slot.offset
+  pub others : (q : ℕ) → q ≢ result_register → t.regs q ≡ s.regs q
+  pub bytes : t.bytes ≡ s.bytes
+
+-- one load of a word, and no other access
+abbrev pub IsLoadOf : ℕ → Option Event → Type 0
+IsLoadOf place None = Unit {0}
+IsLoadOf place (Some (event.Load a size)) = (a ≡ place) × (size ≡ sizes.Word)
+IsLoadOf place (Some (event.Store a size)) = ⊥
+IsLoadOf place (Some (event.Div a b)) = ⊥
+IsLoadOf place (Some (event.Mul a b)) = ⊥
+
+-- the code that hands a result back does so, and shows nothing of it
+abbrev pub ResultIsHandedBack : Type 0
+ResultIsHandedBack =
+    (code : Code) (start : ℕ) (slot : ResultSlot) (frame : ℕ)
+    → AreThere code start (result_code (Some slot))
+    → (frame + slot.offset) % 4 ≡ 0
+    → frame + slot.offset < 2 ^ 32
+    → Does code start (result_code (Some slot)) (length (result_code (Some slot)))
+    (IsLoadOf (frame + slot.offset)) (HasResult slot frame) (IsReturned slot frame)

@@ -34,8 +34,13 @@ frame_turns room = if room == 0 then 0 else length (constant_code 5 room) + 1 + 
 -- the code that zeroes a frame does so
 abbrev pub FrameIsZeroed : Type 0
 FrameIsZeroed =
-    (code : Code) (start bottom room : ℕ) → AreThere code start (frame_code room) → bottom % 16 ≡ 0 → room % 16 ≡ 0 → bottom + room < 2 ^ 32
-    → Does code start (frame_code room) (frame_turns room) (IsStoreIn bottom (bottom + room)) (HasFrame bottom room) (IsZeroFrame bottom room)
+    (code : Code) (start bottom room : ℕ)
+    → AreThere code start (frame_code room)
+    → bottom % 16 ≡ 0
+    → room % 16 ≡ 0
+    → bottom + room < 2 ^ 32
+    → Does code start (frame_code room) (frame_turns room)
+    (IsStoreIn bottom (bottom + room)) (HasFrame bottom room) (IsZeroFrame bottom room)
 
 -- x2 is where a room of so many bytes begins, and x5 where it ends
 pub record HasRoom (bottom room : ℕ) (s : Data) : Type 0 where
@@ -52,5 +57,11 @@ pub record IsWiped (bottom room : ℕ) (s t : Data) : Type 0 where
 -- the code that wipes a room does so
 abbrev pub RoomIsWiped : Type 0
 RoomIsWiped =
-    (code : Code) (start bottom room : ℕ) → AreThere code start wipe_code → bottom % 16 ≡ 0 → room % 16 ≡ 0 → 0 < room → bottom + room < 2 ^ 32
-    → Does code start wipe_code (block_turns room) (IsStoreIn bottom (bottom + room)) (HasRoom bottom room) (IsWiped bottom room)
+    (code : Code) (start bottom room : ℕ)
+    → AreThere code start wipe_code
+    → bottom % 16 ≡ 0
+    → room % 16 ≡ 0
+    → 0 < room
+    → bottom + room < 2 ^ 32
+    → Does code start wipe_code (block_turns room)
+    (IsStoreIn bottom (bottom + room)) (HasRoom bottom room) (IsWiped bottom room)

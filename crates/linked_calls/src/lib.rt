@@ -5,5 +5,6 @@
 mod laws;
 
 pub use laws::{
-    array_is_handed_back, array_is_taken, frame_is_zeroed, room_is_wiped, word_is_taken,
+    array_is_handed_back, array_is_taken, frame_is_zeroed, registers_are_cleared,
+    result_is_handed_back, room_is_wiped, word_is_taken,
 };
