@@ -2,8 +2,8 @@
 
 ghost use Rattle.std.specs.Prelude.{◌≡◌, ◌++◌, ◌∷◌, [], OnOk};
 ghost use Rattle.expression_code.specs.TermCode.{constant_code};
-ghost use Rattle.function_code.specs.Convention.{link_register, stack_register};
-ghost use Rattle.function_code.specs.FunctionCode.{above_frame, added, result_code, copy_out_code, wipe_code};
+ghost use Rattle.linked_calls.specs.Convention.{link_register, stack_register};
+ghost use Rattle.linked_calls.specs.FunctionCode.{above_frame, added, result_code, copy_out_code, wipe_code};
 ghost use Rattle.rv_code.specs.declared.instructions.Instr.TheVariants.{Register, JumpRegister};
 ghost use Rattle.rv_code.specs.declared.operations.RegisterOperation.TheVariants.{Add};
 

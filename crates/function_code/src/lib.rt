@@ -1,10 +1,9 @@
-// The words of a function for C: the code of an image, between code that takes arguments as C passes them for RV32 and
-// code that hands results back. It stands on the fields of images, the instructions, and the code of slots and numbers.
+// Makes the words of a function for C: the code of an image, between code that takes arguments as C passes them for RV32
+// and code that hands results back. Which words these are, and what a call of them does, is said in `linked_calls`.
 #![tactic(auto)]
 
 mod copying;
 mod entering;
-mod laws;
 mod leaving;
 mod pieces;
 mod registers;
@@ -14,7 +13,6 @@ mod sections;
 mod tests;
 mod words;
 
-pub use laws::sections_are_the_function;
 pub use room::{ABOVE_FRAME, room_of};
-pub use sections::{Section, enter_sections, leave_sections, section_code};
+pub use sections::{enter_sections, leave_sections, section_code};
 pub use words::{body, function_words};

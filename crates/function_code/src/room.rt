@@ -1,7 +1,7 @@
 // How much of the stack a call takes, and where its parts lie.
 
 ghost use Rattle.std.specs.Prelude.{◌≡◌, ◌≤◌};
-ghost use Rattle.function_code.specs.FunctionCode.{above_frame, frame_room, room_of, argument_offset};
+ghost use Rattle.linked_calls.specs.FunctionCode.{above_frame, frame_room, room_of, argument_offset};
 
 use image_fields::ImageFields;
 

@@ -1,7 +1,7 @@
 // The sections of a function's code: one list of them is what its words, its text and its turns are made of.
 
 ghost use Rattle.std.specs.Prelude.{◌≡◌, ◌≤◌, ◌++◌, length, OnOk, IfOk};
-ghost use Rattle.function_code.specs.Sections.{frame_sections, argument_sections, array_section, array_sections, enter_sections, leave_sections, section_code};
+ghost use Rattle.linked_calls.specs.Sections.{frame_sections, argument_sections, array_section, array_sections, enter_sections, leave_sections, section_code};
 
 use crate::entering::{argument, cleared_frame, frame_base, room_above};
 use crate::leaving::{array, callers_stack, frame_top, go_back, result, wiped_room};
@@ -10,41 +10,9 @@ use crate::registers;
 use crate::room::{FIRST_ARGUMENT, frame_room};
 use image_fields::{ImageFields, Slot};
 use language::Form;
+use linked_calls::Section;
 use rv_code::{Instr, Reg};
 use std::alloc::{AllocError, Global};
-
-/// A part of a function's code, with one purpose.
-#[derive(Clone, Copy, Debug, PartialEq, Eq)]
-pub enum Section {
-    /// x2 goes down by what stands above the frame.
-    RoomAboveFrame,
-    /// What the caller has in s0 to s11 is kept.
-    SavedRegisters,
-    /// What it has in a0 to a7 is laid below its further arguments.
-    ArgumentRegisters,
-    /// The frame's base into x5.
-    FrameBase,
-    /// The frame becomes 0, and x2 its base.
-    ClearedFrame,
-    /// An argument, counted from 0, into its parameter's slot.
-    ArgumentIn(u16, Slot),
-    /// The result into a0.
-    ResultOut,
-    /// An array, of the argument of this number, back to the caller.
-    ArrayOut(u16, Slot),
-    /// The frame's end into x5.
-    FrameTop,
-    /// The caller's s0 to s11.
-    RestoredRegisters,
-    /// The caller's x2 into x5.
-    CallersStack,
-    /// All the room becomes 0, and x2 the caller's.
-    WipedRoom,
-    /// The registers that a function may change become 0.
-    ClearedRegisters,
-    /// Back to the caller.
-    Return,
-}
 
 /// Puts the sections of arguments at the end.
 fn push_arguments(sections: &mut Vec<Section>, slots: &[Slot]) -> Result<(), AllocError>

@@ -2,12 +2,13 @@
 
 ghost use Rattle.std.specs.Prelude.{◌≡◌, ◌++◌, ◌^◌, ◌<◌, map, All, OnOk, IfOk};
 ghost use Rattle.codegen.specs.Anywhere.{body_words};
-ghost use Rattle.function_code.specs.FunctionCode.{function_words};
-ghost use Rattle.function_code.specs.Sections.{code_of};
+ghost use Rattle.linked_calls.specs.FunctionCode.{function_words};
+ghost use Rattle.linked_calls.specs.Sections.{code_of};
 ghost use Rattle.rv_code.specs.Words.{word_of};
 
-use crate::sections::{Section, enter_sections, leave_sections, section_code};
+use crate::sections::{enter_sections, leave_sections, section_code};
 use image_fields::ImageFields;
+use linked_calls::{Section, sections_are_the_function};
 use rv_code::{Instr, encode};
 use std::alloc::{AllocError, Global};
 
@@ -47,8 +48,7 @@ pub fn body(image: &ImageFields) -> &[u32]
     }
 }
 
-/// The words of the function of an image. Want of memory alone refuses them.
-#[tactic(auto, using(crate::proofs::SectionLemmas::words_of_sections))]
+/// The words of the function of an image. They are refused only when out of memory.
 pub fn function_words(alloc: Global, image: &ImageFields) -> Result<Vec<u32>, AllocError>
     ensures { IfOk result (λ words. words.items ≡ function_words image.now) }
 {
@@ -58,5 +58,6 @@ pub fn function_words(alloc: Global, image: &ImageFields) -> Result<Vec<u32>, Al
     push_sections(alloc, &mut words, image, enter.as_slice())?;
     words.extend_from_slice(body(image))?;
     push_sections(alloc, &mut words, image, leave.as_slice())?;
+    sections_are_the_function();
     Ok(words)
 }

@@ -1,7 +1,7 @@
 -- The parts of a text for an assembler, put behind one another.
 use Rattle.std.proofs.Common.{◌≡◌, ℕ, List, [], ◌++◌, codes, ap, ◌∙◌}
 use Rattle.codegen.specs.Anywhere.{body_words}
-use Rattle.function_code.specs.Sections.{enter_sections, leave_sections}
+use Rattle.linked_calls.specs.Sections.{enter_sections, leave_sections}
 use Rattle.function_text.specs.AssemblerText.{ListsWords, IsAssemblerText, head_lines, tail_lines, sections_lines, title_line}
 use Rattle.function_text.specs.Functions.{Parts}
 

@@ -53,7 +53,7 @@ module _ (profile : Profile) (text bytes : List ℕ) (built : IsBuilt profile te
     parameters = is.parameters ∙ ap (λ (p : ProcedureTree). map (written_parameter p.name) p.parameters) (sym same);
   }
 
-  -- want of memory, or a name that is taken
+  -- out of memory, or a name that is taken
   pub fault_of : (fault : FunctionFault Refusal) → IsUnlessMemory fault (IsTaken export) → IsFaultOf profile text fault
   fault_of (Text refusal) is = inl is
   fault_of (Name place) is = taken place is

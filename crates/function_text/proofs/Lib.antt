@@ -2,3 +2,4 @@ pub mod AssembledLemmas
 pub mod FunctionLemmas
 pub mod TextLaws
 pub mod WordLines
+pub mod LinkedLemmas

@@ -1,6 +1,6 @@
 -- Of a text there is one function, and of a function one text for an assembler.
 use Rattle.std.proofs.Common.{◌≡◌, ℕ, List, ◌++◌, map, codes, refl, sym, ap, subst, ◌∙◌}
-use Rattle.function_code.specs.Sections.{enter_sections, leave_sections}
+use Rattle.linked_calls.specs.Sections.{enter_sections, leave_sections}
 use Rattle.function_text.specs.AssemblerText.{ListsWords, nothing, line, IsAssemblerText, word_line, head_lines, tail_lines, sections_lines, title_line}
 use Rattle.function_text.specs.Functions.{Named, Parts, IsFunctionOf, written_parameter}
 use Rattle.function_text.specs.HeaderText.{header_text}

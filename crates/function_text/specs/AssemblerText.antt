@@ -1,14 +1,14 @@
 -- The text of a function for an assembler. A word stands as a number, with its instruction as a comment, so nothing is left
 -- for the assembler to encode. What changes for a debugger stands behind the word that changes it: where the caller's x2 was,
 -- from which register on, and where the caller's registers are kept.
-use Rattle.std.specs.Prelude.{◌≡◌, ℕ, ◌+◌, ◌-◌, ◌^◌, false, List, [], ◌∷◌, ◌++◌, codes, length}
+use Rattle.std.specs.Prelude.{◌≡◌, ℕ, ◌-◌, ◌^◌, false, List, [], ◌∷◌, ◌++◌, codes, length}
 use Rattle.std.specs.Fmt.{decimal, digits, padded_integral, format_spec}
 use Rattle.std.specs.List.{flat_map}
 use Rattle.codegen.specs.Anywhere.{body_words}
-use Rattle.function_code.specs.FunctionCode.{above_frame, room_of, function_words}
-use Rattle.function_code.specs.Sections.{enter_sections, leave_sections, section_code}
-use Rattle.function_code.specs.declared.sections.Section.{Section}
-use Rattle.function_code.specs.declared.sections.Section.TheVariants.{RoomAboveFrame, SavedRegisters, ArgumentRegisters, FrameBase, ClearedFrame, ArgumentIn, ResultOut, ArrayOut, FrameTop, RestoredRegisters, CallersStack, WipedRoom, ClearedRegisters, Return}
+use Rattle.linked_calls.specs.FunctionCode.{above_frame, room_of, function_words}
+use Rattle.linked_calls.specs.Sections.{enter_sections, leave_sections, section_code}
+use Rattle.linked_calls.specs.declared.section.Section.{Section}
+use Rattle.linked_calls.specs.declared.section.Section.TheVariants.{RoomAboveFrame, SavedRegisters, ArgumentRegisters, FrameBase, ClearedFrame, ArgumentIn, ResultOut, ArrayOut, FrameTop, RestoredRegisters, CallersStack, WipedRoom, ClearedRegisters, Return}
 use Rattle.function_text.specs.Functions.{Parts}
 use Rattle.image_fields.specs.Fields.{Fields}
 use Rattle.language.specs.declared.signature.Form.{Form}

@@ -63,7 +63,7 @@ abbrev pub IsFaultOf : Profile → List ℕ → FunctionFault Refusal → Type 0
 IsFaultOf profile text (Text refusal) = IsRefusal (Judges profile text) refusal
 IsFaultOf profile text (Name place) = HasTakenName profile text place
 
--- want of memory, or a place of which this holds
+-- out of memory, or a place of which this holds
 abbrev pub IsUnlessMemory : FunctionFault Refusal → (Place → Type 0) → Type 0
 IsUnlessMemory (Text refusal) P = IsWantOfMemory refusal.rule refusal.place
 IsUnlessMemory (Name place) P = P place

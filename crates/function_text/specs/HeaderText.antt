@@ -2,7 +2,7 @@
 use Rattle.std.specs.Prelude.{ℕ, List, [], ◌∷◌, ◌++◌, codes, Option, Some, None}
 use Rattle.std.specs.Fmt.{decimal}
 use Rattle.std.specs.List.{flat_map}
-use Rattle.function_code.specs.FunctionCode.{room_of}
+use Rattle.linked_calls.specs.FunctionCode.{room_of}
 use Rattle.function_text.specs.AssemblerText.{profile_text}
 use Rattle.function_text.specs.Functions.{Named, Parts}
 use Rattle.function_text.specs.Names.{guard_name, stack_name}

@@ -4,4 +4,5 @@ pub mod FaultText
 pub mod AssemblerText
 pub mod HeaderText
 pub mod Texts
+pub mod Linked
 pub mod private

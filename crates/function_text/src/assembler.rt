@@ -4,17 +4,16 @@ ghost use Rattle.std.specs.Prelude.{◌≡◌, ℕ, ◌++◌, List, codes, OnOk,
 ghost use Rattle.std.specs.List.{flat_map};
 ghost use Rattle.std.specs.String.{string_bytes};
 ghost use Rattle.codegen.specs.Anywhere.{body_words};
-ghost use Rattle.function_code.specs.Sections.{enter_sections, leave_sections};
+ghost use Rattle.linked_calls.specs.Sections.{enter_sections, leave_sections};
 ghost use Rattle.function_text.specs.AssemblerText.{ListsWords, IsAssemblerText, instruction_lines, section_lines, sections_lines, profile_text, sizes_text, first_line, place_lines, symbol_lines, head_lines, tail_lines, title_line};
 ghost use Rattle.function_text.specs.Functions.{parts_of};
 
 use crate::function::Function;
 use crate::lines::{push_end, push_instruction, push_number, push_title, push_word};
-use function_code::{
-    Section, body, enter_sections, function_words, leave_sections, room_of, section_code,
-};
+use function_code::{body, enter_sections, function_words, leave_sections, room_of, section_code};
 use image_fields::ImageFields;
 use language::Profile;
+use linked_calls::Section;
 use rv_code::Instr;
 use std::alloc::{AllocError, Global};
 
@@ -173,7 +172,7 @@ fn push_exit(alloc: Global, text: &mut String, image: &ImageFields) -> Result<()
 }
 
 /// The text of a function for a GNU or LLVM assembler: its words as numbers, each with its instruction as a comment, with
-/// the function's symbol, and what a debugger has to know at each word. Want of memory alone refuses it.
+/// the function's symbol, and what a debugger has to know at each word. It is refused only when out of memory.
 pub fn assembler_text(alloc: Global, function: &Function<'_>) -> Result<String, AllocError>
     ensures { IfOk result (λ text. IsAssemblerText (parts_of function.now) (string_bytes text)) }
 {

@@ -183,7 +183,7 @@ fn push_prototype(text: &mut String, function: &Function<'_>) -> Result<(), Allo
 }
 
 /// The C header of a function: its prototype with the names of the source, the bytes of stack that a call takes, and what
-/// it needs of its caller. Want of memory alone refuses it.
+/// it needs of its caller. It is refused only when out of memory.
 pub fn header_text(alloc: Global, function: &Function<'_>) -> Result<String, AllocError>
     ensures { IfOk result (λ text. string_bytes text ≡ header_text (parts_of function.now)) }
 {

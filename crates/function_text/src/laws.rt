@@ -1,10 +1,12 @@
-// What two answers for one text are to each other.
+// What two answers for one text are to each other, and what a call of its function does.
 
 ghost use Rattle.std.specs.Prelude.{ℕ, ◌≡◌, List};
 ghost use Rattle.function_text.specs.Functions.{Parts, IsFunctionOf};
+ghost use Rattle.function_text.specs.Linked.{FunctionsAreLinked};
 ghost use Rattle.function_text.specs.Texts.{AreTextsOf};
 ghost use Rattle.word.specs.declared.profile.Profile.{Profile};
 
+use linked_calls::calls_are_linked;
 use rv_code::laws::words_differ;
 use syntax::one_answer_for_a_text;
 
@@ -16,5 +18,15 @@ pub fn functions_agree()
         → (assembler ≡ assembler') × (header ≡ header') }
 {
     words_differ();
+    one_answer_for_a_text();
+}
+
+/// The function of a text can be called from wherever its words stand in code, as C calls functions: what it leaves is what
+/// the text's program means on the arguments, and what it shows an observer is one list for arguments that agree where they
+/// are public.
+pub fn functions_are_linked()
+    ensures { FunctionsAreLinked }
+{
+    calls_are_linked();
     one_answer_for_a_text();
 }

@@ -17,6 +17,6 @@ pub use assembler::assembler_text;
 pub use fault::FunctionFault;
 pub use function::{Function, NamedParam, function_of};
 pub use header::header_text;
-pub use laws::functions_agree;
+pub use laws::{functions_agree, functions_are_linked};
 pub use naming::is_taken_name;
 pub use texts::{Texts, texts_of};

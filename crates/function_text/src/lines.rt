@@ -7,9 +7,10 @@ ghost use Rattle.function_text.specs.AssemblerText.{eight_digits, word_line, tit
 ghost use Rattle.listing.specs.Code.{IsTextOf};
 ghost use Rattle.rv_code.specs.Text.{text_of};
 
-use function_code::{ABOVE_FRAME, Section, room_of};
+use function_code::{ABOVE_FRAME, room_of};
 use image_fields::ImageFields;
 use language::Form;
+use linked_calls::Section;
 use rv_code::{Instr, decode, encode};
 use std::alloc::{AllocError, Global};
 use std::fmt::Write;

@@ -4,7 +4,7 @@ use Rattle.std.proofs.Common.{◌≡◌, ℕ, suc, ◌+◌, ◌*◌, ◌%◌, �
 use Rattle.std.proofs.lemmas.List.{length-map}
 use Rattle.codegen.specs.Loaded.{with_numbers, numbers_at}
 use Rattle.expression_code.specs.TermCode.{load_code, store_code}
-use Rattle.function_code.specs.FunctionCode.{argument_offset, argument_code, arguments_code, meant_code, until_equal, copied_in_code}
+use Rattle.linked_calls.specs.FunctionCode.{argument_offset, argument_code, arguments_code, meant_code, until_equal, copied_in_code}
 use Rattle.image_fields.specs.Fields.{Fields}
 use Rattle.image_fields.specs.declared.slot.Slot.{Slot}
 use Rattle.language.specs.Size.{element_bytes}
@@ -192,6 +192,11 @@ module _ (z : Setting) (image : Fields) (frame size : ℕ) (pointers : ℕ → �
       stays_data bytes 4 (slot_at slot) (meant slot.param.kind (unwrap_or (number_at bytes 4 (place i)) 0)) frame (frame + size) (number_there bytes 4 (slot_at slot) (λ x l h. there x (omega (arith, l)) (omega (arith, h, inside)))) there
   taken_data bytes i slot FixedArray known there = array_data bytes i slot known there
   taken_data bytes i slot MutableArray known there = array_data bytes i slot known there
+
+  pub all_taken_data : (bytes : ByteMap) (i : ℕ) (slots : List Slot) → AreKnown i slots → AreData frame (frame + size) bytes → AreData frame (frame + size) (all_taken bytes i slots)
+  all_taken_data bytes i [] known there = there
+  all_taken_data bytes i (slot ∷ slots) known there =
+      all_taken_data (taken bytes i slot slot.param.form) (i + 1) slots known.1 (taken_data bytes i slot slot.param.form known.0 there)
 
   -- Arguments that are still to be taken stay as they are: their words stand above the frame.
   module _ (above : (i : ℕ) → size ≤ argument_offset image i) (old new : ByteMap) (same : (x : ℕ) → IsOutside frame (frame + size) x → new x ≡ old x) where

@@ -1,10 +1,11 @@
 -- Bytes: data that stays data, numbers put one after another, and stretches of zeros.
 use Rattle.std.specs.Prelude.{◌⊎◌, is_some, unwrap_or}
-use Rattle.std.proofs.Common.{◌≡◌, ◌≢◌, ℕ, zero, suc, ◌+◌, ◌*◌, ◌/◌, ◌%◌, ◌^◌, ◌<◌, ◌≤◌, true, ◌&&◌, List, [], ◌∷◌, length, Option, Some, None, inl, inr, ⊎_elim, refl, sym, ap, ap₂, ◌∙◌, subst, arith}
+use Rattle.std.proofs.Common.{◌≡◌, ◌≢◌, ℕ, zero, suc, ◌+◌, ◌*◌, ◌/◌, ◌%◌, ◌^◌, ◌<◌, ◌≤◌, true, ◌&&◌, cond, nat_le, nat_lt, List, [], ◌∷◌, length, Option, Some, None, inl, inr, ⊎_elim, refl, sym, ap, ap₂, ◌∙◌, subst, arith}
 use Rattle.std.proofs.Math.Arith.{mod-mul}
 use Rattle.std.proofs.Math.Nat.{pow-suc}
 use Rattle.std.proofs.lemmas.Bool.{cases_eq, cases_lt, false≢true}
-use Rattle.rv_machine.specs.Bytes.{ByteMap, joined, number_at, with_byte, with_number}
+use Rattle.std.proofs.lemmas.Bool.Decides.{nat_tests}
+use Rattle.rv_machine.specs.Bytes.{ByteMap, joined, number_at, with_byte, with_number, zeros}
 use Rattle.rv_machine.proofs.ByteLaws.{number_at-zero, number_at-suc, number_at_same, with_number-zero, with_number-suc, with_number_below, with_number_above, with_byte_same, with_byte_other, is_some-with_number}
 pub use Rattle.linked_calls.specs.Stretches.{AreData, AreZeroed}
 use Rattle.codegen.specs.Loaded.{with_numbers, numbers_at}
@@ -118,6 +119,12 @@ held_numbers bytes n a (v ∷ vs) h = ap₂ (λ x (xs : List ℕ). x ∷ xs) (ap
 
 pub no_zeros : (a : ℕ) (bytes : ByteMap) → AreZeroed a a bytes bytes
 no_zeros a bytes = record { inside = λ x low high. absurd (omega (arith, low, high)); outside = λ x where'. refl }
+
+within_zeros : (base n a : ℕ) → base ≤ a → a < base + n → (nat_le base a && nat_lt a (base + n)) ≡ true
+within_zeros base n a low high = grind (arith, nat_tests)
+
+pub zero_byte : (base n a : ℕ) → base ≤ a → a < base + n → zeros base n a ≡ Some 0
+zero_byte base n a low high = ap (λ b. cond b (Some 0) None) (within_zeros base n a low high)
 
 pub zero_inside : (bytes : ByteMap) (n a x : ℕ) → a ≤ x → x < a + n → with_number bytes n a 0 x ≡ Some 0
 zero_inside bytes zero a x low high = absurd (omega (arith, low, high))

@@ -1,8 +1,8 @@
 -- The code that clears registers, one after another.
 use Rattle.std.proofs.Common.{◌≡◌, ◌≢◌, ℕ, suc, ◌<◌, List, [], ◌∷◌, length, All, refl, ap, ◌∙◌, arith, ⊎_elim}
 use Rattle.std.proofs.lemmas.Bool.{cases_eq}
-use Rattle.function_code.specs.Convention.{scratch_registers}
-use Rattle.function_code.specs.FunctionCode.{clear_registers_code}
+use Rattle.linked_calls.specs.Convention.{scratch_registers}
+use Rattle.linked_calls.specs.FunctionCode.{clear_registers_code}
 use Rattle.rv_code.specs.declared.instructions.Instr.TheVariants.{Immediate}
 use Rattle.rv_code.specs.declared.operations.ImmediateOperation.TheVariants.{Addi}
 use Rattle.linked_calls.specs.Cleared.{IsSilent, AreCleared, RegistersAreCleared}

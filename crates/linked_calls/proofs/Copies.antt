@@ -1,11 +1,11 @@
 -- The code that takes an array into its slot, and the code that hands it back: the bounds, and then the loop.
 use Rattle.std.specs.Prelude.{is_some, unwrap_or}
-use Rattle.std.proofs.Common.{◌≡◌, ◌≢◌, ℕ, zero, suc, ◌+◌, ◌*◌, ◌/◌, ◌%◌, ◌^◌, ◌<◌, ◌≤◌, true, List, [], ◌∷◌, ◌++◌, length, map, Option, Some, inl, inr, refl, sym, ap, ap₂, ◌∙◌, subst, arith, length-append, append_assoc}
+use Rattle.std.proofs.Common.{◌≡◌, ◌≢◌, ℕ, zero, suc, ◌+◌, ◌*◌, ◌%◌, ◌^◌, ◌<◌, ◌≤◌, true, List, [], ◌∷◌, ◌++◌, length, map, Option, Some, inl, inr, refl, sym, ap, ap₂, ◌∙◌, subst, arith, length-append, append_assoc}
 use Rattle.std.proofs.lemmas.List.{map-id}
 use Rattle.codegen.specs.Loaded.{with_numbers, numbers_at}
 use Rattle.expression_code.specs.TermCode.{load_code, constant_code}
-use Rattle.function_code.specs.FunctionCode.{argument_offset, array_bytes, bounds_code, argument_code, copy_out_code, copied_in_code, copied_out_code, until_equal}
-use Rattle.function_code.specs.Sections.{element_turns}
+use Rattle.linked_calls.specs.FunctionCode.{argument_offset, array_bytes, bounds_code, argument_code, copy_out_code, copied_in_code, copied_out_code, until_equal}
+use Rattle.linked_calls.specs.Sections.{element_turns}
 use Rattle.image_fields.specs.Fields.{Fields}
 use Rattle.image_fields.specs.declared.slot.Slot.{Slot}
 use Rattle.language.specs.Size.{element_bytes}
@@ -154,8 +154,8 @@ six_is frame offset below = omega (arith, below)
 seven_is : (m pointer : ℕ) → sum_of m pointer ≡ (pointer + m) % 2 ^ 32
 seven_is m pointer = omega arith
 
-place_even : (frame bytes i : ℕ) → frame % 4 ≡ 0 → (frame + ((bytes + 15) / 16 * 16 + 48 + 4 * i)) % 4 ≡ 0
-place_even frame bytes i even = omega (arith, even)
+place_even : (image : Fields) (frame i : ℕ) → frame % 4 ≡ 0 → (frame + argument_offset image i) % 4 ≡ 0
+place_even image frame i even = omega (arith, even)
 
 number_found : (o : Option ℕ) (v : ℕ) → o ≡ Some v → unwrap_or o 0 ≡ v
 number_found o v e = ap (λ x. unwrap_or x 0) e
@@ -178,7 +178,7 @@ module _ (z : Setting) (image : Fields) (slot : Slot) (spot : Pointed) (can : Ca
       let a = can.slot_ends in
       all_bounds z spot.frame (argument_offset image spot.index) slot.offset (array_bytes slot) (bounds_code image spot.index slot)
       (one_by_one (load_code 5 (argument_offset image spot.index)) (constant_code 6 slot.offset) (Register Add 6 6 2 ∷ []) (constant_code 7 (array_bytes slot)) (Register Add 7 7 5 ∷ []))
-      (place_even spot.frame image.frame_bytes spot.index can.frame_aligned) can.place_ends allowed (omega (arith, a)) (omega (arith, a))
+      (place_even image spot.frame spot.index can.frame_aligned) can.place_ends allowed (omega (arith, a)) (omega (arith, a))
 
   has_word : (s : Data) → HasArray image slot spot s → HasWord spot.frame (argument_offset image spot.index) s
   has_word s has = record { stack = has.stack; there = number_is_there (number_at s.bytes 4 (place_of image spot)) spot.pointer has.argument }

@@ -12,8 +12,8 @@ use Rattle.rv_machine.specs.Effects.{sum_of, difference_of}
 use Rattle.rv_machine.specs.Registers.{register}
 use Rattle.codegen.specs.Loaded.{with_numbers}
 use Rattle.expression_code.specs.TermCode.{constant_code}
-use Rattle.function_code.specs.Convention.{saved_registers, argument_registers}
-use Rattle.function_code.specs.FunctionCode.{stores_code, entry_code, until_equal, added, zeros_code}
+use Rattle.linked_calls.specs.Convention.{saved_registers, argument_registers}
+use Rattle.linked_calls.specs.FunctionCode.{stores_code, entry_code, until_equal, added, zeros_code}
 use Rattle.linked_calls.proofs.Bytes.{AreData, number_there, stays_data, AreZeroed}
 use Rattle.linked_calls.proofs.Copying.{MayStore}
 use Rattle.linked_calls.proofs.Parts.{Part, Runs, straight_runs, then_runs, weaken_runs, part_to, constant_part}

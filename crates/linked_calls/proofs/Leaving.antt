@@ -1,8 +1,8 @@
 -- The way back: the caller's registers restored, all the room wiped, and the other registers cleared.
 use Rattle.std.specs.Prelude.{is_some, unwrap_or}
 use Rattle.std.proofs.Common.{◌≡◌, ℕ, ◌+◌, ◌%◌, ◌^◌, ◌<◌, ◌≤◌, true, List, [], ◌∷◌, map, Some, refl, ap, ◌∙◌, subst, arith}
-use Rattle.function_code.specs.Convention.{saved_registers, scratch_registers}
-use Rattle.function_code.specs.FunctionCode.{loads_code, clear_registers_code}
+use Rattle.linked_calls.specs.Convention.{saved_registers, scratch_registers}
+use Rattle.linked_calls.specs.FunctionCode.{loads_code, clear_registers_code}
 use Rattle.rv_code.specs.declared.instructions.Instr.TheVariants.{Immediate, Load}
 use Rattle.rv_code.specs.declared.operations.ImmediateOperation.TheVariants.{Addi}
 use Rattle.rv_code.specs.declared.operations.LoadOperation.TheVariants.{Lw}

@@ -4,7 +4,7 @@ use Rattle.std.proofs.Common.{◌≡◌, ◌≢◌, ℕ, suc, ◌+◌, ◌*◌, 
 use Rattle.std.proofs.lemmas.Grind.{and_numeral}
 use Rattle.codegen.specs.Loaded.{with_numbers, numbers_at}
 use Rattle.expression_code.specs.TermCode.{load_code, store_code, constant_code}
-use Rattle.function_code.specs.FunctionCode.{meant_code, until_equal, copied_in_code, copied_out_code}
+use Rattle.linked_calls.specs.FunctionCode.{meant_code, until_equal, copied_in_code, copied_out_code}
 use Rattle.language.specs.Size.{element_bytes}
 use Rattle.language.specs.declared.signature.Kind.{Kind}
 use Rattle.language.specs.declared.signature.Kind.TheVariants.{Boolean, Uint8, Uint16, Uint32}

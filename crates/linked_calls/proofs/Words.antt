@@ -1,9 +1,9 @@
 -- The code that takes a word: a load, what it means, and a store.
 use Rattle.std.specs.Prelude.{is_some, unwrap_or, bit_and}
-use Rattle.std.proofs.Common.{◌≡◌, ◌≢◌, ℕ, ◌+◌, ◌*◌, ◌/◌, ◌%◌, ◌^◌, ◌<◌, nat_lt, true, List, [], ◌∷◌, ◌++◌, length, Some, refl, sym, ap, ap₂, ◌∙◌, subst, arith, length-append, append_assoc}
+use Rattle.std.proofs.Common.{◌≡◌, ◌≢◌, ℕ, ◌+◌, ◌%◌, ◌^◌, ◌<◌, nat_lt, true, List, [], ◌∷◌, ◌++◌, length, Some, refl, sym, ap, ap₂, ◌∙◌, subst, arith, length-append, append_assoc}
 use Rattle.std.proofs.lemmas.Nat.{and_mask}
 use Rattle.expression_code.specs.TermCode.{load_code, store_code}
-use Rattle.function_code.specs.FunctionCode.{argument_offset, argument_code, meant_code}
+use Rattle.linked_calls.specs.FunctionCode.{argument_offset, argument_code, meant_code}
 use Rattle.language.specs.declared.signature.Form.TheVariants.{SingleWord}
 use Rattle.language.specs.declared.signature.Kind.{Kind}
 use Rattle.language.specs.declared.signature.Kind.TheVariants.{Boolean, Uint8, Uint16, Uint32}
@@ -19,6 +19,7 @@ use Rattle.rv_machine.specs.Effects.{shift_value}
 use Rattle.rv_machine.specs.Registers.{with_register}
 use Rattle.word.specs.Operators.{word_of}
 use Rattle.linked_calls.specs.Does.{Data}
+use Rattle.image_fields.specs.Fields.{Fields}
 use Rattle.linked_calls.specs.Meant.{meant}
 use Rattle.linked_calls.specs.Words.{HasWordArgument, IsPut, IsPutting, WordIsTaken, HasResult, IsReturned, IsLoadOf, ResultIsHandedBack}
 use Rattle.linked_calls.proofs.Bytes.{number_there, with_number_cut}
@@ -116,8 +117,8 @@ module _ (z : Setting) where
           others = λ q h k. puts.others q h k ∙ sets.others q h;
         })
 
-place_even : (frame bytes i : ℕ) → frame % 4 ≡ 0 → (frame + ((bytes + 15) / 16 * 16 + 48 + 4 * i)) % 4 ≡ 0
-place_even frame bytes i even = omega (arith, even)
+place_even : (image : Fields) (frame i : ℕ) → frame % 4 ≡ 0 → (frame + argument_offset image i) % 4 ≡ 0
+place_even image frame i even = omega (arith, even)
 
 pub word_is_taken : WordIsTaken
 word_is_taken code start image slot frame i there can =
@@ -133,7 +134,7 @@ word_is_taken code start image slot frame i there can =
     (part_to z refl turns
     (subst (λ (is : List Instr). Runs z (length (load_code 5 offset) + (length (meant_code 5 kind) + length (store_code 5 slot.offset))) is (HasBoth z kind frame offset slot.offset)
     (PutsMeant z kind frame offset slot.offset (λ s. unwrap_or (number_at s.bytes 4 (frame + offset)) 0))) (sym same)
-    (word_runs z kind frame offset slot.offset (place_even frame image.frame_bytes i can.frame_aligned) can.place_ends (refl, refl) can.slot_aligned can.slot_ends (refl, refl)) start
+    (word_runs z kind frame offset slot.offset (place_even image frame i can.frame_aligned) can.place_ends (refl, refl) can.slot_aligned can.slot_ends (refl, refl)) start
     (placed code start (argument_code image i slot SingleWord) there)))
     (λ s has. record { stack = has.stack; there = number_there s.bytes 4 (frame + offset) has.argument_there; slot_there = number_there s.bytes 4 (frame + slot.offset) has.slot_there })
     (λ s t has puts. record { bytes = puts.bytes; others = puts.others })

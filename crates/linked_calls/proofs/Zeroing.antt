@@ -13,7 +13,7 @@ use Rattle.linked_calls.proofs.Parts.{Part, part}
 use Rattle.linked_calls.proofs.Pieces.{Setting, Piece, block, weaken, loop, Placed-left, Placed-right}
 use Rattle.linked_calls.proofs.Registers.{unwritten, near_address}
 use Rattle.linked_calls.proofs.Steps.{Placed, Data, Step, plain, access, computed, Reaches, AreFit}
-use Rattle.function_code.specs.FunctionCode.{until_equal, added, zeros_code}
+use Rattle.linked_calls.specs.FunctionCode.{until_equal, added, zeros_code}
 
 -- the four stores of a block
 abbrev pub zeros_steps : ℕ → List Step → List Step

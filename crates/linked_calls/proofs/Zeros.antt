@@ -1,8 +1,8 @@
 -- The code that zeroes a frame, and the code that wipes a room.
 use Rattle.std.proofs.Common.{◌≡◌, ℕ, zero, suc, ◌+◌, ◌-◌, ◌*◌, ◌/◌, ◌%◌, ◌^◌, ◌<◌, List, [], ◌∷◌, ◌++◌, length, refl, sym, ap, ap₂, ◌∙◌, subst, arith, ne_eqb, if◌then◌else◌}
 use Rattle.expression_code.specs.TermCode.{constant_code}
-use Rattle.function_code.specs.FunctionCode.{frame_code, wipe_code, until_equal, added, zeros_code}
-use Rattle.function_code.specs.Sections.{block_turns}
+use Rattle.linked_calls.specs.FunctionCode.{frame_code, wipe_code, until_equal, added, zeros_code}
+use Rattle.linked_calls.specs.Sections.{block_turns}
 use Rattle.rv_code.specs.declared.instructions.Instr.{Instr}
 use Rattle.rv_code.specs.declared.instructions.Instr.TheVariants.{Register}
 use Rattle.rv_code.specs.declared.operations.RegisterOperation.TheVariants.{Sub}

@@ -1,7 +1,7 @@
 -- The registers that a call clears behind its body.
 use Rattle.std.specs.Prelude.{◌≡◌, ◌≢◌, ℕ, List, length, All, Option, None}
-use Rattle.function_code.specs.Convention.{scratch_registers}
-use Rattle.function_code.specs.FunctionCode.{clear_registers_code}
+use Rattle.linked_calls.specs.Convention.{scratch_registers}
+use Rattle.linked_calls.specs.FunctionCode.{clear_registers_code}
 use Rattle.linked_calls.specs.Does.{Data, Does, AreThere}
 use Rattle.rv_machine.specs.declared.observation.Event.{Event}
 use Rattle.rv_machine.specs.Machine.{Code}

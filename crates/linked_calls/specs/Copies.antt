@@ -2,8 +2,8 @@
 -- may be changed.
 use Rattle.std.specs.Prelude.{◌≡◌, ◌≢◌, ◌⊎◌, ℕ, ◌+◌, ◌%◌, ◌^◌, ◌<◌, ◌≤◌, List, map, Option, Some, None}
 use Rattle.codegen.specs.Loaded.{with_argument, with_numbers, numbers_at}
-use Rattle.function_code.specs.FunctionCode.{argument_offset, array_bytes, argument_code, copy_out_code}
-use Rattle.function_code.specs.Sections.{argument_turns, array_turns}
+use Rattle.linked_calls.specs.FunctionCode.{argument_offset, array_bytes, argument_code, copy_out_code}
+use Rattle.linked_calls.specs.Sections.{argument_turns, array_turns}
 use Rattle.image_fields.specs.Fields.{Fields}
 use Rattle.image_fields.specs.declared.slot.Slot.{Slot}
 use Rattle.language.specs.Size.{element_bytes}

@@ -1,7 +1,13 @@
+pub mod Called
+pub mod Callable
+pub mod Calls
 pub mod Cleared
+pub mod Convention
 pub mod Copies
 pub mod Does
+pub mod FunctionCode
 pub mod Meant
+pub mod Sections
 pub mod Stretches
 pub mod Words
 pub mod Zeros

@@ -1,9 +1,9 @@
 -- An argument that is a word, of which what it means is put into its slot before the body, and the result behind it.
 use Rattle.std.specs.Prelude.{◌≡◌, ◌≢◌, ℕ, ◌+◌, ◌%◌, ◌^◌, ◌<◌, length, Option, Some, None}
 use Rattle.codegen.specs.Loaded.{with_argument, word_in}
-use Rattle.function_code.specs.Convention.{result_register}
-use Rattle.function_code.specs.FunctionCode.{argument_offset, argument_code, result_code}
-use Rattle.function_code.specs.Sections.{argument_turns}
+use Rattle.linked_calls.specs.Convention.{result_register}
+use Rattle.linked_calls.specs.FunctionCode.{argument_offset, argument_code, result_code}
+use Rattle.linked_calls.specs.Sections.{argument_turns}
 use Rattle.image_fields.specs.Fields.{Fields}
 use Rattle.image_fields.specs.declared.slot.ResultSlot.{ResultSlot}
 use Rattle.image_fields.specs.declared.slot.Slot.{Slot}

@@ -1,9 +1,31 @@
-// What the pieces of a function's code do, wherever they stand. These hold of the definitions alone.
+// What a function's code does, and what its pieces do, wherever they stand. These hold of the definitions alone.
 
+ghost use Rattle.std.specs.Prelude.{◌≡◌, ◌++◌, map};
+ghost use Rattle.codegen.specs.Anywhere.{body_words};
+ghost use Rattle.image_fields.specs.Fields.{Fields};
+ghost use Rattle.linked_calls.specs.Callable.{CallsAreLinked};
 ghost use Rattle.linked_calls.specs.Cleared.{RegistersAreCleared};
 ghost use Rattle.linked_calls.specs.Copies.{ArrayIsTaken, ArrayIsHandedBack};
+ghost use Rattle.linked_calls.specs.FunctionCode.{function_words};
+ghost use Rattle.linked_calls.specs.Sections.{code_of, enter_sections, leave_sections};
 ghost use Rattle.linked_calls.specs.Words.{ResultIsHandedBack, WordIsTaken};
 ghost use Rattle.linked_calls.specs.Zeros.{FrameIsZeroed, RoomIsWiped};
+ghost use Rattle.rv_code.specs.Words.{word_of};
+
+/// The function of every compiled procedure can be called from wherever its words stand in code. From each state in which
+/// it is called by the standard calling convention it goes back to its caller, in an exact number of turns around those of
+/// its body. It leaves what the source means on the arguments: the result in a0 and the elements of each `mut` array where
+/// its argument points. The registers that a caller may rely on are as they were, the others and the room of the call are 0,
+/// and nothing else has changed. Its accesses stay in the room, the arguments and the arrays. What the call shows is one
+/// list for arguments that agree where they are public, whatever the secret ones are.
+pub fn calls_are_linked()
+    ensures { CallsAreLinked }
+{}
+
+/// The words of the sections' instructions, with the body's between them, are those of the function.
+pub fn sections_are_the_function()
+    ensures { (image : Fields) → map word_of (code_of image (enter_sections image)) ++ body_words image.words ++ map word_of (code_of image (leave_sections image)) ≡ function_words image }
+{}
 
 /// The code that zeroes a frame before the body makes an exact number of turns, stores in the frame alone, and shows one
 /// list whatever the state holds; the frame is zeros behind it, x2 its base, and nothing else but x5 has changed.

@@ -1,10 +1,12 @@
-// The linked call: what is promised of the code of a function for C, piece by piece, when code calls it by the standard
-// calling convention of RV32.
+// The linked call: the code of a function for C, and what is promised of it when code calls it by the standard calling
+// convention of RV32: what its pieces do, and what a whole call does. `function_code` makes that code.
 #![tactic(auto)]
 
 mod laws;
+mod section;
 
 pub use laws::{
-    array_is_handed_back, array_is_taken, frame_is_zeroed, registers_are_cleared,
-    result_is_handed_back, room_is_wiped, word_is_taken,
+    array_is_handed_back, array_is_taken, calls_are_linked, frame_is_zeroed, registers_are_cleared,
+    result_is_handed_back, room_is_wiped, sections_are_the_function, word_is_taken,
 };
+pub use section::Section;

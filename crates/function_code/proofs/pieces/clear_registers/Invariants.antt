@@ -1,5 +1,5 @@
 use Rattle.std.proofs.Common.{◌≡◌, ◌++◌, drop}
-use Rattle.function_code.specs.FunctionCode.{clear_registers_code}
+use Rattle.linked_calls.specs.FunctionCode.{clear_registers_code}
 use Rattle.function_code.proofs.pieces.clear_registers.Given as goal
 
 abbrev pub invariant-loop-register : goal.invariant-loop-register

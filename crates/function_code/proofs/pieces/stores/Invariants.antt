@@ -1,5 +1,5 @@
 use Rattle.std.proofs.Common.{◌≡◌, ◌≤◌, ◌+◌, ◌*◌, ◌++◌, drop, length}
-use Rattle.function_code.specs.FunctionCode.{stores_code}
+use Rattle.linked_calls.specs.FunctionCode.{stores_code}
 use Rattle.function_code.proofs.pieces.stores.Given as goal
 
 -- the code so far and that of the registers that are left are all of it

@@ -1,5 +1,5 @@
 use Rattle.std.proofs.Common.{◌≡◌, ◌≤◌, ◌+◌, ◌++◌, drop, length}
-use Rattle.function_code.specs.Sections.{argument_sections}
+use Rattle.linked_calls.specs.Sections.{argument_sections}
 use Rattle.function_code.proofs.sections.push_arguments.Given as goal
 
 abbrev pub invariant-loop-slot : goal.invariant-loop-slot

@@ -1,5 +1,5 @@
 use Rattle.std.proofs.Common.{◌≡◌, ◌≤◌, ◌+◌, ◌++◌, drop, length}
-use Rattle.function_code.specs.Sections.{array_sections}
+use Rattle.linked_calls.specs.Sections.{array_sections}
 use Rattle.function_code.proofs.sections.push_arrays.Given as goal
 
 abbrev pub invariant-loop-slot : goal.invariant-loop-slot

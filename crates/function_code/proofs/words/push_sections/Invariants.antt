@@ -1,5 +1,5 @@
 use Rattle.std.proofs.Common.{◌≡◌, ◌++◌, map, drop}
-use Rattle.function_code.specs.Sections.{code_of}
+use Rattle.linked_calls.specs.Sections.{code_of}
 use Rattle.rv_code.specs.Words.{word_of}
 use Rattle.function_code.proofs.words.push_sections.Given as goal
 

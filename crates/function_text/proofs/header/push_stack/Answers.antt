@@ -3,7 +3,7 @@ use Rattle.std.proofs.lemmas.Result.{on_ok_weaker}
 use Rattle.std.specs.String.{string_bytes}
 use Rattle.listing.proofs.Pieces.{put-more, where_ok}
 use Rattle.std.specs.Fmt.{decimal}
-use Rattle.function_code.specs.FunctionCode.{room_of}
+use Rattle.linked_calls.specs.FunctionCode.{room_of}
 use Rattle.function_text.specs.Names.{stack_name}
 use Rattle.function_text.proofs.header.push_stack.Goals as goal
 

@@ -2,10 +2,10 @@
 use Rattle.std.specs.Prelude.{ℕ, ◌+◌, ◌-◌, ◌*◌, ◌/◌, ◌==◌, List, [], ◌∷◌, ◌++◌, length, map, sum, if◌then◌else◌}
 use Rattle.std.specs.List.{flat_map}
 use Rattle.expression_code.specs.TermCode.{constant_code}
-use Rattle.function_code.specs.Convention.{link_register, stack_register, saved_registers, argument_registers, scratch_registers}
-use Rattle.function_code.specs.FunctionCode.{above_frame, frame_room, room_of, stores_code, loads_code, until_equal, added, zeros_code, argument_code, bounds_code, copied_in_code, copied_out_code, result_code, copy_out_code, wipe_code, clear_registers_code}
-use Rattle.function_code.specs.declared.sections.Section.{Section}
-use Rattle.function_code.specs.declared.sections.Section.TheVariants.{RoomAboveFrame, SavedRegisters, ArgumentRegisters, FrameBase, ClearedFrame, ArgumentIn, ResultOut, ArrayOut, FrameTop, RestoredRegisters, CallersStack, WipedRoom, ClearedRegisters, Return}
+use Rattle.linked_calls.specs.Convention.{link_register, stack_register, saved_registers, argument_registers, scratch_registers}
+use Rattle.linked_calls.specs.FunctionCode.{above_frame, frame_room, room_of, stores_code, loads_code, until_equal, added, zeros_code, argument_code, bounds_code, copied_in_code, copied_out_code, result_code, copy_out_code, wipe_code, clear_registers_code}
+use Rattle.linked_calls.specs.declared.section.Section.{Section}
+use Rattle.linked_calls.specs.declared.section.Section.TheVariants.{RoomAboveFrame, SavedRegisters, ArgumentRegisters, FrameBase, ClearedFrame, ArgumentIn, ResultOut, ArrayOut, FrameTop, RestoredRegisters, CallersStack, WipedRoom, ClearedRegisters, Return}
 use Rattle.image_fields.specs.Fields.{Fields}
 use Rattle.image_fields.specs.declared.slot.Slot.{Slot}
 use Rattle.language.specs.declared.signature.Form.{Form}

@@ -1,7 +1,7 @@
 -- The function that adds one to its argument, as it is worked out by hand: 72 words, and 98 turns around the 4 of its body.
 use Rattle.std.proofs.Common.{◌≡◌, [], ◌∷◌, length, Some, refl}
-use Rattle.function_code.specs.FunctionCode.{function_words, room_of}
-use Rattle.function_code.specs.Sections.{around_turns}
+use Rattle.linked_calls.specs.FunctionCode.{function_words, room_of}
+use Rattle.linked_calls.specs.Sections.{around_turns}
 use Rattle.image_fields.specs.Fields.{Fields}
 use Rattle.language.specs.declared.signature.Form.TheVariants.{SingleWord}
 use Rattle.language.specs.declared.signature.Kind.TheVariants.{Uint32}

@@ -3,11 +3,11 @@ use Rattle.std.proofs.Common.{◌≡◌, ℕ, ◌+◌, ◌-◌, ◌==◌, Bool, 
 use Rattle.std.proofs.lemmas.List.{append_assoc, append-nil}
 use Rattle.codegen.specs.Anywhere.{body_words}
 use Rattle.expression_code.specs.TermCode.{constant_code}
-use Rattle.function_code.specs.Convention.{stack_register, link_register, saved_registers, scratch_registers}
-use Rattle.function_code.specs.FunctionCode.{above_frame, frame_room, frame_code, entry_code, argument_code, arguments_code, enter_code, result_code, results_code, restore_code, wipe_code, clear_registers_code, leave_code, copy_out_code, function_words, until_equal, added, zeros_code, loads_code}
-use Rattle.function_code.specs.Sections.{frame_sections, argument_sections, enter_sections, array_section, array_sections, leave_sections, section_code, code_of}
-use Rattle.function_code.specs.declared.sections.Section.{Section}
-use Rattle.function_code.specs.declared.sections.Section.TheVariants.{FrameBase, ClearedFrame, FrameTop, RestoredRegisters, CallersStack, WipedRoom, ClearedRegisters, Return}
+use Rattle.linked_calls.specs.Convention.{stack_register, link_register, saved_registers, scratch_registers}
+use Rattle.linked_calls.specs.FunctionCode.{above_frame, frame_room, frame_code, entry_code, argument_code, arguments_code, enter_code, result_code, results_code, restore_code, wipe_code, clear_registers_code, leave_code, copy_out_code, function_words, until_equal, added, zeros_code, loads_code}
+use Rattle.linked_calls.specs.Sections.{frame_sections, argument_sections, enter_sections, array_section, array_sections, leave_sections, section_code, code_of}
+use Rattle.linked_calls.specs.declared.section.Section.{Section}
+use Rattle.linked_calls.specs.declared.section.Section.TheVariants.{FrameBase, ClearedFrame, FrameTop, RestoredRegisters, CallersStack, WipedRoom, ClearedRegisters, Return}
 use Rattle.image_fields.specs.Fields.{Fields}
 use Rattle.image_fields.specs.declared.slot.Slot.{Slot}
 use Rattle.language.specs.declared.signature.Form.{Form}

@@ -6,7 +6,7 @@
 use Rattle.std.specs.Prelude.{ℕ, ◌+◌, ◌-◌, ◌*◌, ◌^◌, ◌==◌, List, [], ◌∷◌, ◌++◌, length, map, Option, Some, None, if◌then◌else◌}
 use Rattle.codegen.specs.Anywhere.{body_words}
 use Rattle.expression_code.specs.TermCode.{load_code, store_code, constant_code, cut_code, is_not_zero_code, load_by}
-use Rattle.function_code.specs.Convention.{link_register, stack_register, saved_registers, argument_registers, result_register, scratch_registers, whole_blocks}
+use Rattle.linked_calls.specs.Convention.{link_register, stack_register, saved_registers, argument_registers, result_register, scratch_registers, whole_blocks}
 use Rattle.image_fields.specs.Fields.{Fields}
 use Rattle.image_fields.specs.declared.slot.ResultSlot.{ResultSlot}
 use Rattle.image_fields.specs.declared.slot.Slot.{Slot}

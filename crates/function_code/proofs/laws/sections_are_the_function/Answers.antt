@@ -1,5 +1,0 @@
-use Rattle.function_code.proofs.SectionLemmas.{words_of_sections}
-use Rattle.function_code.proofs.laws.sections_are_the_function.Goals as goal
-
-pub returns : goal.returns
-returns c = words_of_sections

@@ -1,3 +1,0 @@
-pub mod Convention
-pub mod FunctionCode
-pub mod Sections

@@ -1,0 +1,10 @@
+-- The image of a text's function is the one that the text is compiled to, so it is called as that one is.
+use Rattle.function_text.specs.Linked.{FunctionsAreLinked}
+use Rattle.hepurita.proofs.AnswerLemmas.{fits}
+use Rattle.linked_calls.specs.Callable.{CallsAreLinked}
+use Rattle.syntax.specs.Reading.{OneAnswer}
+
+pub functions_are_linked : CallsAreLinked → OneAnswer → FunctionsAreLinked
+functions_are_linked calls answer profile text parts of code site is =
+    let fit = fits answer profile text of.bytes of.program of.before of.export parts.image of.builds in
+    calls of.program of.before of.export parts.image fit.compiled of.builds.allowed code site is

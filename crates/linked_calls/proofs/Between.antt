@@ -1,0 +1,122 @@
+-- What the code before the body hands to it, and what the code behind it takes over: the two halves of a call, so that they
+-- can be proved apart from each other and from the body.
+use Rattle.std.specs.Prelude.{◌⊎◌, sum}
+use Rattle.std.proofs.Common.{◌≡◌, ℕ, suc, ◌+◌, ◌-◌, ◌*◌, ◌%◌, ◌^◌, ◌<◌, ◌≤◌, List, [], ◌∷◌, length, map, All, Some, None}
+use Rattle.codegen.specs.Anywhere.{IsLoaded, IsUntouched, body_words}
+use Rattle.codegen.specs.Loaded.{results_in}
+use Rattle.image_fields.specs.Fields.{Fields, IsImage}
+use Rattle.image_fields.specs.declared.slot.Slot.{Slot}
+use Rattle.language.specs.declared.signature.Form.{Form}
+use Rattle.language.specs.declared.signature.Form.TheVariants.{SingleWord, FixedArray, MutableArray}
+use Rattle.linked_calls.specs.Called.{IsOfCall, IsLeft}
+use Rattle.linked_calls.specs.Calls.{Site, IsSite, IsCalled, room_base, arguments_end, arguments_of}
+use Rattle.linked_calls.specs.Convention.{saved_registers}
+use Rattle.linked_calls.specs.FunctionCode.{enter_code, function_words, frame_room, argument_offset, array_bytes}
+use Rattle.linked_calls.specs.Sections.{enter_sections, leave_sections, section_turns}
+use Rattle.linked_calls.specs.Stretches.{AreData}
+use Rattle.rv_machine.specs.Bytes.{ByteMap, number_at}
+use Rattle.rv_machine.specs.Leakage.{Leads}
+use Rattle.rv_machine.specs.Machine.{State, Code, Turn, goes_on, observed, moved_to}
+use Rattle.rv_machine.specs.declared.observation.Observation.{Observation}
+
+-- where the body begins, and the code behind it
+abbrev pub body_at : Fields → Site → ℕ
+body_at image site = site.entry + 4 * length (enter_code image)
+
+abbrev pub leave_at : Fields → Site → ℕ
+leave_at image site = body_at image site + 4 * length (body_words image.words)
+
+abbrev pub enter_turns : Fields → ℕ
+enter_turns image = sum (map (section_turns image) (enter_sections image))
+
+abbrev pub leave_turns : Fields → ℕ
+leave_turns image = sum (map (section_turns image) (leave_sections image))
+
+-- what registers held stands in words from an address on
+abbrev pub AreSaved : ByteMap → (ℕ → ℕ) → ℕ → List ℕ → Type 0
+AreSaved bytes regs a [] = Unit {0}
+AreSaved bytes regs a (r ∷ rs) = (number_at bytes 4 a ≡ Some (regs r)) × AreSaved bytes regs (a + 4) rs
+
+-- the caller's registers, above the frame
+abbrev pub saved_at : Fields → Site → ℕ
+saved_at image site = room_base image site + frame_room image
+
+-- each array's pointer stands at its argument's place
+abbrev pub PointerStands : Fields → Site → ByteMap → ℕ → Form → Type 0
+PointerStands image site bytes i SingleWord = Unit {0}
+PointerStands image site bytes i FixedArray = number_at bytes 4 (room_base image site + argument_offset image i) ≡ Some (site.pointers i)
+PointerStands image site bytes i MutableArray = number_at bytes 4 (room_base image site + argument_offset image i) ≡ Some (site.pointers i)
+
+abbrev pub PointersStand : Fields → Site → ByteMap → ℕ → List Slot → Type 0
+PointersStand image site bytes i [] = Unit {0}
+PointersStand image site bytes i (slot ∷ slots) = PointerStands image site bytes i slot.param.form × PointersStand image site bytes (i + 1) slots
+
+-- an address before the room of the call or behind it
+abbrev pub IsOutsideRoom : Fields → Site → ℕ → Type 0
+IsOutsideRoom image site x = (x < room_base image site) ⊎ (site.stack ≤ x)
+
+-- Before the body.
+
+-- from a state in which the function is called to one in which its body is loaded
+pub record IsEntered (image : Fields) (site : Site) (s t : State) : Type 0 where
+  pub at_body : t.pc ≡ body_at image site
+  pub loaded : IsLoaded image (room_base image site) (arguments_of image site s) t
+  pub untouched : (r : ℕ) → IsUntouched r → t.regs r ≡ s.regs r
+  pub saved : AreSaved t.bytes s.regs (saved_at image site) saved_registers
+  pub pointers : PointersStand image site t.bytes 0 image.slots
+  pub outside : (x : ℕ) → IsOutsideRoom image site x → t.bytes x ≡ s.bytes x
+  pub there : AreData (room_base image site) site.stack t.bytes
+
+pub record EntersFrom (image : Fields) (code : Code) (site : Site) (list : List Observation) (s : State) : Type 0 where
+  pub end : State
+  pub leads : Leads code (enter_turns image) s list end
+  pub entered : IsEntered image site s end
+
+pub record Enters (image : Fields) (code : Code) (site : Site) : Type 0 where
+  pub shown : List Observation
+  pub within : All (λ (o : Observation). IsOfCall image site o.event) shown
+  pub runs : (s : State) → IsCalled image site s → EntersFrom image code site shown s
+
+abbrev pub EnteringLeads : Type 0
+EnteringLeads = (image : Fields) (code : Code) (site : Site) → IsImage image → IsSite image code site → Enters image code site
+
+-- Behind the body.
+
+-- an array that is handed back is data
+abbrev pub IsWritableData : Site → ByteMap → ℕ → Slot → Form → Type 0
+IsWritableData site bytes i slot SingleWord = Unit {0}
+IsWritableData site bytes i slot FixedArray = Unit {0}
+IsWritableData site bytes i slot MutableArray = AreData (site.pointers i) (site.pointers i + array_bytes slot) bytes
+
+abbrev pub AreWritableData : Site → ByteMap → ℕ → List Slot → Type 0
+AreWritableData site bytes i [] = Unit {0}
+AreWritableData site bytes i (slot ∷ slots) = IsWritableData site bytes i slot slot.param.form × AreWritableData site bytes (i + 1) slots
+
+-- the body is done, of a call whose caller had these registers
+pub record CanLeave (image : Fields) (site : Site) (regs : ℕ → ℕ) (s : State) : Type 0 where
+  pub at_leave : s.pc ≡ leave_at image site
+  pub base : s.regs 2 ≡ room_base image site
+  pub stack : regs 2 ≡ site.stack
+  pub untouched : (r : ℕ) → IsUntouched r → s.regs r ≡ regs r
+  pub words : (r : ℕ) → regs r < 2 ^ 32
+  pub saved : AreSaved s.bytes regs (saved_at image site) saved_registers
+  pub pointers : PointersStand image site s.bytes 0 image.slots
+  pub there : AreData (room_base image site) (arguments_end image site) s.bytes
+  pub arrays : AreWritableData site s.bytes 0 image.slots
+
+pub record LeavesFrom (image : Fields) (code : Code) (site : Site) (list : List Observation) (regs : ℕ → ℕ) (s : State) : Type 0 where
+  pub turns : ℕ
+  pub counted : suc turns ≡ leave_turns image
+  pub end : State
+  pub leads : Leads code turns s list end
+  pub at_last : end.pc ≡ site.entry + 4 * (length (function_words image) - 1)
+  pub left : IsLeft image site regs s.bytes (results_in (room_base image site) image s.bytes) end
+  pub goes_back : regs 1 % 4 ≡ 0 → Turn code end (goes_on (observed end None) (moved_to end (regs 1)))
+
+pub record Leaves (image : Fields) (code : Code) (site : Site) : Type 0 where
+  pub shown : List Observation
+  pub within : All (λ (o : Observation). IsOfCall image site o.event) shown
+  pub runs : (regs : ℕ → ℕ) (s : State) → CanLeave image site regs s → LeavesFrom image code site shown regs s
+
+abbrev pub LeavesEverywhere : Type 0
+LeavesEverywhere = (image : Fields) (code : Code) (site : Site) → IsImage image → IsSite image code site → Leaves image code site

@@ -1,0 +1,197 @@
+-- The whole call: the code before the body, the body, and the code behind it, one after another.
+use Rattle.std.specs.Prelude.{sum, is_some}
+use Rattle.std.proofs.Common.{◌≡◌, ℕ, suc, ◌+◌, ◌-◌, ◌%◌, ◌<◌, ◌≤◌, true, List, ◌++◌, map, Option, Some, None, inl, inr, ⊎_elim, ap, ◌∙◌, subst, arith}
+use Rattle.std.proofs.lemmas.Bool.{cases_lt}
+use Rattle.std.proofs.lemmas.List.{map-append}
+use Rattle.std.proofs.lemmas.List.Elements.{All-append}
+use Rattle.std.proofs.lemmas.List.Sums.{sum_by-append}
+use Rattle.codegen.specs.Anywhere.{IsPlaced, IsBeside, BodyRun}
+use Rattle.codegen.specs.Bases.{IsInside}
+use Rattle.codegen.specs.Loaded.{results_in}
+use Rattle.hepurita.specs.Linked.{IsLinked, RunsLinked}
+use Rattle.image_fields.specs.Fields.{Fields}
+use Rattle.language.specs.Results.{Results}
+use Rattle.language.specs.Tree.{ProcedureTree, ProgramTree}
+use Rattle.language.specs.declared.values.Arg.{Arg}
+use Rattle.linked_calls.specs.Callable.{Returns, IsCallable, CallsAreLinked}
+use Rattle.linked_calls.specs.Called.{IsOfCall, IsLeft}
+use Rattle.linked_calls.specs.Calls.{Site, IsSite, IsCalled, room_base, arguments_end, arguments_of}
+use Rattle.linked_calls.specs.Convention.{saved_registers}
+use Rattle.linked_calls.specs.FunctionCode.{frame_room}
+use Rattle.linked_calls.specs.Sections.{enter_sections, leave_sections, section_turns, around_turns}
+use Rattle.linked_calls.specs.Stretches.{AreData}
+use Rattle.linked_calls.proofs.Between.{IsOutsideRoom, body_at, saved_at, enter_turns, leave_turns, Enters, EntersFrom, EnteringLeads, CanLeave, Leaves, LeavesFrom, LeavesEverywhere}
+use Rattle.linked_calls.proofs.Standing.{body_stands}
+use Rattle.linked_calls.proofs.Staying.{AreSameFrom, saved_stay, pointers_stay, arrays_stay, arrays_agree}
+use Rattle.linked_calls.proofs.WithinParameters.{arguments_within}
+use Rattle.rv_machine.proofs.RunLaws.{Leads-append}
+use Rattle.rv_machine.specs.Machine.{State, Code}
+use Rattle.rv_machine.specs.declared.observation.Event.{Event}
+use Rattle.rv_machine.specs.declared.observation.Event.TheVariants.{Load, Store, Div, Mul}
+use Rattle.rv_machine.specs.declared.observation.Observation.{Observation}
+
+-- Places.
+
+base_aligned : (image : Fields) (code : Code) (site : Site) → IsSite image code site → room_base image site % 4 ≡ 0
+base_aligned image code site is =
+    let aligned = is.stack_aligned in
+    let room = is.room in
+    omega (arith, aligned, room)
+
+-- the frame lies in the room
+frame_below : (image : Fields) (code : Code) (site : Site) → IsSite image code site → room_base image site + image.frame_bytes ≤ site.stack
+frame_below image code site is =
+    let room = is.room in
+    omega (arith, room)
+
+is_placed : (image : Fields) (code : Code) (site : Site) → IsSite image code site → IsPlaced image code (body_at image site) (room_base image site)
+is_placed image code site is =
+    let below = frame_below image code site is in
+    let ends = is.stack_ends in
+    record {
+      observed = is.observed;
+      words = body_stands image code site is;
+      frame_aligned = base_aligned image code site is;
+      frame_ends = omega (arith, below, ends);
+    }
+
+-- Accesses.
+
+inside_is_of_call : (image : Fields) (code : Code) (site : Site) → IsSite image code site
+    → (event : Option Event) → IsInside (room_base image site) image.frame_bytes event → IsOfCall image site event
+inside_is_of_call image code site is None inside = tt
+inside_is_of_call image code site is (Some (Load a size)) inside =
+    let below = frame_below image code site is in
+    let high = inside.1 in
+    inl (inside.0, omega (arith, below, high))
+inside_is_of_call image code site is (Some (Store a size)) inside =
+    let below = frame_below image code site is in
+    let high = inside.1 in
+    inl (inside.0, omega (arith, below, high))
+inside_is_of_call image code site is (Some (Div a b)) inside = tt
+inside_is_of_call image code site is (Some (Mul a b)) inside = tt
+
+-- Turns.
+
+turns_around : (image : Fields) → around_turns image ≡ enter_turns image + leave_turns image
+turns_around image =
+    ap sum (map-append (section_turns image) (enter_sections image) (leave_sections image))
+    ∙ sum_by-append (λ x. x) (map (section_turns image) (enter_sections image)) (map (section_turns image) (leave_sections image))
+
+turns_counted : (enter body leave around : ℕ) (rest : ℕ) → around ≡ enter + leave → suc rest ≡ leave → suc (enter + (body + rest)) ≡ around + body
+turns_counted enter body leave around rest e counted = omega (arith, e, counted)
+
+-- The body, between the two.
+
+module _ (image : Fields) (code : Code) (site : Site) (is : IsSite image code site) (s : State) (called : IsCalled image site s)
+    (before : List Observation) (entered : EntersFrom image code site before s)
+    (list : List Observation) (run : BodyRun image code (body_at image site) (room_base image site) entered.end list) where
+  beside_above : (x : ℕ) → room_base image site + frame_room image ≤ x → IsBeside image (room_base image site) x
+  beside_above x above = inr (omega (arith, above))
+
+  same_above : AreSameFrom (room_base image site + frame_room image) entered.end.bytes run.end.bytes
+  same_above x above = run.beside x (beside_above x above)
+
+  beside_room : (x : ℕ) → IsOutsideRoom image site x → IsBeside image (room_base image site) x
+  beside_room x (inl low) = inl low
+  beside_room x (inr high) =
+      let below = frame_below image code site is in
+      inr (omega (arith, below, high))
+
+  -- what lies outside the room is as it was at the call
+  same_outside : (x : ℕ) → IsOutsideRoom image site x → run.end.bytes x ≡ s.bytes x
+  same_outside x out = run.beside x (beside_room x out) ∙ entered.entered.outside x out
+
+  -- the room is data
+  room_there : AreData (room_base image site) site.stack run.end.bytes
+  room_there x low high =
+      ⊎_elim
+      (λ (inside : x < room_base image site + image.frame_bytes).
+      let e : room_base image site + (x - room_base image site) ≡ x = omega (arith, low) in
+      subst (λ a. is_some (run.end.bytes a) ≡ true) e (run.frame_there (x - room_base image site) (omega (arith, low, inside))))
+      (λ (above : room_base image site + image.frame_bytes ≤ x). ap is_some (run.beside x (inr above)) ∙ entered.entered.there x low high)
+      (cases_lt x (room_base image site + image.frame_bytes))
+
+  all_there : AreData (room_base image site) (arguments_end image site) run.end.bytes
+  all_there x low high =
+      ⊎_elim
+      (λ (below : x < site.stack). room_there x low below)
+      (λ (above : site.stack ≤ x). ap is_some (same_outside x (inr above)) ∙ called.there x low high)
+      (cases_lt x site.stack)
+
+  can_leave : CanLeave image site s.regs run.end
+  can_leave = record {
+    at_leave = run.behind;
+    base = run.base;
+    stack = called.stack;
+    untouched = λ r which. run.untouched r which ∙ entered.entered.untouched r which;
+    words = called.words;
+    saved = saved_stay (room_base image site + frame_room image) (saved_at image site) entered.end.bytes run.end.bytes s.regs saved_registers same_above (omega arith) entered.entered.saved;
+    pointers = pointers_stay image site entered.end.bytes run.end.bytes same_above 0 image.slots entered.entered.pointers;
+    there = all_there;
+    arrays = arrays_stay image site s run.end.bytes same_outside 0 image.slots is.arrays called.arguments;
+  }
+
+  -- so what is left of the bytes behind the body is left of those at the call
+  is_left : (results : Results) (t : State) → IsLeft image site s.regs run.end.bytes results t → IsLeft image site s.regs s.bytes results t
+  is_left results t left = record {
+    result = left.result;
+    kept = left.kept;
+    cleared = left.cleared;
+    memory = record {
+      inside = left.memory.inside;
+      outside = λ x out. left.memory.outside x out ∙ arrays_agree site x run.end.bytes s.bytes 0 image.slots results.arrays (same_outside x out);
+    };
+  }
+
+-- The call.
+
+module _ (program : ProgramTree) (p : ProcedureTree) (image : Fields) (code : Code) (site : Site) (is : IsSite image code site)
+    (enters : Enters image code site) (linked : IsLinked program p image code (body_at image site) (room_base image site)) (leaves : Leaves image code site) where
+  abbrev shown_on : List Arg → List Observation
+  shown_on args = enters.shown ++ (linked.shown args ++ leaves.shown)
+
+  returns_by : (s : State) (called : IsCalled image site s) (entered : EntersFrom image code site enters.shown s)
+      (body : RunsLinked program image code (body_at image site) (room_base image site) (arguments_of image site s) entered.end (linked.shown (arguments_of image site s)))
+      → LeavesFrom image code site leaves.shown s.regs body.run.end → Returns program image code site s (shown_on (arguments_of image site s))
+  returns_by s called entered body left =
+      let args = arguments_of image site s in
+      let run = body.run in
+      let allowed = λ (o : Observation). IsOfCall image site o.event in
+      record {
+        results = results_in (room_base image site) image run.end.bytes;
+        means = body.outcome;
+        turns = enter_turns image + (run.turns + left.turns);
+        end = left.end;
+        leads = Leads-append entered.leads (Leads-append run.leads left.leads);
+        body_turns = run.turns;
+        within_steps = run.within_steps;
+        counted = turns_counted (enter_turns image) run.turns (leave_turns image) (around_turns image) left.turns (turns_around image) left.counted;
+        within = All-append allowed enters.shown (linked.shown args ++ leaves.shown) enters.within
+            (All-append allowed (linked.shown args) leaves.shown (λ k o below. inside_is_of_call image code site is _ (run.within_frame k o below)) leaves.within);
+        at_last = left.at_last;
+        left = is_left image code site is s called enters.shown entered (linked.shown args) run _ left.end left.left;
+        goes_back = left.goes_back;
+      }
+
+  returns : (s : State) → IsCalled image site s → Returns program image code site s (shown_on (arguments_of image site s))
+  returns s called =
+      let args = arguments_of image site s in
+      let entered = enters.runs s called in
+      let body = linked.runs args entered.end entered.entered.at_body entered.entered.loaded (arguments_within image site s) in
+      returns_by s called entered body
+      (leaves.runs s.regs body.run.end (can_leave image code site is s called enters.shown entered (linked.shown args) body.run))
+
+  is_callable : IsCallable program p image code site
+  is_callable = record {
+    shown = shown_on;
+    runs = returns;
+    equal_leakage = λ args args' agree. ap (λ (body : List Observation). enters.shown ++ (body ++ leaves.shown)) (linked.equal_leakage args args' agree);
+    public_results = linked.public_results;
+  }
+
+pub calls_are_linked_from : EnteringLeads → LeavesEverywhere → CallsAreLinked
+calls_are_linked_from entering leaving program before p image compiled fields code site is =
+    is_callable program p image code site is (entering image code site fields is)
+    (compiled.linked code (body_at image site) (room_base image site) (is_placed image code site is))
+    (leaving image code site fields is)

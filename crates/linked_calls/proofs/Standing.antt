@@ -1,0 +1,69 @@
+-- Where the parts of a function's words stand in code: the instructions before the body, the body, and those behind it.
+use Rattle.std.proofs.Common.{◌≡◌, ℕ, suc, ◌+◌, ◌*◌, List, [], ◌∷◌, ◌++◌, length, map, refl, ap, ap₂, ◌∙◌, subst, arith, length-append}
+use Rattle.std.proofs.lemmas.List.{length-map}
+use Rattle.codegen.specs.Anywhere.{Stand, body_words}
+use Rattle.image_fields.specs.Fields.{Fields}
+use Rattle.linked_calls.specs.Calls.{Site, IsSite}
+use Rattle.linked_calls.specs.FunctionCode.{enter_code, leave_code, function_words}
+use Rattle.linked_calls.proofs.Between.{body_at, leave_at}
+use Rattle.linked_calls.proofs.Placing.{placed}
+use Rattle.linked_calls.proofs.Steps.{Placed}
+use Rattle.rv_code.specs.Words.{word_of}
+use Rattle.rv_machine.specs.Machine.{Code}
+
+-- Words, one list after another.
+
+pub stand_first : (code : Code) (p : ℕ) (xs ys : List ℕ) → Stand code p (xs ++ ys) → Stand code p xs
+stand_first code p [] ys h = tt
+stand_first code p (x ∷ xs) ys h = (h.0, h.1, h.2, stand_first code (p + 4) xs ys h.3)
+
+pub stand_then : (code : Code) (p : ℕ) (xs ys : List ℕ) → Stand code p (xs ++ ys) → Stand code (p + 4 * length xs) ys
+stand_then code p [] ys h =
+    let e : p ≡ p + 4 * 0 = omega arith in
+    subst (λ q. Stand code q ys) e h
+stand_then code p (x ∷ xs) ys h =
+    let e : p + 4 + 4 * length xs ≡ p + 4 * suc (length xs) = omega arith in
+    subst (λ q. Stand code q ys) e (stand_then code (p + 4) xs ys h.3)
+
+-- The function.
+
+abbrev enter_words : Fields → List ℕ
+enter_words image = map word_of (enter_code image)
+
+abbrev leave_words : Fields → List ℕ
+leave_words image = map word_of (leave_code image)
+
+words_are : (image : Fields) → function_words image ≡ enter_words image ++ body_words image.words ++ leave_words image
+unfolding function_words
+words_are image = refl
+
+-- how many words it has
+pub function_length : (image : Fields) → length (function_words image) ≡ length (enter_code image) + length (body_words image.words) + length (leave_code image)
+function_length image =
+    ap length (words_are image)
+    ∙ length-append (enter_words image ++ body_words image.words) (leave_words image)
+    ∙ ap₂ (λ a b. a + b) (length-append (enter_words image) (body_words image.words) ∙ ap (λ a. a + length (body_words image.words)) (length-map (enter_code image) word_of)) (length-map (leave_code image) word_of)
+
+module _ (image : Fields) (code : Code) (site : Site) (is : IsSite image code site) where
+  all_stand : Stand code site.entry (enter_words image ++ body_words image.words ++ leave_words image)
+  all_stand = subst (λ words. Stand code site.entry words) (words_are image) is.words
+
+  entered_stands : Stand code site.entry (enter_words image ++ body_words image.words)
+  entered_stands = stand_first code site.entry (enter_words image ++ body_words image.words) (leave_words image) all_stand
+
+  pub enter_placed : Placed code site.entry (enter_code image)
+  enter_placed = placed code site.entry (enter_code image) (stand_first code site.entry (enter_words image) (body_words image.words) entered_stands)
+
+  pub body_stands : Stand code (body_at image site) (body_words image.words)
+  body_stands =
+      subst (λ n. Stand code (site.entry + 4 * n) (body_words image.words)) (length-map (enter_code image) word_of)
+      (stand_then code site.entry (enter_words image) (body_words image.words) entered_stands)
+
+  pub leave_placed : Placed code (leave_at image site) (leave_code image)
+  leave_placed =
+      let words = body_words image.words in
+      let a = length-append (enter_words image) words in
+      let b = length-map (enter_code image) word_of in
+      let e : site.entry + 4 * length (enter_words image ++ words) ≡ leave_at image site = omega (arith, a, b) in
+      placed code (leave_at image site) (leave_code image)
+      (subst (λ q. Stand code q (leave_words image)) e (stand_then code site.entry (enter_words image ++ words) (leave_words image) all_stand))

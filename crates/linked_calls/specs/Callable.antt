@@ -1,0 +1,58 @@
+-- The linked call: a caller that keeps the calling convention gets what the source means, in an exact number of turns around
+-- those of the body, and its secrets make no difference to what an observer sees.
+use Rattle.std.specs.Prelude.{◌≡◌, ℕ, suc, ◌+◌, ◌-◌, ◌*◌, ◌%◌, ◌<◌, List, length, All, None}
+use Rattle.arguments.specs.Agreement.{Agree}
+use Rattle.arguments.specs.PublicResults.{AgreeInPublic}
+use Rattle.codegen.specs.Loaded.{params_of}
+use Rattle.hepurita.specs.Compiled.{IsCompiled}
+use Rattle.hepurita.specs.Meant.{Means}
+use Rattle.image_fields.specs.Fields.{Fields, IsImage}
+use Rattle.language.specs.Results.{Results}
+use Rattle.language.specs.Tree.{ProcedureTree, ProgramTree}
+use Rattle.language.specs.declared.values.Arg.{Arg}
+use Rattle.linked_calls.specs.Called.{IsOfCall, IsLeft}
+use Rattle.linked_calls.specs.Calls.{Site, IsSite, IsCalled, arguments_of}
+use Rattle.linked_calls.specs.FunctionCode.{function_words}
+use Rattle.linked_calls.specs.Sections.{around_turns}
+use Rattle.rv_machine.specs.Leakage.{Leads}
+use Rattle.rv_machine.specs.Machine.{State, Code, Turn, goes_on, observed, moved_to}
+use Rattle.rv_machine.specs.declared.observation.Observation.{Observation}
+
+-- a call from this state: all its turns but the last, which jumps back, and that one. What it shows is this list
+pub record Returns (program : ProgramTree) (image : Fields) (code : Code) (site : Site) (s : State) (list : List Observation) : Type 0 where
+  pub results : Results
+  pub means : Means program (arguments_of image site s) results
+  pub turns : ℕ
+  pub end : State
+  pub leads : Leads code turns s list end
+  -- those of the body: ECALL would be one turn more
+  pub body_turns : ℕ
+  pub within_steps : body_turns < image.max_steps
+  pub counted : suc turns ≡ around_turns image + body_turns
+  pub within : All (λ (o : Observation). IsOfCall image site o.event) list
+  pub at_last : end.pc ≡ site.entry + 4 * (length (function_words image) - 1)
+  pub left : IsLeft image site s.regs s.bytes results end
+  -- a caller of code without compressed instructions stands at a multiple of 4
+  pub goes_back : s.regs 1 % 4 ≡ 0 → Turn code end (goes_on (observed end None) (moved_to end (s.regs 1)))
+
+-- the function of an image can be called from where it stands
+pub record IsCallable (program : ProgramTree) (p : ProcedureTree) (image : Fields) (code : Code) (site : Site) : Type 0 where
+  -- one list for each list of arguments, whatever the rest of the state
+  pub shown : List Arg → List Observation
+  -- results: from every state in which it is called, whatever words it is given
+  pub runs : (s : State) → IsCalled image site s → Returns program image code site s (shown (arguments_of image site s))
+  -- equal leakage: on arguments that agree it is one list
+  pub equal_leakage : (args args' : List Arg) → Agree (params_of image) args args' → shown args ≡ shown args'
+  -- and what is left is one result and one list of `mut` arrays, where these are public
+  pub public_results : (args args' : List Arg) (results results' : Results) → Agree (params_of image) args args'
+      → Means program args results → Means program args' results' → AgreeInPublic (params_of image) p.result results results'
+
+-- the function of each compiled procedure can be called, from wherever it stands
+abbrev pub CallsAreLinked : Type 0
+CallsAreLinked =
+    (program : ProgramTree) (before : List ProcedureTree) (p : ProcedureTree) (image : Fields)
+    → IsCompiled program before p image
+    → IsImage image
+    → (code : Code) (site : Site)
+    → IsSite image code site
+    → IsCallable program p image code site

@@ -1,0 +1,36 @@
+// What the code of a function is made of.
+
+use image_fields::Slot;
+
+/// A part of a function's code, with one purpose.
+#[derive(Clone, Copy, Debug, PartialEq, Eq)]
+pub enum Section {
+    /// x2 goes down by what stands above the frame.
+    RoomAboveFrame,
+    /// What the caller has in s0 to s11 is kept.
+    SavedRegisters,
+    /// What it has in a0 to a7 is laid below its further arguments.
+    ArgumentRegisters,
+    /// The frame's base into x5.
+    FrameBase,
+    /// The frame becomes 0, and x2 its base.
+    ClearedFrame,
+    /// An argument, counted from 0, into its parameter's slot.
+    ArgumentIn(u16, Slot),
+    /// The result into a0.
+    ResultOut,
+    /// An array, of the argument of this number, back to the caller.
+    ArrayOut(u16, Slot),
+    /// The frame's end into x5.
+    FrameTop,
+    /// The caller's s0 to s11.
+    RestoredRegisters,
+    /// The caller's x2 into x5.
+    CallersStack,
+    /// All the room becomes 0, and x2 the caller's.
+    WipedRoom,
+    /// The registers that a function may change become 0.
+    ClearedRegisters,
+    /// Back to the caller.
+    Return,
+}
