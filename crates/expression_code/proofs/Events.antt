@@ -1,26 +1,13 @@
 -- The marks of a path, by what they carry, and the instructions that show their operands: divisions and multiplications.
-use Rattle.std.proofs.Common.{◌≡◌, ◌≢◌, ℕ, ◌-◌, ◌%◌, ◌^◌, ◌<◌, ◌≤◌, ◌+◌, Bool, true, false, nat_lt, nat_le, List, [], ◌∷◌, ◌++◌, Option, Some, None, slice_index, refl, sym, ap, ap₂, ◌∙◌, subst, arith}
-use Rattle.std.proofs.lemmas.Bool.Decides.{nat_tests}
-use Rattle.branch_removal.specs.StraightMeaning.{StraightState}
+use Rattle.std.proofs.Common.{◌≡◌, ◌≢◌, ℕ, ◌-◌, ◌<◌, ◌≤◌, Bool, true, false, nat_lt, nat_le, List, [], ◌∷◌, ◌++◌, Option, Some, None, slice_index, refl, sym, ap, ap₂, ◌∙◌, arith}
+use Rattle.expression_code.proofs.Below.{always, bounded, by_mark, decided, divide_leads, divide_value, divided, DivideOperation, Event, indexed, Instr, IsAt, IsInside, IsInstr, Known, Leads, lt-ltb, ltb-true, Mark, multiplied, multiply_leads, multiply_value, MultiplyOperation, nat_tests, never, Observation, Path, Place, product_shown, Profile, register, stands, State, StraightState, true≢false, turn_ends, with_value, with_value-bytes, with_value-pc, with_value-regs}
 use Rattle.expression_code.proofs.Frame.{Setting, Before, After, Steps, Runs, setting}
-use Rattle.expression_code.proofs.Moves.{written, unwritten}
-use Rattle.expression_code.specs.Inside.{IsInside}
-use Rattle.inline.specs.Path.{Path, Mark, decided, bounded, indexed, divided, multiplied, seen as seen_of}
-use Rattle.program_logic.proofs.Face.{Kind, Known, by_mark, never, none, always, stands, turn_ends, gives}
-use Rattle.rv_code.specs.declared.instructions.Instr.{Instr}
+use Rattle.expression_code.proofs.Moves.{register-at, written, unwritten}
+use Rattle.expression_code.proofs.Homes.{ArePair}
+use Rattle.inline.specs.Path.{seen as seen_of}
+use Rattle.program_logic.proofs.Face.{Kind}
 use Rattle.rv_code.specs.declared.instructions.Instr.TheVariants as instr
-use Rattle.rv_code.specs.Words.{IsInstr}
-use Rattle.rv_code.specs.declared.operations.DivideOperation.{DivideOperation}
-use Rattle.rv_code.specs.declared.operations.MultiplyOperation.{MultiplyOperation}
-use Rattle.rv_machine.proofs.TurnLaws.{with_value-pc, with_value-regs, with_value-bytes, multiply_leads, divide_leads}
-use Rattle.rv_machine.specs.Effects.{multiply_value, divide_value}
-use Rattle.rv_machine.specs.Machine.{State, product_shown, with_value}
-use Rattle.rv_machine.specs.Registers.{register}
-use Rattle.rv_machine.specs.declared.observation.Event.{Event}
 use Rattle.rv_machine.specs.declared.observation.Event.TheVariants as event
-use Rattle.rv_machine.specs.declared.observation.Observation.{Observation}
-use Rattle.word.specs.declared.place.Place.{Place}
-use Rattle.word.specs.declared.profile.Profile.{Profile}
 use Rattle.word.specs.declared.profile.Profile.TheVariants.{P1, P2}
 
 -- Marks.
@@ -55,31 +42,28 @@ module _ (z : Setting) where
   abbrev operands_kind : Place → Kind (setting z) (ℕ × ℕ) (λ o. 0 < o.1)
   operands_kind place = record { mark = λ o. divided place o.0 o.1; read = read_operands; told = λ o. refl; seen = λ o path. refl; good = λ o path fine. fine.0; fine = λ o path fine. fine.1 }
 
+  -- code behind a mark, where a test says of what it carries whether that is good
+  by_tested : {A : Type 0} {Good : A → Type 0} (kind : Kind (setting z) A Good) (test : A → Bool) → ((x : A) → test x ≡ true → Good x) → ((x : A) → Good x → test x ≡ true)
+      → {n : ℕ} {steps : Steps} {is : List Instr} {P : Before} {Q : After} (value : StraightState → A)
+      → ((x : A) → Good x → Runs z n steps is (Known (setting z) A Good P value x) Q)
+      → Runs z n (λ env. kind.mark (value env) ∷ steps env) is P Q
+  by_tested {A = A} {Good = Good} kind test good met {n = n} {steps = steps} {is = is} {P = P} {Q = Q} value one = by_mark kind value (λ x. at_each x (test x) refl)
+    where
+      at_each : (x : A) (b : Bool) → test x ≡ b → Runs z n steps is (Known (setting z) A Good P value x) Q
+      at_each x true e = one x (good x e)
+      at_each x false e = never (λ env s given. true≢false (sym (met x given.good) ∙ e))
+
   -- code behind an index below the size
   pub by_index : {n : ℕ} {steps : Steps} {is : List Instr} {P : Before} {Q : After} (place : Place) (size : ℕ) (index : StraightState → ℕ)
       → ((i : ℕ) → i < size → Runs z n steps is (Known (setting z) ℕ (λ j. j < size) P index i) Q)
       → Runs z n (λ env. indexed place size (index env) ∷ steps env) is P Q
-  by_index {n = n} {steps = steps} {is = is} {P = P} {Q = Q} place size index one = by_mark (index_kind place size) index (λ i. at_each i (nat_lt i size) refl)
-    where
-      at_each : (i : ℕ) (b : Bool) → nat_lt i size ≡ b → Runs z n steps is (Known (setting z) ℕ (λ j. j < size) P index i) Q
-      at_each i true e = one i (grind (arith, nat_tests))
-      at_each i false e = never (λ env s given. beyond e given.good)
-        where
-          beyond : nat_lt i size ≡ false → i < size → ⊥
-          beyond e h = grind (arith, nat_tests)
+  by_index place size index one = by_tested (index_kind place size) (λ i. nat_lt i size) (λ i e. ltb-true i size e) (λ i below. lt-ltb i size below) index one
 
   -- code behind bounds with no more turns between them than are counted
   pub by_bounds : {n : ℕ} {steps : Steps} {is : List Instr} {P : Before} {Q : After} (x : ℕ) (bounds : StraightState → ℕ × ℕ)
       → ((b : ℕ × ℕ) → b.1 - b.0 ≤ slice_index z.counts x → Runs z n steps is (Known (setting z) (ℕ × ℕ) (λ c. c.1 - c.0 ≤ slice_index z.counts x) P bounds b) Q)
       → Runs z n (λ env. bounded x (bounds env).0 (bounds env).1 ∷ steps env) is P Q
-  by_bounds {n = n} {steps = steps} {is = is} {P = P} {Q = Q} x bounds one = by_mark (bounds_kind x) bounds (λ b. at_each b (nat_le (b.1 - b.0) (slice_index z.counts x)) refl)
-    where
-      at_each : (b : ℕ × ℕ) (test : Bool) → nat_le (b.1 - b.0) (slice_index z.counts x) ≡ test → Runs z n steps is (Known (setting z) (ℕ × ℕ) (λ c. c.1 - c.0 ≤ slice_index z.counts x) P bounds b) Q
-      at_each b true e = one b (grind (arith, nat_tests))
-      at_each b false e = never (λ env s given. beyond (b.1 - b.0) (slice_index z.counts x) e given.good)
-        where
-          beyond : (few most : ℕ) → nat_le few most ≡ false → few ≤ most → ⊥
-          beyond few most e h = grind (arith, nat_tests)
+  by_bounds x bounds one = by_tested (bounds_kind x) (λ b. nat_le (b.1 - b.0) (slice_index z.counts x)) (λ b e. grind (arith, nat_tests)) (λ b few. grind (arith, nat_tests)) bounds one
 
   -- One register is written.
 
@@ -88,38 +72,40 @@ module _ (z : Setting) where
     pub others : (q : ℕ) → q ≢ rd → t.regs q ≡ s.regs q
     pub same : t.bytes ≡ s.bytes
 
-  valued : (s : State) (rd value v : ℕ) → rd ≢ 0 → v ≡ value → Moves rd value s (with_value s rd v)
-  valued s rd value v nonzero is = record {
-    there = ap (λ (r : ℕ → ℕ). r rd) (with_value-regs s rd v) ∙ (written s.regs rd v nonzero ∙ is);
-    others = λ q other. ap (λ (r : ℕ → ℕ). r q) (with_value-regs s rd v) ∙ unwritten s.regs rd v q other;
-    same = with_value-bytes s rd v;
-  }
+  abbrev pub Operands : (l r : ℕ) (left right : StraightState → ℕ) → Before
+  Operands l r left right env s = (s.regs l ≡ left env) × (s.regs r ≡ right env)
 
-  next_pc : (pc p q : ℕ) → pc ≡ p → p + 4 < 2 ^ 32 → q ≡ (pc + 4) % 2 ^ 32 → q ≡ p + 4
-  next_pc pc p q at below e = omega arith
-
-  abbrev pub Operands : (rs1 rs2 : ℕ) (left right : StraightState → ℕ) → Before
-  Operands rs1 rs2 left right env s = (register s.regs rs1 ≡ left env) × (register s.regs rs2 ≡ right env)
-
-  -- a division of operands that are known beforehand
-  dividing_known : (left right : StraightState → ℕ) (Good : ℕ × ℕ → Type 0) (operation : DivideOperation) (rd rs1 rs2 : ℕ) → IsInstr (instr.Divide operation rd rs1 rs2) → rd ≢ 0 → (o : ℕ × ℕ)
-      → Runs z 1 none (instr.Divide operation rd rs1 rs2 ∷ []) (Known (setting z) (ℕ × ℕ) Good (Operands rs1 rs2 left right) (λ env. (left env, right env)) o) (λ env s t. Moves rd (divide_value operation (left env) (right env)) s t)
-  dividing_known left right Good operation rd rs1 rs2 ok nonzero o = record {
+  -- an instruction between two registers into the first, which shows of their values what can be read off the path
+  showing : {l r : ℕ} {steps : Steps} {P : Before} (pair : ArePair l r) (i : Instr) (shows : ℕ → ℕ → Option Event) (made : ℕ → ℕ → ℕ) (left right : StraightState → ℕ) (leak : ℕ → Path → List Observation × Path)
+      → IsInstr i → ((a b : ℕ) → IsInside z.frame z.size (shows a b))
+      → ((s : State) → IsAt z.code s.pc i → Leads z.code 1 s (record { pc = s.pc; event = shows (register s.regs l) (register s.regs r) } ∷ []) (with_value s l (made (register s.regs l) (register s.regs r))))
+      → ((env : StraightState) (s : State) → P env s → Operands l r left right env s)
+      → ((p : ℕ) (env : StraightState) (s : State) (rest : Path) → P env s → leak p (seen_of z.code.profile (steps env) ++ rest) ≡ (record { pc = p; event = shows (left env) (right env) } ∷ [], rest))
+      → Runs z 1 steps (i ∷ []) P (λ env s t. Moves l (made (left env) (right env)) s t)
+  showing {l = l} {r = r} pair i shows made left right leak ok inside leads operands shown = record {
     placed_at = λ p placed. record {
-      leak = always (record { pc = p; event = Some (event.Div o.0 o.1) } ∷ []);
+      leak = leak p;
       runs = λ env s rest at fine fit.
-          let v = divide_value operation (register s.regs rs1) (register s.regs rs2) in
-          turn_ends _ (Some (event.Div o.0 o.1)) (with_value s rd v) at (divide_leads z.code s operation rd rs1 rs2 (stands z.code p _ [] placed ok s at))
-          (ap₂ (λ x y. Some (event.Div x y)) (fit.given.0 ∙ ap (λ (b : ℕ × ℕ). b.0) fit.is) (fit.given.1 ∙ ap (λ (b : ℕ × ℕ). b.1) fit.is)) tt refl (next_pc s.pc p _ at placed.1 (with_value-pc s rd v))
-          (valued s rd (divide_value operation (left env) (right env)) v nonzero (ap₂ (divide_value operation) fit.given.0 fit.given.1));
+          let v = made (register s.regs l) (register s.regs r) in
+          let one = register-at s.regs l pair.one.nonzero ∙ (operands env s fit).0 in
+          let other = register-at s.regs r pair.other.nonzero ∙ (operands env s fit).1 in
+          turn_ends _ (shows (left env) (right env)) (with_value s l v) at (leads s (stands z.code p i [] placed ok s at)) (ap₂ shows one other) (inside (left env) (right env))
+          (shown p env s rest fit) (omega (arith, at, placed.1, with_value-pc s l v)) (record {
+            there = ap (λ (regs : ℕ → ℕ). regs l) (with_value-regs s l v) ∙ (written s.regs l v pair.one.nonzero ∙ ap₂ made one other);
+            others = λ q apart. ap (λ (regs : ℕ → ℕ). regs q) (with_value-regs s l v) ∙ unwritten s.regs l v q apart;
+            same = with_value-bytes s l v;
+          });
     };
   }
 
   -- a division of the operands that are next on the path
-  pub dividing : (place : Place) (left right : StraightState → ℕ) (operation : DivideOperation) (rd rs1 rs2 : ℕ) → IsInstr (instr.Divide operation rd rs1 rs2) → rd ≢ 0
-      → Runs z 1 (λ env. divided place (left env) (right env) ∷ []) (instr.Divide operation rd rs1 rs2 ∷ []) (Operands rs1 rs2 left right) (λ env s t. Moves rd (divide_value operation (left env) (right env)) s t)
-  dividing place left right operation rd rs1 rs2 ok nonzero =
-      by_mark (operands_kind place) (λ env. (left env, right env)) (dividing_known left right (λ o. 0 < o.1) operation rd rs1 rs2 ok nonzero)
+  pub dividing : {l r : ℕ} (pair : ArePair l r) (place : Place) (left right : StraightState → ℕ) (operation : DivideOperation)
+      → Runs z 1 (λ env. divided place (left env) (right env) ∷ []) (instr.Divide operation l l r ∷ []) (Operands l r left right) (λ env s t. Moves l (divide_value operation (left env) (right env)) s t)
+  dividing {l = l} {r = r} pair place left right operation =
+      by_mark (operands_kind place) (λ env. (left env, right env))
+      (λ o. showing pair (instr.Divide operation l l r) (λ a b. Some (event.Div a b)) (divide_value operation) left right (λ p. always (record { pc = p; event = Some (event.Div o.0 o.1) } ∷ []))
+      (pair.one.small, pair.one.small, pair.other.small) (λ a b. tt) (λ s at. divide_leads z.code s operation l l r at) (λ env s known. known.given)
+      (λ p env s rest known. ap (λ (b : ℕ × ℕ). (record { pc = p; event = Some (event.Div b.0 b.1) } ∷ [], rest)) (sym known.is)))
 
   -- what is shown of the next mark's factors, where they are seen
   abbrev of_factors : Profile → ℕ → Path → List Observation × Path
@@ -137,16 +123,9 @@ module _ (z : Setting) where
   factors_inside P2 a b = tt
 
   -- a multiplication of the factors that are next on the path
-  pub multiplying : (left right : StraightState → ℕ) (operation : MultiplyOperation) (rd rs1 rs2 : ℕ) → IsInstr (instr.Multiply operation rd rs1 rs2) → rd ≢ 0
-      → Runs z 1 (λ env. multiplied (left env) (right env) ∷ []) (instr.Multiply operation rd rs1 rs2 ∷ []) (Operands rs1 rs2 left right) (λ env s t. Moves rd (multiply_value operation (left env) (right env)) s t)
-  multiplying left right operation rd rs1 rs2 ok nonzero = record {
-    placed_at = λ p placed. record {
-      leak = of_factors z.code.profile p;
-      runs = λ env s rest at fine fit.
-          let v = multiply_value operation (register s.regs rs1) (register s.regs rs2) in
-          turn_ends _ (product_shown z.code.profile (left env) (right env)) (with_value s rd v) at (multiply_leads z.code s operation rd rs1 rs2 (stands z.code p _ [] placed ok s at))
-          (ap₂ (product_shown z.code.profile) fit.0 fit.1) (factors_inside z.code.profile (left env) (right env))
-          (factors_shown z.code.profile p (left env) (right env) rest) (next_pc s.pc p _ at placed.1 (with_value-pc s rd v))
-          (valued s rd (multiply_value operation (left env) (right env)) v nonzero (ap₂ (multiply_value operation) fit.0 fit.1));
-    };
-  }
+  pub multiplying : {l r : ℕ} (pair : ArePair l r) (left right : StraightState → ℕ) (operation : MultiplyOperation)
+      → Runs z 1 (λ env. multiplied (left env) (right env) ∷ []) (instr.Multiply operation l l r ∷ []) (Operands l r left right) (λ env s t. Moves l (multiply_value operation (left env) (right env)) s t)
+  multiplying {l = l} {r = r} pair left right operation =
+      showing pair (instr.Multiply operation l l r) (product_shown z.code.profile) (multiply_value operation) left right (of_factors z.code.profile)
+      (pair.one.small, pair.one.small, pair.other.small) (factors_inside z.code.profile) (λ s at. multiply_leads z.code s operation l l r at) (λ env s fit. fit)
+      (λ p env s rest fit. factors_shown z.code.profile p (left env) (right env) rest)

@@ -1,17 +1,9 @@
 -- Where code and frame lie: the setting of all pieces of code here. They are run beside a state of straight code, the marks
 -- of a path are those of the inlined program, and all accesses stay inside the frame.
-use Rattle.std.proofs.Common.{◌≡◌, ◌≢◌, ℕ, zero, suc, ◌+◌, ◌%◌, ◌^◌, ◌<◌, ◌≤◌, Bool, true, false, ◌&&◌, List, [], ◌∷◌, ◌++◌, length, Option, Some, is_some, refl, sym, ap, ap₂, ◌∙◌, arith}
-use Rattle.branch_removal.proofs.SeenLemmas.{seen-append}
-use Rattle.branch_removal.specs.StraightMeaning.{StraightState}
-use Rattle.expression_code.specs.Inside.{IsInside}
-use Rattle.expression_code.specs.Layout.{temporaries_offset}
-use Rattle.inline.specs.Path.{Path, Mark, AreFine, seen as seen_of}
-use Rattle.inline.specs.declared.flat.FlatVariable.{FlatVariable}
+use Rattle.std.proofs.Common.{◌≡◌, ℕ, zero, suc, ◌+◌, ◌%◌, ◌^◌, ◌<◌, ◌≤◌, Bool, true, false, ◌&&◌, List, [], ◌∷◌, ◌++◌, length, Option, Some, is_some, refl, sym, ap, ap₂, ◌∙◌, arith}
+use Rattle.expression_code.proofs.Below.{AreFine, ByteMap, Code, FlatVariable, Instr, IsInside, joined, Mark, number_at, number_at-suc, number_at-zero, Path, seen-append, State, StraightState, temporaries_offset}
+use Rattle.inline.specs.Path.{seen as seen_of}
 use Rattle.program_logic.proofs.Face as logic
-use Rattle.rv_code.specs.declared.instructions.Instr.{Instr}
-use Rattle.rv_machine.proofs.ByteLaws.{number_at-suc, number_at-zero}
-use Rattle.rv_machine.specs.Bytes.{ByteMap, joined, number_at}
-use Rattle.rv_machine.specs.Machine.{State, Code}
 
 -- where code and frame lie, how the frame is laid out, and how many turns are counted for each counter
 pub record Setting : Type 0 where

@@ -1,28 +1,13 @@
 -- The pieces of emitted code that take words from slots, that put registers into the frame, and that compute in between.
 -- A list of such moves is run on registers and bytes by a function, and the machine on its code does that.
-use Rattle.std.proofs.Common.{◌≡◌, ◌≢◌, ℕ, ◌+◌, ◌*◌, ◌%◌, ◌^◌, ◌<◌, ◌≤◌, ◌==◌, Bool, true, false, not, ◌&&◌, cond, nat_lt, List, [], ◌∷◌, ◌++◌, length, refl, sym, ap, ap₂, ◌∙◌, arith, eq-eqb, ne_eqb}
-use Rattle.std.proofs.Math.Path.{fun_ext}
-use Rattle.std.proofs.lemmas.Bool.{lt-ltb, ltb-true, eqb-true}
-use Rattle.std.proofs.lemmas.Bool.Decides.{nat_tests}
-use Rattle.branch_removal.specs.StraightMeaning.{StraightState}
-use Rattle.expression_code.proofs.Arithmetic.{far_address, near_address, upper_fits, lower_fits}
+use Rattle.std.proofs.Common.{◌≡◌, ◌≢◌, ℕ, ◌+◌, ◌*◌, ◌%◌, ◌^◌, ◌<◌, ◌≤◌, ◌==◌, Bool, true, false, not, ◌&&◌, cond, nat_lt, List, [], ◌∷◌, ◌++◌, length, refl, ap, ap₂, ◌∙◌, arith, eq-eqb, ne_eqb}
+use Rattle.expression_code.proofs.Below.{address_of, as_code, both_left, both_right, byte_count, ByteMap, cheaper, computing, Contents, contents_of, fun_ext, gives, idle, Instr, load_code, load_size, loaded_value, LoadOperation, lower_part, lt-ltb, ltb-true, nat_tests, none, number_at, number_or_zero, only_computes, quiet, register, register_left, registers_after, sign_extended, Size, State, store_size, StoreOperation, StraightState, sum_of, Then, upper_part, with_number, with_register, with_result}
+use Rattle.expression_code.proofs.Arithmetic.{far_address, near_address, upper_fits}
 use Rattle.expression_code.proofs.Frame.{Setting, Before, After, Steps, Runs, setting, HeldAt, Held, frame_there, held_regs, frame_runs}
-use Rattle.expression_code.specs.TermCode.{upper_part, lower_part, load_code}
-use Rattle.program_logic.proofs.Computing.{only_computes, registers_after, register_left, computing}
-use Rattle.program_logic.proofs.Face.{Contents, contents_of, with_result, number_or_zero, both_left, both_right, none, Then, quiet, gives, cheaper, weaken}
-use Rattle.rv_code.specs.declared.instructions.Instr.{Instr}
 use Rattle.rv_code.specs.declared.instructions.Instr.TheVariants as instr
 use Rattle.rv_code.specs.declared.operations.LoadOperation.TheVariants.{Lw}
-use Rattle.rv_code.specs.declared.operations.LoadOperation.{LoadOperation}
 use Rattle.rv_code.specs.declared.operations.RegisterOperation.TheVariants.{Add}
-use Rattle.rv_code.specs.declared.operations.StoreOperation.{StoreOperation}
 use Rattle.rv_code.specs.declared.operations.UpperOperation.TheVariants.{Lui}
-use Rattle.rv_machine.specs.Bytes.{ByteMap, number_at, with_number}
-use Rattle.rv_machine.specs.Effects.{address_of, load_size, loaded_value, store_size, sum_of, sign_extended}
-use Rattle.rv_machine.specs.Machine.{State}
-use Rattle.rv_machine.specs.Registers.{register, with_register}
-use Rattle.rv_machine.specs.Sizes.{byte_count}
-use Rattle.rv_machine.specs.declared.memory.Size.{Size}
 use Rattle.rv_machine.specs.declared.memory.Size.TheVariants.{Byte, Half, Word}
 
 -- Registers.
@@ -35,28 +20,7 @@ pub written : (regs : ℕ → ℕ) (rd value : ℕ) → rd ≢ 0 → with_regist
 written regs rd value h = rw (ne_eqb rd 0 h, eq-eqb rd rd refl)
 
 pub unwritten : (regs : ℕ → ℕ) (rd value q : ℕ) → q ≢ rd → with_register regs rd value q ≡ regs q
-unwritten regs rd value q h = by_register (q == 0) (rw (ne_eqb q rd h))
-  where
-    by_register : (b : Bool) → cond (q == rd) value (regs q) ≡ regs q → cond b (regs q) (cond (q == rd) value (regs q)) ≡ regs q
-    by_register true e = refl
-    by_register false e = e
-
--- a register that is written twice, and one that is written as it was
-pub twice : (regs : ℕ → ℕ) (r u v : ℕ) → with_register (with_register regs r u) r v ≡ with_register regs r v
-twice regs r u v = fun_ext (λ q. by_register q (q == 0) (q == r))
-  where
-    by_register : (q : ℕ) (z e : Bool) → cond z (cond z (regs q) (cond e u (regs q))) (cond e v (cond z (regs q) (cond e u (regs q)))) ≡ cond z (regs q) (cond e v (regs q))
-    by_register q true e = refl
-    by_register q false true = refl
-    by_register q false false = refl
-
-as_it_was : (regs : ℕ → ℕ) (r : ℕ) → regs ≡ with_register regs r (regs r)
-as_it_was regs r = fun_ext (λ q. by_register q (q == 0) (q == r) refl)
-  where
-    by_register : (q : ℕ) (z e : Bool) → (q == r) ≡ e → regs q ≡ cond z (regs q) (cond e (regs r) (regs q))
-    by_register q true e is = refl
-    by_register q false true is = ap regs (eqb-true q r is)
-    by_register q false false is = refl
+unwritten regs rd value q h = grind (arith, nat_tests)
 
 -- Moves.
 
@@ -155,154 +119,111 @@ even_at Byte frame o even aligned = omega (arith, even, aligned)
 even_at Half frame o even aligned = omega (arith, even, aligned)
 even_at Word frame o even aligned = omega (arith, even, aligned)
 
+-- a register and an offset are the address of a place in the frame
+abbrev Addresses : Setting → ℕ → ℕ → ℕ → Before
+Addresses z rs offset a env s = HeldAt z s × (address_of s.regs rs offset ≡ z.frame + a)
+
 -- An access of so many bytes at an address that a register has.
 
 module _ (z : Setting) (rs offset a : ℕ) (rs_small : rs < 32) (offset_small : offset < 4096) where
-  abbrev Addresses : Before
-  Addresses env s = HeldAt z s × (address_of s.regs rs offset ≡ z.frame + a)
-
   pub loading : (operation : LoadOperation) (rd : ℕ) → 2 < rd → rd < 32 → a % byte_count (load_size operation) ≡ 0 → a + byte_count (load_size operation) ≤ z.size
-      → Runs z 1 none (instr.Load operation rd rs offset ∷ []) Addresses
+      → Runs z 1 none (instr.Load operation rd rs offset ∷ []) (Addresses z rs offset a)
       (λ env s t. HeldAt z t × (t.regs ≡ with_register s.regs rd (loaded_value operation (number_or_zero (number_at s.bytes (byte_count (load_size operation)) (z.frame + a))))) × (t.bytes ≡ s.bytes))
   loading operation rd low small even inside =
       gives
       (λ env s t fine given done. (done.0, done.1.regs, done.1.bytes))
-      (frame_runs z {P = Addresses} is_free (instr.Load operation rd rs offset ∷ []) ((z.frame + a) ∷ []) (simp (lt-ltb 2 rd low, lt-ltb rd 32 small, lt-ltb rs 32 rs_small, lt-ltb offset 4096 offset_small)) refl
+      (frame_runs z {P = Addresses z rs offset a} is_free (instr.Load operation rd rs offset ∷ []) ((z.frame + a) ∷ []) (simp (lt-ltb 2 rd low, lt-ltb rd 32 small, lt-ltb rs 32 rs_small, lt-ltb offset 4096 offset_small)) refl
       (record { even = even_at (load_size operation) z.frame a z.even even; allowed = (omega arith, omega (arith, inside)) }, tt)
       (λ env s given. (given.0, (record { address = given.1; data_there = frame_there z s given.0 (byte_count (load_size operation)) a inside }, tt))))
 
   pub storing : (operation : StoreOperation) (rs2 : ℕ) → rs2 < 32 → a % byte_count (store_size operation) ≡ 0 → a + byte_count (store_size operation) ≤ z.size
-      → Runs z 1 none (instr.Store operation rs2 rs offset ∷ []) Addresses
+      → Runs z 1 none (instr.Store operation rs2 rs offset ∷ []) (Addresses z rs offset a)
       (λ env s t. HeldAt z t × (t.regs ≡ s.regs) × (t.bytes ≡ with_number s.bytes (byte_count (store_size operation)) (z.frame + a) (register s.regs rs2)))
   storing operation rs2 small even inside =
       gives
       (λ env s t fine given done. (done.0, done.1.regs, done.1.bytes))
-      (frame_runs z {P = Addresses} is_free (instr.Store operation rs2 rs offset ∷ []) ((z.frame + a) ∷ []) (simp (lt-ltb rs2 32 small, lt-ltb rs 32 rs_small, lt-ltb offset 4096 offset_small)) refl
+      (frame_runs z {P = Addresses z rs offset a} is_free (instr.Store operation rs2 rs offset ∷ []) ((z.frame + a) ∷ []) (simp (lt-ltb rs2 32 small, lt-ltb rs 32 rs_small, lt-ltb offset 4096 offset_small)) refl
       (record { even = even_at (store_size operation) z.frame a z.even even; allowed = (omega arith, omega (arith, inside)) }, tt)
       (λ env s given. (given.0, (record { address = given.1; data_there = frame_there z s given.0 (byte_count (store_size operation)) a inside }, tt))))
 
+-- An access of a slot: the address of a far one is first made in a register.
+
+abbrev far_code : ℕ → ℕ → List Instr
+far_code r o = instr.Upper Lui r (upper_part o) ∷ instr.Register Add r r 2 ∷ []
+
+slot_code : (access : ℕ → ℕ → Instr) (r o : ℕ) (near : Bool)
+    → cond near (access 2 o ∷ []) (far_code r o ++ access r (lower_part o) ∷ []) ≡ cond near [] (far_code r o) ++ access (cond near 2 r) (cond near o (lower_part o)) ∷ []
+slot_code access r o true = refl
+slot_code access r o false = refl
+
+far_registers : (regs : ℕ → ℕ) (r o frame : ℕ) → 2 < r → regs 2 ≡ frame → registers_after (far_code r o) regs ≡ with_register regs r (sum_of (upper_part o * 2 ^ 12) frame)
+far_registers regs r o frame low base = fun_ext (λ q. grind (arith, nat_tests))
+
+near_or_far : (regs : ℕ → ℕ) (r v : ℕ) (near : Bool) → cond near regs (with_register regs r v) ≡ with_register regs r (cond near (regs r) v)
+near_or_far regs r v near = fun_ext (λ q. grind (arith, nat_tests))
+
+anew : (regs : ℕ → ℕ) (r u v : ℕ) (near : Bool) → with_register (cond near regs (with_register regs r u)) r v ≡ with_register regs r v
+anew regs r u v near = fun_ext (λ q. grind (arith, nat_tests))
+
+source : (regs : ℕ → ℕ) (r v : ℕ) (near : Bool) → 2 < r → r ≢ 28 → register (cond near regs (with_register regs 28 v)) r ≡ regs r
+source regs r v near low other = grind (arith, nat_tests)
+
 module _ (z : Setting) where
-  module _ (r o : ℕ) (ok : (is_free r && nat_lt r 32) ≡ true) (slot : IsSlot z (take r o)) where
-    free : 2 < r
-    free = ltb-true 2 r (both_left (is_free r) (nat_lt r 32) ok)
-
-    r32 : nat_lt r 32 ≡ true
-    r32 = both_right (is_free r) (nat_lt r 32) ok
-
-    r0 : (r == 0) ≡ false
-    r0 = ne_eqb r 0 (λ e. omega (arith, free, e))
-
-    r2 : (2 == r) ≡ false
-    r2 = ne_eqb 2 r (λ e. omega (arith, free, e))
-
-    rr : (r == r) ≡ true
-    rr = eq-eqb r r refl
-
-    take_by : (b : Bool) → nat_lt o 2048 ≡ b → Runs z 3 none (cond b (instr.Load Lw r 2 o ∷ []) (instr.Upper Lui r (upper_part o) ∷ instr.Register Add r r 2 ∷ instr.Load Lw r r (lower_part o) ∷ [])) (Held z) (Moved z (take r o ∷ []))
-    take_by true h =
-        let near : o < 2048 = grind (arith, nat_tests) in
-        let ends = z.ends in
-        let even = z.even in
-        cheaper (omega arith)
-        (gives
-        (λ env s t fine held done. record { held = done.0; regs = done.1.regs; bytes = done.1.bytes })
-        (frame_runs z {P = Held z} is_free (instr.Load Lw r 2 o ∷ []) ((z.frame + o) ∷ []) (simp (lt-ltb 2 r free, r32, lt-ltb o 4096 (omega (arith, near)))) refl
-        (record { even = omega (arith, even, slot.0); allowed = (omega arith, omega (arith, slot.1)) }, tt)
-        (λ env s held. (
-          held,
-          (record { address = ap (λ x. sum_of x (sign_extended 12 o)) held.base ∙ near_address z.frame o near (omega (arith, ends, slot.1)); data_there = frame_there z s held 4 o slot.1 }, tt),
-        ))))
-    take_by false h =
-        let ends = z.ends in
-        let even = z.even in
-        let code = instr.Upper Lui r (upper_part o) ∷ instr.Register Add r r 2 ∷ instr.Load Lw r r (lower_part o) ∷ [] in
-        gives
-        (λ env s t fine held done. record {
-          held = done.0;
-          regs = done.1.regs ∙ (ap (λ (regs : ℕ → ℕ). with_register regs r (number_or_zero (number_at s.bytes 4 (z.frame + o)))) (twice s.regs r (upper_part o * 2 ^ 12) _) ∙ twice s.regs r _ (number_or_zero (number_at s.bytes 4 (z.frame + o))));
-          bytes = done.1.bytes;
-        })
-        (frame_runs z {P = Held z} is_free code ((z.frame + o) ∷ []) (simp (lt-ltb 2 r free, r32, lt-ltb (upper_part o) 1048576 (upper_fits o), lt-ltb (lower_part o) 4096 (lower_fits o))) refl
-        (record { even = omega (arith, even, slot.0); allowed = (omega arith, omega (arith, slot.1)) }, tt)
-        (λ env s held. (
-          held,
-          (
-            record {
-              address =
-                  simp (rr, r0, r2)
-                  (ap (λ x. sum_of (sum_of (upper_part o * 2 ^ 12) x) (sign_extended 12 (lower_part o))) held.base ∙ far_address z.frame o (omega (arith, ends, slot.1)));
-              data_there = frame_there z s held 4 o slot.1;
-            },
-            tt,
-          ),
-        )))
-
-  module _ (operation : StoreOperation) (r o : ℕ) (ok : (is_free r && (nat_lt r 32 && not (r == 28))) ≡ true) (slot : IsSlot z (put operation r o)) where
-    source : 2 < r
-    source = ltb-true 2 r (both_left (is_free r) (nat_lt r 32 && not (r == 28)) ok)
-
-    s32 : nat_lt r 32 ≡ true
-    s32 = both_left (nat_lt r 32) (not (r == 28)) (both_right (is_free r) (nat_lt r 32 && not (r == 28)) ok)
-
-    s28 : not (r == 28) ≡ true
-    s28 = both_right (nat_lt r 32) (not (r == 28)) (both_right (is_free r) (nat_lt r 32 && not (r == 28)) ok)
-
-    other : r ≢ 28
-    other e = absurd (grind (arith, nat_tests, s28, e))
-
-    abbrev n : ℕ
-    n = byte_count (store_size operation)
-
-    put_by : (b : Bool) → nat_lt o 2048 ≡ b
-        → Runs z 3 none (cond b (instr.Store operation r 2 o ∷ []) (instr.Upper Lui 28 (upper_part o) ∷ instr.Register Add 28 28 2 ∷ instr.Store operation r 28 (lower_part o) ∷ [])) (Held z)
-        (λ env s t. HeldAt z t × (t.regs ≡ with_register s.regs 28 (cond b (s.regs 28) (sum_of (upper_part o * 2 ^ 12) z.frame))) × (t.bytes ≡ with_number s.bytes n (z.frame + o) (s.regs r)))
-    put_by true h =
-        let near : o < 2048 = grind (arith, nat_tests) in
-        let ends = z.ends in
-        cheaper (omega arith)
-        (gives
-        (λ env s t fine held done. (
-          done.0,
-          done.1.regs ∙ as_it_was s.regs 28,
-          done.1.bytes ∙ ap (λ v. with_number s.bytes n (z.frame + o) v) (register-at s.regs r (λ e. omega (arith, source, e))),
-        ))
-        (frame_runs z {P = Held z} is_free (instr.Store operation r 2 o ∷ []) ((z.frame + o) ∷ []) (simp (s32, lt-ltb o 4096 (omega (arith, near)))) refl
-        (record { even = even_at (store_size operation) z.frame o z.even slot.0; allowed = (omega arith, omega (arith, slot.1)) }, tt)
-        (λ env s held. (
-          held,
-          (record { address = ap (λ x. sum_of x (sign_extended 12 o)) held.base ∙ near_address z.frame o near (omega (arith, ends, slot.1)); data_there = frame_there z s held n o slot.1 }, tt),
-        ))))
-    put_by false h =
-        let ends = z.ends in
-        gives
-        (λ env s t fine held done.
-        let made = ap (λ x. sum_of (upper_part o * 2 ^ 12) x) held.base in
-        let up = with_register s.regs 28 (upper_part o * 2 ^ 12) in
-        let value : register (with_register up 28 (sum_of (upper_part o * 2 ^ 12) (s.regs 2))) r ≡ s.regs r = simp (ne_eqb r 0 (λ e. omega (arith, source, e)), ne_eqb r 28 other) in (
-          done.0,
-          done.1.regs ∙ (twice s.regs 28 (upper_part o * 2 ^ 12) _ ∙ ap (with_register s.regs 28) made),
-          done.1.bytes
-              ∙ ap (λ v. with_number s.bytes n (z.frame + o) v) value,
-        ))
-        (frame_runs z {P = Held z} is_free (instr.Upper Lui 28 (upper_part o) ∷ instr.Register Add 28 28 2 ∷ instr.Store operation r 28 (lower_part o) ∷ []) ((z.frame + o) ∷ [])
-        (simp (s32, lt-ltb (upper_part o) 1048576 (upper_fits o), lt-ltb (lower_part o) 4096 (lower_fits o))) refl
-        (record { even = even_at (store_size operation) z.frame o z.even slot.0; allowed = (omega arith, omega (arith, slot.1)) }, tt)
-        (λ env s held. (
-          held,
-          (
-            record {
-              address = ap (λ x. sum_of (sum_of (upper_part o * 2 ^ 12) x) (sign_extended 12 (lower_part o))) held.base ∙ far_address z.frame o (omega (arith, ends, slot.1));
-              data_there = frame_there z s held n o slot.1;
-            },
-            tt,
-          ),
-        )))
+  reached : (r o : ℕ) → 2 < r → r < 32 → o < z.size → (near : Bool) → nat_lt o 2048 ≡ near
+      → Runs z 2 none (cond near [] (far_code r o)) (Held z)
+      (λ env s t. Addresses z (cond near 2 r) (cond near o (lower_part o)) o env t × (t.regs ≡ cond near s.regs (with_register s.regs r (sum_of (upper_part o * 2 ^ 12) z.frame))) × (t.bytes ≡ s.bytes))
+  reached r o low small inside true h =
+      let ends = z.ends in
+      idle (λ env s held. ((held, ap (λ x. sum_of x (sign_extended 12 o)) held.base ∙ near_address z.frame o (ltb-true o 2048 h) (omega (arith, ends, inside))), refl, refl))
+  reached r o low small inside false h =
+      let ends = z.ends in
+      gives
+      (λ env s t fine held done.
+      let regs : t.regs ≡ with_register s.regs r (sum_of (upper_part o * 2 ^ 12) z.frame) = done.registers ∙ far_registers s.regs r o z.frame low held.base in (
+        (done.held, ap (λ (after : ℕ → ℕ). address_of after r (lower_part o)) regs ∙ rw (ne_eqb r 0 (λ e. omega (arith, low, e)), eq-eqb r r refl) (far_address z.frame o (omega (arith, ends, inside)))),
+        regs,
+        done.same,
+      ))
+      (computing_within z is_free (far_code r o) (simp (lt-ltb 2 r low, lt-ltb r 32 small, lt-ltb (upper_part o) 1048576 (upper_fits o))) refl)
 
   -- one move
   pub move_runs : (m : Move) → is_move m ≡ true → IsSlot z m → Runs z (move_cost m) none (move_code m) (Held z) (Moved z (m ∷ []))
-  move_runs (take r o) ok slot = take_by r o ok slot (nat_lt o 2048) refl
+  move_runs (take r o) ok slot =
+      let low : 2 < r = grind (arith, nat_tests, ok) in
+      let small : r < 32 = grind (arith, nat_tests, ok) in
+      let near = nat_lt o 2048 in
+      as_code (slot_code (λ rs offset. instr.Load Lw r rs offset) r o near)
+      (gives
+      (λ env s t fine held done.
+      let value = λ (b : ByteMap). number_or_zero (number_at b 4 (z.frame + o)) in
+      record {
+        held = done.second.0;
+        regs = done.second.1 ∙ (ap₂ (λ (regs : ℕ → ℕ) (b : ByteMap). with_register regs r (value b)) done.first.1 done.first.2 ∙ anew s.regs r _ _ near);
+        bytes = done.second.2 ∙ done.first.2;
+      })
+      (quiet
+      (reached r o low small (omega (arith, slot.1)) near refl)
+      (loading z (cond near 2 r) (cond near o (lower_part o)) o (grind (arith, nat_tests)) (grind (arith, nat_tests)) Lw r low small slot.0 slot.1)
+      (λ env s t held done. done.0)))
   move_runs (put operation r o) ok slot =
-      gives (λ env s t fine held done. record { held = done.0; regs = done.1; bytes = done.2 }) (put_by operation r o ok slot (nat_lt o 2048) refl)
+      let low : 2 < r = grind (arith, nat_tests, ok) in
+      let small : r < 32 = grind (arith, nat_tests, ok) in
+      let other : r ≢ 28 = λ e. absurd (grind (arith, nat_tests, ok, e)) in
+      let near = nat_lt o 2048 in
+      let v = sum_of (upper_part o * 2 ^ 12) z.frame in
+      as_code (slot_code (λ rs offset. instr.Store operation r rs offset) 28 o near)
+      (gives
+      (λ env s t fine held done. record {
+        held = done.second.0;
+        regs = done.second.1 ∙ (done.first.1 ∙ near_or_far s.regs 28 v near);
+        bytes =
+            done.second.2
+            ∙ ap₂ (λ (b : ByteMap) (w : ℕ). with_number b (byte_count (store_size operation)) (z.frame + o) w) done.first.2 (ap (λ (regs : ℕ → ℕ). register regs r) done.first.1 ∙ source s.regs r v near low other);
+      })
+      (quiet
+      (reached 28 o (omega arith) (omega arith) (omega (arith, slot.1)) near refl)
+      (storing z (cond near 2 28) (cond near o (lower_part o)) o (grind (arith, nat_tests)) (grind (arith, nat_tests)) operation r small slot.0 slot.1)
+      (λ env s t held done. done.0)))
   move_runs (does is) ok slot = gives (λ env s t fine held done. record { held = done.held; regs = done.registers; bytes = done.same }) (computing_within z is_free is ok refl)
 
   one_more : (m : Move) (ms : List Move) (env : StraightState) (s u t : State) → Moved z (m ∷ []) env s u → Moved z ms env u t → Moved z (m ∷ ms) env s t

@@ -1,32 +1,28 @@
--- Where variables and their elements lie: no two of them overlap.
-use Rattle.std.proofs.Common.{◌≡◌, ℕ, zero, suc, ◌+◌, ◌*◌, ◌/◌, ◌%◌, ◌<◌, ◌≤◌, ◌==◌, ◌⊎◌, inl, inr, Bool, true, false, nat_lt, List, [], ◌∷◌, take, Option, Some, None, slice_get, refl, ap, ◌∙◌, arith}
+-- Where variables and their elements lie: no two of them overlap, and the offsets that are listed are those that are defined.
+use Rattle.std.proofs.Common.{◌≡◌, ℕ, zero, suc, ◌+◌, ◌*◌, ◌/◌, ◌%◌, ◌<◌, ◌≤◌, ◌==◌, ◌⊎◌, inl, inr, Bool, true, false, nat_lt, List, [], ◌∷◌, ◌++◌, length, map, get_or, take, drop, Option, Some, None, slice_get, refl, sym, ap, ◌∙◌, arith, add-one, append_assoc}
+use Rattle.std.proofs.Math.Seq.{drop-cons, take-length}
 use Rattle.std.proofs.lemmas.Bool.Decides.{nat_tests}
 use Rattle.std.proofs.lemmas.Nat.{mul-le}
-use Rattle.std.proofs.lemmas.Option.{same_Some}
+use Rattle.std.proofs.lemmas.Option.{same_Some, slice_get_within, slice_get-get_or}
 pub use Rattle.expression_code.specs.Layout.{bytes_by, bytes_of, place_of}
-use Rattle.expression_code.specs.Layout.{variable_offset, result_offset}
-use Rattle.inline.specs.declared.flat.FlatVariable.{FlatVariable}
-use Rattle.inline.specs.Flat.{numbers_in}
-use Rattle.inline.specs.FlatSize.{words_of, words_by, declared_words}
-use Rattle.language.specs.declared.signature.Kind.{Kind}
+use Rattle.expression_code.specs.Layout.{variable_offset, result_offset, offsets_from, slots_from}
+use Rattle.expression_code.specs.TermCode.{kind_at}
+use Rattle.expression_code.proofs.Below.{declaration_of, declared_words, element_bytes, elements_by, FlatVariable, Form, held_words, Kind, Label, numbers_in, Param, Slot, words_by, words_of, WordType}
+use Rattle.language.specs.declared.signature.Form.TheVariants.{SingleWord}
 use Rattle.language.specs.declared.signature.Kind.TheVariants.{Boolean}
-use Rattle.language.specs.declared.typing.WordType.{WordType}
-use Rattle.language.specs.Size.{element_bytes}
 
 -- A variable's numbers lie in its words.
 
-scaled : (kind : Kind) (size i : ℕ) → i < size → element_bytes kind * i + element_bytes kind ≤ 4 * ((size * element_bytes kind + 3) / 4)
-scaled Boolean size i below = omega (arith, below)
-scaled kind size i below = omega (arith, below)
-
 in_words : (word : WordType) (elements : Option ℕ) (i : ℕ) → i < numbers_in elements → bytes_by word.kind elements * i + bytes_by word.kind elements ≤ 4 * words_by word elements
 in_words word None i below = omega (arith, below)
-in_words word (Some size) i below = scaled word.kind size i below
+in_words word (Some size) i below = scaled word.kind
+  where
+    scaled : (kind : Kind) → element_bytes kind * i + element_bytes kind ≤ 4 * ((size * element_bytes kind + 3) / 4)
+    scaled Boolean = omega (arith, below)
+    scaled kind = omega (arith, below)
 
 pub place_within : (declared : List FlatVariable) (x : ℕ) (d : FlatVariable) (i : ℕ) → i < numbers_in d.elements → place_of declared x d i + bytes_of d ≤ variable_offset declared x + 4 * words_of d
-place_within declared x d i below =
-    let h = in_words d.word d.elements i below in
-    omega (arith, h)
+place_within declared x d i below = omega (arith, in_words d.word d.elements i below)
 
 -- and are aligned
 some_times : (kind : Kind) (elements : Option ℕ) (n i : ℕ) → (4 * n + bytes_by kind elements * i) % bytes_by kind elements ≡ 0
@@ -40,70 +36,94 @@ place_even declared x d i = some_times d.word.kind d.elements (declared_words (t
 -- Variables of lower numbers lie before.
 
 words_before : (declared : List FlatVariable) (x y : ℕ) (d : FlatVariable) → slice_get declared x ≡ Some d → x < y → declared_words (take x declared) + words_of d ≤ declared_words (take y declared)
-words_before [] x y d is below = absurd (no_variable is)
-  where
-    no_variable : None ≡ Some d → ⊥
-    no_variable e = cc
-words_before (e ∷ ds) zero (suc y) d is below =
-    let same : words_of e ≡ words_of d = ap words_of (same_Some e d is) in
-    omega (arith, same)
-words_before (e ∷ ds) (suc x) (suc y) d is below =
-    let h = words_before ds x y d is (omega (arith, below)) in
-    omega (arith, h)
+words_before [] x y d is below = absurd (cc)
+words_before (e ∷ ds) zero (suc y) d is below = omega (arith, ap words_of (same_Some e d is))
+words_before (e ∷ ds) (suc x) (suc y) d is below = omega (arith, words_before ds x y d is (omega (arith, below)))
 words_before (e ∷ ds) x zero d is below = absurd (omega (arith, below))
-
-words_in_all : (declared : List FlatVariable) (x : ℕ) (d : FlatVariable) → slice_get declared x ≡ Some d → declared_words (take x declared) + words_of d ≤ declared_words declared
-words_in_all [] x d is = absurd (no_variable is)
-  where
-    no_variable : None ≡ Some d → ⊥
-    no_variable e = cc
-words_in_all (e ∷ ds) zero d is =
-    let same : words_of e ≡ words_of d = ap words_of (same_Some e d is) in
-    omega (arith, same)
-words_in_all (e ∷ ds) (suc x) d is =
-    let h = words_in_all ds x d is in
-    omega (arith, h)
 
 -- a variable ends where the result begins, or before
 pub ends_before_result : (declared : List FlatVariable) (x : ℕ) (d : FlatVariable) → slice_get declared x ≡ Some d → variable_offset declared x + 4 * words_of d ≤ result_offset declared
 ends_before_result declared x d is =
-    let h = words_in_all declared x d is in
-    omega (arith, h)
+    let h = words_before declared x (length declared) d is (slice_get_within declared x d is) in
+    omega (arith, h, ap declared_words (take-length declared))
+
+-- of two numbers that differ one is less
+apart : (x y : ℕ) (P : Type 0) → (y == x) ≡ false → (y < x → P) → (x < y → P) → P
+apart x y P other one more = by_order (nat_lt y x) refl
+  where
+    by_order : (b : Bool) → nat_lt y x ≡ b → P
+    by_order true o = one (grind (arith, nat_tests))
+    by_order false o = more (grind (arith, nat_tests))
 
 -- a number of another variable lies before all of a variable's words, or behind them
 pub apart_from : (declared : List FlatVariable) (x y : ℕ) (d e : FlatVariable) (j : ℕ) → slice_get declared x ≡ Some d → slice_get declared y ≡ Some e → j < numbers_in e.elements → (y == x) ≡ false
     → (place_of declared y e j + bytes_of e ≤ variable_offset declared x) ⊎ (variable_offset declared x + 4 * words_of d ≤ place_of declared y e j)
-apart_from declared x y d e j is more below other = by_order (nat_lt y x) refl
-  where
-    by_order : (b : Bool) → nat_lt y x ≡ b → (place_of declared y e j + bytes_of e ≤ variable_offset declared x) ⊎ (variable_offset declared x + 4 * words_of d ≤ place_of declared y e j)
-    by_order true o =
-        let lower : y < x = grind (arith, nat_tests) in
-        let h = words_before declared y x e more lower in
-        let w = place_within declared y e j below in
-        inl (omega (arith, h, w))
-    by_order false o =
-        let higher : x < y = grind (arith, nat_tests) in
-        let h = words_before declared x y d is higher in
-        inr (omega (arith, h))
-
-spaced : (b i j : ℕ) → (j == i) ≡ false → (b * j + b ≤ b * i) ⊎ (b * i + b ≤ b * j)
-spaced b i j other = by_order (nat_lt j i) refl
-  where
-    by_order : (c : Bool) → nat_lt j i ≡ c → (b * j + b ≤ b * i) ⊎ (b * i + b ≤ b * j)
-    by_order true o =
-        let lower : j < i = grind (arith, nat_tests) in
-        let h = mul-le b (j + 1) b i (omega arith) (omega (arith, lower)) in
-        inl (omega (arith, h))
-    by_order false o =
-        let higher : i < j = grind (arith, nat_tests) in
-        let h = mul-le b (i + 1) b j (omega arith) (omega (arith, higher)) in
-        inr (omega (arith, h))
+apart_from declared x y d e j is more below other =
+    apart x y _ other (λ lower. inl (omega (arith, words_before declared y x e more lower, place_within declared y e j below)))
+    (λ higher. inr (omega (arith, words_before declared x y d is higher)))
 
 -- so do two numbers of one variable
 pub elements_apart : (declared : List FlatVariable) (x : ℕ) (d : FlatVariable) (i j : ℕ) → (j == i) ≡ false
     → (place_of declared x d j + bytes_of d ≤ place_of declared x d i) ⊎ (place_of declared x d i + bytes_of d ≤ place_of declared x d j)
-elements_apart declared x d i j other = beyond (spaced (bytes_of d) i j other)
-  where
-    beyond : (bytes_of d * j + bytes_of d ≤ bytes_of d * i) ⊎ (bytes_of d * i + bytes_of d ≤ bytes_of d * j) → (place_of declared x d j + bytes_of d ≤ place_of declared x d i) ⊎ (place_of declared x d i + bytes_of d ≤ place_of declared x d j)
-    beyond (inl h) = inl (omega (arith, h))
-    beyond (inr h) = inr (omega (arith, h))
+elements_apart declared x d i j other =
+    let b = bytes_of d in
+    apart i j _ other (λ lower. inl (omega (arith, mul-le b (j + 1) b i (omega arith) (omega (arith, lower)))))
+    (λ higher. inr (omega (arith, mul-le b (i + 1) b j (omega arith) (omega (arith, higher)))))
+
+-- Offsets as they are listed.
+
+pub offsets_count : (low : ℕ) (ds : List FlatVariable) → length (offsets_from low ds) ≡ length ds + 1
+offsets_count low [] = refl
+offsets_count low (d ∷ ds) = omega (arith, offsets_count (low + 4 * words_of d) ds)
+
+-- where a variable lies, or what comes behind them
+offset_at : (low : ℕ) (ds : List FlatVariable) (x e : ℕ) → x < length ds + 1 → get_or (offsets_from low ds) x e ≡ low + 4 * declared_words (take x ds)
+offset_at low [] zero e below = omega arith
+offset_at low [] (suc x) e below = absurd (omega (arith, below))
+offset_at low (d ∷ ds) zero e below = omega arith
+offset_at low (d ∷ ds) (suc x) e below = omega (arith, offset_at (low + 4 * words_of d) ds x e (omega (arith, below)))
+
+pub offset_listed : (ds : List FlatVariable) (x e : ℕ) → x < length ds + 1 → get_or (offsets_from 0 ds) x e ≡ variable_offset ds x
+offset_listed ds x e below = omega (arith, offset_at 0 ds x e below)
+
+pub end_listed : (ds : List FlatVariable) (e : ℕ) → get_or (offsets_from 0 ds) (length ds) e ≡ result_offset ds
+end_listed ds e = offset_listed ds (length ds) e (omega arith) ∙ ap (λ (front : List FlatVariable). 4 * declared_words front) (take-length ds)
+
+-- the kind of a variable that is declared
+pub kind_known : (declared : List FlatVariable) (x : ℕ) (d : FlatVariable) → slice_get declared x ≡ Some d → kind_at declared x ≡ d.word.kind
+kind_known [] x d is = absurd (cc)
+kind_known (d ∷ ds) zero e is = ap (λ (v : FlatVariable). v.word.kind) (same_Some d e is)
+kind_known (d ∷ ds) (suc x) e is = kind_known ds x e is
+
+pub kind_listed : (ds : List FlatVariable) (x : ℕ) (e : FlatVariable) → x < length ds → (get_or ds x e).word.kind ≡ kind_at ds x
+kind_listed ds x e below = sym (kind_known ds x (get_or ds x e) (slice_get-get_or ds x e below))
+
+-- The parameters' slots, one after the other.
+
+words_held : (form : Form) (kind : Kind) (label : Label) (n : ℕ) → held_words form kind n ≡ words_by (record { kind = kind; label = label }) (elements_by form n)
+words_held SingleWord kind label n = refl
+words_held form kind label n = refl
+
+pub parameter_words : (p : Param) → held_words p.form p.kind p.length ≡ words_of (declaration_of p)
+parameter_words p = words_held p.form p.kind p.label p.length
+
+-- what is pushed is the first of what is left
+pub slots_more : (low w : ℕ) (ps : List Param) (k : ℕ) (e : Param) (done : List Slot) (all : List Slot) → k < length ps
+    → w ≡ held_words (get_or ps k e).form (get_or ps k e).kind (get_or ps k e).length
+    → done ++ slots_from low (drop k ps) ≡ all
+    → (done ++ record { param = get_or ps k e; offset = low } ∷ []) ++ slots_from (low + 4 * w) (drop (k + 1) ps) ≡ all
+slots_more low w ps k e done all below is so =
+    let pushed : Slot = record { param = get_or ps k e; offset = low } in
+    append_assoc done (pushed ∷ []) (slots_from (low + 4 * w) (drop (k + 1) ps))
+    ∙ (ap (λ n. done ++ pushed ∷ slots_from (low + 4 * n) (drop (k + 1) ps)) (is ∙ parameter_words (get_or ps k e))
+    ∙ (ap (λ n. done ++ pushed ∷ slots_from (low + 4 * words_of (declaration_of (get_or ps k e))) (drop n ps)) (add-one k)
+    ∙ (ap (λ (rest : List Param). done ++ slots_from low rest) (sym (drop-cons ps k e below)) ∙ so)))
+
+pub low_more : (low w : ℕ) (ps : List Param) (k : ℕ) (e : Param) → k < length ps
+    → w ≡ held_words (get_or ps k e).form (get_or ps k e).kind (get_or ps k e).length
+    → low + 4 * declared_words (map declaration_of (drop k ps)) ≤ 65536
+    → low + 4 * w + 4 * declared_words (map declaration_of (drop (k + 1) ps)) ≤ 65536
+low_more low w ps k e below is so =
+    let next = ap (λ (rest : List Param). declared_words (map declaration_of rest)) (drop-cons ps k e below) in
+    let same = is ∙ parameter_words (get_or ps k e) in
+    rw add-one (omega (arith, so, next, same))

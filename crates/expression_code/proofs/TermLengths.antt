@@ -1,42 +1,36 @@
--- How many temporaries an expression has at once, and how many instructions it is.
-use Rattle.std.proofs.Common.{ℕ, ◌+◌, ◌*◌, ◌%◌, ◌≤◌, ◌==◌, Bool, true, false, cond, nat_lt, List, length, max, arith, length-append}
-use Rattle.std.proofs.Math.Nat.{max-le}
-use Rattle.expression_code.specs.Layout.{variable_offset}
-use Rattle.expression_code.specs.Registers.{register_count, home, slot_of}
-use Rattle.expression_code.specs.TermCode.{load_code, store_code, constant_code, fetch_code, keep_code, expr_code, height_of, cut_code, Finish, narrowed, finish_code, step_code, row_of, operator_code, prefix_code, around_code, rotate_code, scale_code, raise_code, address_code, kind_at}
-use Rattle.inline.specs.declared.flat.FlatVariable.{FlatVariable}
-use Rattle.inline.specs.Flat.{TermTree, number, truth, variable, prefix, binary, rotate, convert, select, element}
-use Rattle.inline.specs.FlatSize.{term_nodes}
-use Rattle.rv_code.specs.declared.instructions.Instr.{Instr}
-use Rattle.language.specs.declared.signature.Kind.{Kind}
+-- What is known of a term: how many temporaries it has at once, how many instructions it is, and which variables it names.
+use Rattle.std.proofs.Common.{◌≡◌, ℕ, ◌+◌, ◌*◌, ◌%◌, ◌<◌, ◌≤◌, ◌==◌, Bool, true, false, cond, nat_lt, List, length, Some, arith, length-append}
+use Rattle.std.proofs.lemmas.Option.{slice_get_within}
+use Rattle.expression_code.proofs.Below.{address_code, around_code, binary, BinaryOperator, bits, constant_code, convert, cut_code, element, expr_code, fetch_code, Finish, finish_code, FlatVariable, HasType, height_of, Instr, IsAmong, keep_code, Kind, load_code, narrowed, number, of_binary, of_conversion, of_element, of_number, of_prefix, of_rotation, of_selection, of_truth, of_variable, operator_code, prefix, prefix_code, PrefixOperator, Profile, raise_code, register_count, rotate, rotate_code, row_of, scale_code, select, slot_of, step_code, store_code, term_nodes, TermTree, truth, Types, types_of, variable, Width, WordType}
 use Rattle.language.specs.declared.signature.Kind.TheVariants.{Boolean}
-use Rattle.language.specs.declared.tree.BinaryOperator.{BinaryOperator}
-use Rattle.language.specs.declared.tree.PrefixOperator.{PrefixOperator}
 use Rattle.language.specs.declared.tree.PrefixOperator.TheVariants as prefixes
-use Rattle.language.specs.Operators.{width_of}
-use Rattle.word.specs.declared.width.Width.{Width}
 use Rattle.word.specs.declared.width.Width.TheVariants.{W8}
-use Rattle.word.specs.Operators.{word_of}
-use Rattle.word.specs.Widths.{bits}
+
+-- Variables.
+
+-- all that a well-typed expression names are known, where the variables that are known are
+pub typed_within : (count : ℕ) (types : Types) → ((x : ℕ) (d : FlatVariable) → types.at x ≡ Some d → x < count) → {e : TermTree} {word : WordType} → HasType types e word → IsAmong count e
+typed_within count types known (of_number below) = tt
+typed_within count types known of_truth = tt
+typed_within count types known (of_variable {x = x} is) = known x _ is
+typed_within count types known (of_prefix has takes same) = typed_within count types known has
+typed_within count types known (of_binary has more makes same) = (typed_within count types known has, typed_within count types known more)
+typed_within count types known (of_rotation has numeric low high same) = typed_within count types known has
+typed_within count types known (of_conversion has numeric) = typed_within count types known has
+typed_within count types known (of_selection has chooses more) = (typed_within count types known has, typed_within count types known chooses, typed_within count types known more)
+typed_within count types known (of_element {x = x} is has) = (known x _ is, typed_within count types known has)
+
+pub typed_among : (profile : Profile) (declared : List FlatVariable) {e : TermTree} {word : WordType} → HasType (types_of profile declared) e word → IsAmong (length declared) e
+typed_among profile declared has = typed_within (length declared) (types_of profile declared) (λ x d is. slice_get_within declared x d is) has
 
 -- Temporaries.
 
 pub height : (e : TermTree) → height_of e + 1 ≤ term_nodes e
 height (prefix operator width operand) = omega (arith, height operand)
-height (binary place operator width one other) =
-    let a = height one in
-    let b = height other in
-    let both : max (height_of one) (1 + height_of other) ≤ term_nodes one + term_nodes other = max-le (omega (arith, a, b)) (omega (arith, a, b)) in
-    omega (arith, both)
+height (binary place operator width one other) = omega (arith, height one, height other)
 height (rotate width operand amount) = omega (arith, height operand)
 height (convert kind operand) = omega (arith, height operand)
-height (select condition accepted otherwise) =
-    let h = height condition in
-    let i = height accepted in
-    let j = height otherwise in
-    let inner : max (height_of accepted) (1 + height_of otherwise) ≤ term_nodes accepted + term_nodes otherwise = max-le (omega (arith, h, i, j)) (omega (arith, h, i, j)) in
-    let outer : max (height_of condition) (1 + max (height_of accepted) (1 + height_of otherwise)) ≤ term_nodes condition + term_nodes accepted + term_nodes otherwise = max-le (omega (arith, h, i, j)) (omega (arith, inner, h)) in
-    omega (arith, outer)
+height (select condition accepted otherwise) = omega (arith, height condition, height accepted, height otherwise)
 height (element place x size index) = omega (arith, height index)
 height e = omega arith
 
@@ -76,53 +70,34 @@ pub prefix_length : (r : ℕ) (o : PrefixOperator) (w : Width) → length (prefi
 prefix_length r prefixes.Not w = omega arith
 prefix_length r operator w = omega (arith, cut_length r w)
 
-around_length : (r : ℕ) (w : Width) (amount : ℕ) → length (around_code r w amount) ≤ 5
-around_length r w amount = one_of (amount == 0) _ _ 5 (omega arith) (omega (arith, cut_length r w))
-
 pub rotate_length : (r : ℕ) (w : Width) (amount : ℕ) → length (rotate_code r w amount) ≤ 7
-rotate_length r w amount = simp length-append (omega (arith, cut_length r w, around_length r w (amount % bits w)))
+rotate_length r w amount =
+    let around : length (around_code r w (amount % bits w)) ≤ 5 = one_of (amount % bits w == 0) _ _ 5 (omega arith) (omega (arith, cut_length r w)) in
+    simp length-append (omega (arith, cut_length r w, around))
 
 scale_length : (r : ℕ) (kind : Kind) → length (scale_code r kind) ≤ 1
 scale_length r Boolean = omega arith
 scale_length r kind = omega arith
 
-raise_length : (r o : ℕ) → length (raise_code r o) ≤ 2
-raise_length r o = one_of (nat_lt o 2048) _ _ 2 (omega arith) (omega arith)
-
 pub address_length : (r : ℕ) (kind : Kind) (o : ℕ) → length (address_code r kind o) ≤ 4
-address_length r kind o = simp length-append (omega (arith, scale_length r kind, raise_length r o))
+address_length r kind o =
+    let raise : length (raise_code r o) ≤ 2 = one_of (nat_lt o 2048) _ _ 2 (omega arith) (omega arith) in
+    simp length-append (omega (arith, scale_length r kind, raise))
 
 -- at most 16 instructions a node
 pub expr_length : (declared : List FlatVariable) (free place : ℕ) (e : TermTree) → length (expr_code declared free place e) ≤ 16 * term_nodes e
-expr_length declared free place (number value kind) =
-    let h = length-append (constant_code (home place 29) value) (keep_code free place) in
-    omega (arith, h, constant_length (home place 29) value, keep_length free place)
-expr_length declared free place (truth value) =
-    let h = length-append (constant_code (home place 29) (word_of value)) (keep_code free place) in
-    omega (arith, h, constant_length (home place 29) (word_of value), keep_length free place)
-expr_length declared free place (variable x) =
-    let h = length-append (load_code (home place 29) (variable_offset declared x)) (keep_code free place) in
-    omega (arith, h, load_length (home place 29) (variable_offset declared x), keep_length free place)
+expr_length declared free place (number value kind) = omega (arith, length-append {A = Instr}, constant_length, keep_length)
+expr_length declared free place (truth value) = omega (arith, length-append {A = Instr}, constant_length, keep_length)
+expr_length declared free place (variable x) = omega (arith, length-append {A = Instr}, load_length, keep_length)
 expr_length declared free place (prefix operator width operand) =
-    simp length-append
-    (omega (arith, expr_length declared free place operand, fetch_length free place 29, prefix_length (home place 29) operator width, keep_length free place))
+    omega (arith, length-append {A = Instr}, expr_length declared free place operand, fetch_length, prefix_length, keep_length)
 expr_length declared free place (binary source operator width one other) =
-    let l = home place 29 in
-    let r = home (place + 1) 30 in
-    simp length-append
-    (omega (arith, expr_length declared free place one, expr_length declared free (place + 1) other, fetch_length free place 29, fetch_length free (place + 1) 30, operator_length l r operator width, keep_length free place))
+    omega (arith, length-append {A = Instr}, expr_length declared free place one, expr_length declared free (place + 1) other, fetch_length, operator_length, keep_length)
 expr_length declared free place (rotate width operand amount) =
-    let r = home place 29 in
-    simp length-append
-    (omega (arith, expr_length declared free place operand, fetch_length free place 29, cut_length r width, around_length r width (amount % bits width), keep_length free place))
+    omega (arith, length-append {A = Instr}, expr_length declared free place operand, fetch_length, rotate_length, keep_length)
 expr_length declared free place (convert kind operand) =
-    simp length-append
-    (omega (arith, expr_length declared free place operand, fetch_length free place 29, cut_length (home place 29) (width_of kind), keep_length free place))
+    omega (arith, length-append {A = Instr}, expr_length declared free place operand, fetch_length, cut_length, keep_length)
 expr_length declared free place (select condition accepted otherwise) =
-    simp length-append
-    (omega (arith, expr_length declared free place condition, expr_length declared free (place + 1) accepted, expr_length declared free (place + 2) otherwise, fetch_length free place 29, fetch_length free (place + 1) 30, fetch_length free (place + 2) 31, keep_length free place))
+    omega (arith, length-append {A = Instr}, expr_length declared free place condition, expr_length declared free (place + 1) accepted, expr_length declared free (place + 2) otherwise, fetch_length, keep_length)
 expr_length declared free place (element source x size index) =
-    let r = home place 29 in
-    let o = variable_offset declared x in
-    simp length-append
-    (omega (arith, expr_length declared free place index, fetch_length free place 29, scale_length r (kind_at declared x), raise_length r o, keep_length free place))
+    omega (arith, length-append {A = Instr}, expr_length declared free place index, fetch_length, address_length, keep_length)

@@ -1,9 +1,8 @@
-use Rattle.std.proofs.Common.{◌++◌, List, ap, ◌∙◌}
+use Rattle.std.proofs.Common.{◌+◌, ◌*◌, ◌++◌, List, drop, ap, ◌∙◌}
 use Rattle.expression_code.specs.Layout.{slots_from}
-use Rattle.expression_code.proofs.OffsetLemmas.{slots_more, low_more}
+use Rattle.expression_code.proofs.Below.{Slot}
+use Rattle.expression_code.proofs.Places.{slots_more, low_more}
 use Rattle.expression_code.proofs.layout.slots.Goals as goal
-use Rattle.image_fields.specs.declared.slot.Slot.{Slot}
-use Rattle.std.proofs.Common.{drop, ◌+◌, ◌*◌}
 
 -- src/layout.rt:146:5
 pub loop-parameter-preserved : goal.loop-parameter-preserved
