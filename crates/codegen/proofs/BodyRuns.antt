@@ -1,36 +1,29 @@
--- The code of a program but for its end, run wherever its words stand.
-use Rattle.std.proofs.Common.{◌≡◌, ℕ, ◌+◌, ◌*◌, ◌<◌, ◌≤◌, List, [], ◌∷◌, ◌++◌, length, map, Some, slice_index, is_some, refl, sym, ap, ap₂, ◌∙◌, subst, arith}
+-- The code of a program, run: its body wherever its words stand, and the loaded image to its end. So the image is the code's.
+use Rattle.std.proofs.Common.{◌≡◌, inr, ℕ, ◌+◌, ◌*◌, ◌<◌, ◌≤◌, List, [], ◌∷◌, ◌++◌, length, map, drop, Some, slice_get, slice_index, is_some, refl, sym, ap, ap₂, ◌∙◌, subst, arith, None, Option}
 use Rattle.std.proofs.lemmas.List.{length-map}
-use Rattle.std.proofs.Math.Nat.{le-max_left, le-max_right}
-use Rattle.arguments.specs.Within.{AreWithin}
-use Rattle.branch_removal.specs.Straight.{StraightProgram}
-use Rattle.branch_removal.specs.StraightMeaning.{StraightState, start as start_of, after_all, path_along, outcome_of, path_of}
-use Rattle.codegen.specs.Anywhere.{body_words, Stand, IsPlaced, IsLoaded, IsUntouched, RunsBehind, IsFollowedIn}
-use Rattle.codegen.specs.Loaded.{loaded_at, results_in}
-use Rattle.codegen.specs.private.Emitted.{block_code, height_in_all, depth_in_all}
-use Rattle.codegen.specs.private.Generated.{program_base, program_code, result_code, result_height, image_of}
-use Rattle.codegen.specs.private.Room.{HasRoom}
-use Rattle.codegen.proofs.Arguments.{loaded}
-use Rattle.codegen.proofs.ResultRuns.{steps_of_result, Given, result_runs}
-use Rattle.codegen.proofs.Results.{arrays_are, returned_is}
-use Rattle.codegen.proofs.Standing.{words_alone, body_words_before, placed_alone, word_alone, leads_among}
+use Rattle.codegen.proofs.Language.{AreWithin, StraightProgram, StraightState, after_all, path_along, outcome_of}
+use Rattle.codegen.proofs.Language.{path_of, FlatVariable, types_of, Path, AreFine, seen, Arg, Profile}
+use Rattle.codegen.proofs.Language.{declaration_of, Param, WordType}
+use Rattle.branch_removal.specs.StraightMeaning.{start as start_of}
+use Rattle.codegen.proofs.Machine.{body_words, Stand, IsPlaced, IsLoaded, RunsBehind, IsFollowedIn}
+use Rattle.codegen.proofs.Machine.{loaded_at, results_in, code_at, block_code, depth_in_all}
+use Rattle.codegen.proofs.Machine.{program_base, program_code, result_code, image_of, result_slot}
+use Rattle.codegen.proofs.Machine.{HasRoom, variable_offset, slots_from, Instr, word_of, Observation, number_at}
+use Rattle.codegen.proofs.Machine.{Leads, Halts, Code, IsAt, IsInside, AreBases, IsFollowed, IsGenerated, Ecall}
+use Rattle.codegen.proofs.Machine.{type_in, Slot}
+use Rattle.codegen.proofs.Arguments.{loaded, parameters_first, LiesAt, arrays_are, returned_is}
+use Rattle.codegen.proofs.SetRuns.{steps_of_result, Given, result_runs}
+use Rattle.codegen.proofs.Standing.{words_alone, body_words_before, placed_alone, word_alone, leads_among, stand_placed, placed}
 use Rattle.codegen.proofs.StatementRuns.{block_runs}
-use Rattle.codegen.proofs.Untouched.{IsFree, leads_keep, leads_beside}
-use Rattle.codegen.proofs.WorkingRegisters.{Works, works_then, calm_keeps, calm_word}
-use Rattle.codegen.proofs.WorkingStatements.{block_works, result_works}
-use Rattle.expression_code.proofs.Logic.{setting as pieces_of, bytes_of, Setting, seen_by, Straight, Steps, Runs, seq, gives, cheaper, beside, Ready, ready_below}
-use Rattle.inline.specs.FlatTyping.{types_of}
-use Rattle.inline.specs.Path.{Path, AreFine}
-use Rattle.language.specs.declared.values.Arg.{Arg}
-use Rattle.rv_code.specs.declared.instructions.Instr.{Instr}
+use Rattle.codegen.proofs.Untouched.{IsFree, leads_leave}
+use Rattle.codegen.proofs.WorkingRegisters.{calm_keeps, calm_word, body_works}
+use Rattle.codegen.proofs.Logic.{setting as pieces_of, bytes_of, place_of, Setting, seen_by, Straight, Steps, Runs, seq, gives, cheaper, beside, Ready, ready_below, All-one, Placed, Placed-left, Placed-right, Halts-after, ecall_halts}
 use Rattle.rv_code.specs.declared.instructions.Instr.TheVariants as instr
-use Rattle.rv_code.specs.Words.{word_of}
-use Rattle.rv_machine.specs.declared.observation.Observation.{Observation}
-use Rattle.rv_machine.specs.Bytes.{number_at}
-use Rattle.rv_machine.specs.Leakage.{Leads}
 use Rattle.rv_machine.specs.Machine as machine
-use Rattle.rv_machine.specs.Machine.{Code}
-use Rattle.word.specs.declared.profile.Profile.{Profile}
+use Rattle.std.proofs.lemmas.List.Elements.{All-append}
+use Rattle.std.specs.Option.{option_map}
+use Rattle.codegen.proofs.ImageLemmas.{room_frame}
+use Rattle.inline.specs.FlatSize.{words_of}
 
 -- the state that the value is taken in
 abbrev last_state : StraightProgram → StraightState → StraightState
@@ -53,17 +46,12 @@ pub body_length : (p : StraightProgram) → length (body_words (image_of p).word
 body_length p = ap (λ (ws : List ℕ). length ws) (body_words-image p) ∙ length-map {B = ℕ} (body_code p) word_of
 
 -- none of its instructions writes one of the first five registers
-body_works : (p : StraightProgram) → Works (body_code p)
-unfolding body_code
-body_works p = works_then (block_works p.declared p.controls (depth_in_all p.body) 0 p.body) (result_works p.declared (program_base p) p.value)
-
 body_free : (p : StraightProgram) (profile : Profile) (start r : ℕ) → 0 < r → r < 5 → IsFree (words_alone profile start (map word_of (body_code p))) r
+unfolding body_code
 body_free p profile start r some low q i at regs =
     let found = word_alone profile start (map word_of (body_code p)) q (word_of i) at.word in
-    calm_keeps r some low i at.in_range (calm_word r some low (body_code p) (body_works p).each found.number (word_of i) found.is) q regs
-
-untouched_low : (r : ℕ) → IsUntouched r → (0 < r) × (r < 5)
-untouched_low r is = (omega (arith, is), omega (arith, is))
+    let works = body_works p.declared p.controls (depth_in_all p.body) (program_base p) p.body p.value in
+    calm_keeps r some low i at.in_range (calm_word r some low (body_code p) works found.number (word_of i) found.is) q regs
 
 module _ (p : StraightProgram) (room : HasRoom p) (code : Code) (start frame : ℕ) (there : IsPlaced (image_of p) code start frame) where
   -- as if the body's words stood alone
@@ -90,8 +78,6 @@ module _ (p : StraightProgram) (room : HasRoom p) (code : Code) (start frame : �
   body_runs : Runs setting (32 * p.work) steps (body_code p) (Ready setting) Finished
   unfolding body_code steps Finished
   body_runs =
-      let l = le-max_left (height_in_all p.body) (result_height p.value) in
-      let r = le-max_right (height_in_all p.body) (result_height p.value) in
       let worked = room.worked in
       let counted = room.counted in
       let nodes = room.nodes in
@@ -99,8 +85,8 @@ module _ (p : StraightProgram) (room : HasRoom p) (code : Code) (start frame : �
       (gives
       (λ env s t fine ready done. record { ready = done.second.ready; left = done.second.left })
       (seq
-      (block_runs setting 0 p.body room.typed.body (omega (arith, l)) (omega arith) (omega (arith, counted, nodes)))
-      (beside (last_state p) (result_runs setting p.returned p.value room.typed.result (omega (arith, r))))
+      (block_runs setting 0 p.body room.typed.body (omega arith) (omega arith) (omega (arith, counted, nodes)))
+      (beside (last_state p) (result_runs setting p.returned p.value room.typed.result (omega arith)))
       (λ env s t ready done. done.ready)))
 
   standing : Stand code start (map word_of (body_code p))
@@ -112,7 +98,7 @@ module _ (p : StraightProgram) (room : HasRoom p) (code : Code) (start frame : �
   begins : (args : List Arg) (s : machine.State) → IsLoaded (image_of p) frame args s → AreWithin p.parameters args → Ready setting (start_of p args) s
   begins args s laid within =
       let first = loaded_at 0 frame (image_of p) args in
-      let ready = loaded setting p.parameters args room.typed.parameters within first refl refl in
+      let ready = loaded setting p.parameters args room.typed.parameters room.parameters within first refl refl in
       let all : setting.size ≤ setting.size = omega arith in
       ready_below setting setting.size (omega arith) (start_of p args) first s ready
       (record { base = laid.base; data_there = λ o inside. ap is_some (laid.frame_there o inside) ∙ ready.held.data_there o inside })
@@ -124,11 +110,15 @@ module _ (p : StraightProgram) (room : HasRoom p) (code : Code) (start frame : �
       let m = (last_state p (start_of p args)).variables in
       ap₂ (λ r arrays. record { returned = r; arrays = arrays })
       (returned_is frame p.declared (types_of p.profile p.declared) p.returned p.value m t.bytes room.typed.result done.left)
-      (arrays_are frame t.bytes m p.parameters p.declared 0 0 room.typed.parameters
-      (λ y d is. let e : 0 + y ≡ y = omega arith in ap (λ k. length (m k)) e ∙ (done.ready.fits y d is).count)
-      (λ y d i is below.
-      let e : 0 + y ≡ y = omega arith in
-      ap (λ o. number_at t.bytes (bytes_of d) (frame + o)) (omega arith) ∙ (done.ready.variables_there y d i is below ∙ ap (λ k. Some (slice_index (m k) i)) (sym e))))
+      (arrays_are frame t.bytes m p.parameters (drop (length p.parameters) p.declared) 0 0
+      (subst (λ (ds : List FlatVariable). (y : ℕ) (d : FlatVariable) → slice_get ds y ≡ Some d → LiesAt t.bytes d (frame + (0 + variable_offset ds y)) (m (0 + y))) (sym (parameters_first p.parameters p.declared room.typed.parameters))
+      (λ y d is.
+      let e : 0 + y ≡ y = omega arith in (
+        ap (λ k. length (m k)) e ∙ (done.ready.fits y d is).count,
+        λ i below.
+            let f : frame + (0 + variable_offset p.declared y) + bytes_of d * i ≡ frame + place_of p.declared y d i = omega arith in
+            ap (λ a. number_at t.bytes (bytes_of d) a) f ∙ (done.ready.variables_there y d i is below ∙ ap (λ k. Some (slice_index (m k) i)) (sym e)),
+      ))))
 
   -- among the other words of the code
   among : {n : ℕ} {s t : machine.State} {seen : List Observation} → Leads setting.code n s seen t → Leads code n s seen t
@@ -153,8 +143,8 @@ module _ (p : StraightProgram) (room : HasRoom p) (code : Code) (start frame : �
           within_frame = done.inside;
           behind = done.at ∙ ap (λ n. start + 4 * n) (sym (body_length p));
           base = done.done.ready.held.base;
-          untouched = λ r is. leads_keep setting.code r (body_free p p.profile start r (untouched_low r is).0 (untouched_low r is).1) done.leads;
-          beside = λ a apart. leads_beside setting.code frame (image_of p).frame_bytes a apart done.leads done.inside;
+          untouched = λ r is. (leads_leave setting.code frame (image_of p).frame_bytes r (frame + (image_of p).frame_bytes) (body_free p p.profile start r (omega (arith, is)) (omega (arith, is))) (inr (omega arith)) done.leads done.inside).0;
+          beside = λ a apart. (leads_leave setting.code frame (image_of p).frame_bytes 1 a (body_free p p.profile start 1 (omega arith) (omega arith)) apart done.leads done.inside).1;
           frame_there = done.done.ready.held.data_there;
         };
         outcome = outcome args s done.end done.done;
@@ -166,3 +156,84 @@ followed_in p room code start frame there = record {
   shown = λ path. ((straight p room code start frame there).leak (path ++ [])).0;
   runs = λ args s at laid within fine. runs_behind p room code start frame there args s at laid within fine;
 }
+
+-- The whole image: its body, and then the end.
+
+module _ (p : StraightProgram) (code frame : ℕ) (bases : AreBases (image_of p) code frame) where
+  abbrev whole : Code
+  whole = code_at code (image_of p)
+
+  all_placed : Placed whole code (body_code p ++ instr.Ecall ∷ [])
+  all_placed =
+      subst (λ (is : List Instr). Placed whole code is) (program_code-body p)
+      (placed p.profile code (image_of p).words [] (program_code p) code bases.code_aligned bases.code_ends refl (omega arith))
+
+  -- the body stands in its image
+  pub stands_there : IsPlaced (image_of p) whole code frame
+  stands_there = record {
+    observed = refl;
+    words = subst (λ (ws : List ℕ). Stand whole code ws) (sym (body_words-image p)) (stand_placed whole code (body_code p) (Placed-left whole code (body_code p) (instr.Ecall ∷ []) all_placed));
+    frame_aligned = bases.frame_aligned;
+    frame_ends = bases.frame_ends;
+  }
+
+  last : ℕ
+  last = code + 4 * length (body_words (image_of p).words)
+
+  end_shown : List Observation
+  end_shown = record { pc = last; event = None } ∷ []
+
+  ends_there : (s : machine.State) → s.pc ≡ last → Halts whole 1 s end_shown Ecall s
+  unfolding last end_shown
+  ends_there s at =
+      let there = Placed-right whole code (body_code p) (instr.Ecall ∷ []) all_placed in
+      let stands = subst (λ q. IsAt whole q instr.Ecall) (sym (at ∙ ap (λ n. code + 4 * n) (body_length p))) (record { aligned = there.0; word = there.2; in_range = tt }) in
+      subst (λ q. Halts whole 1 s (record { pc = q; event = None } ∷ []) Ecall s) at (ecall_halts whole s stands)
+
+  -- the machine follows the code where it follows the body
+  pub followed_whole : IsFollowedIn p (image_of p) whole code frame → IsFollowed p (image_of p) code frame
+  unfolding last end_shown
+  followed_whole body = record {
+    shown = λ path. body.shown path ++ end_shown;
+    runs = λ args within fine.
+        let s = loaded_at code frame (image_of p) args in
+        let follows = body.runs args s refl (record { base = refl; frame_there = λ o inside. refl }) within fine in
+        let run = follows.run in
+        let few = run.within_steps in
+        let Inside = λ (o : Observation). IsInside frame (image_of p).frame_bytes o.event in
+        record {
+          turns = run.turns + 1;
+          end = run.end;
+          halts = Halts-after run.leads (ends_there run.end run.behind);
+          within_steps = omega (arith, few);
+          within_frame = All-append Inside (body.shown (seen p.profile (path_of p args))) end_shown run.within_frame (All-one Inside (record { pc = last; event = None }) tt);
+          outcome = follows.outcome;
+        };
+  }
+
+-- What is generated.
+
+-- the slots have the parameters
+slot_params : (low : ℕ) (ps : List Param) → map (λ (slot : Slot). slot.param) (slots_from low ps) ≡ ps
+slot_params low [] = refl
+slot_params low (p ∷ ps) = ap (λ (rest : List Param). p ∷ rest) (slot_params (low + 4 * words_of (declaration_of p)) ps)
+
+-- the result's slot has the type of the result
+slot_type : (declared : List FlatVariable) (returned : Option WordType) → option_map type_in (option_map (result_slot declared) returned) ≡ returned
+slot_type declared None = refl
+slot_type declared (Some word) = refl
+
+pub is_generated : (p : StraightProgram) → HasRoom p → IsGenerated p (image_of p)
+is_generated p room =
+    let words : length (map word_of (program_code p)) ≡ length (program_code p) = length-map {B = ℕ} (program_code p) word_of in
+    let most = room.code in
+    record {
+      profile = refl;
+      parameters = slot_params 0 p.parameters;
+      returned = slot_type p.declared p.returned;
+      max_steps = refl;
+      frame_size = room_frame p room;
+      word_count = omega (arith, most, words);
+      follows = λ code frame bases. followed_whole p code frame bases (followed_in p room (code_at code (image_of p)) code frame (stands_there p code frame bases));
+      anywhere = λ code start frame there. followed_in p room code start frame there;
+    }

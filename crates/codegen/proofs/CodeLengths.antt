@@ -1,20 +1,20 @@
--- How long the code of statements is, and how much room they take in the frame.
-use Rattle.std.proofs.Common.{ℕ, ◌+◌, ◌*◌, ◌≤◌, nat_lt, List, [], ◌∷◌, ◌++◌, length, Option, None, Some, max, arith, length-append}
-use Rattle.std.proofs.Math.Nat.{max-le}
-use Rattle.branch_removal.specs.Bounds.{statement_nodes, block_nodes, taken_in, taken_in_all}
-use Rattle.branch_removal.specs.Straight.{StraightTree, set, clear, fill, put, take, set_under, put_under, branch, repeats, StraightBlock, nothing, first}
-use Rattle.codegen.specs.private.Emitted.{within_code, merge_code, element_store_code, clear_code, fill_code, index_code, put_code, put_under_code, store_by, bounds_code, test_code, count_code, statement_code, block_code, height_of_all, height_of_put, height_in, height_in_all, depth_in, depth_in_all}
+-- How long the code of statements is, and how much room they take in the frame. So well-typed statements that are not too large have their places.
+use Rattle.std.proofs.Common.{ℕ, ◌+◌, ◌*◌, ◌≤◌, nat_lt, List, [], ◌∷◌, ◌++◌, length, Option, None, Some, arith, length-append, ◌≡◌, ◌<◌, ◌==◌, Bool, true, false, slice_get, cond}
+use Rattle.codegen.proofs.Language.{statement_nodes, block_nodes, taken_in, taken_in_all, StraightTree, set, clear}
+use Rattle.codegen.proofs.Language.{fill, put, take, set_under, put_under, branch, repeats, StraightBlock, nothing}
+use Rattle.codegen.proofs.Language.{first, FlatVariable, TermTree, array_as, term_nodes, terms_nodes, declared_words}
+use Rattle.codegen.proofs.Language.{Kind, element_bytes, array_words, IsTyped, AreTyped, types_but, types_of, AllSuit}
+use Rattle.codegen.proofs.Language.{HasType, Boolean, WordType, Profile}
+use Rattle.codegen.specs.private.Emitted.{within_code, merge_code, element_store_code, clear_code, fill_code, index_code, put_code, put_under_code, store_by, bounds_code, test_code, count_code, statement_code, block_code, height_of_all, height_in, height_in_all, depth_in, depth_in_all}
 use Rattle.codegen.specs.private.Jumps.{branch_code, loop_code}
+use Rattle.codegen.specs.private.Placed.{AreNear, IsPlaced, ArePlacedTerms, HasPlace, HavePlaces}
 use Rattle.expression_code.specs.Layout.{variable_offset, control_offset, next_offset, temporaries_offset}
 use Rattle.expression_code.specs.TermCode.{load_code, address_code, load_by, lower_part, kind_at, expr_code, height_of}
-use Rattle.inline.specs.declared.flat.FlatVariable.{FlatVariable}
-use Rattle.inline.specs.Flat.{TermTree}
-use Rattle.inline.specs.FlatSize.{term_nodes, terms_nodes}
-use Rattle.language.specs.declared.signature.Kind.{Kind}
-use Rattle.language.specs.Size.{element_bytes, array_words}
 use Rattle.rv_code.specs.declared.instructions.Instr.{Instr}
 use Rattle.rv_code.specs.declared.instructions.Instr.TheVariants.{Load, Store}
-use Rattle.expression_code.proofs.Logic.{height, one_of, load_length, store_length, constant_length, address_length, expr_length}
+use Rattle.codegen.proofs.Logic.{height, one_of, load_length, store_length, constant_length, address_length, expr_length, ends_before_result, typed_within, typed_among}
+use Rattle.std.proofs.lemmas.Option.{none-some, slice_get_within}
+use Rattle.expression_code.specs.Registers.{slots_to}
 
 -- Pieces.
 
@@ -116,17 +116,26 @@ module _ (declared : List FlatVariable) (controls depths : ℕ) where
         let e = length-append (statement_code declared controls depths depth s) (block_code declared controls depths depth rest) in
         omega (arith, e, statement_length depth s, block_length depth rest)
 
--- Slots.
+-- so arms and turns of a program that is not too large are no farther than a jump goes
 
-pub sum_covers : (a b : ℕ) → max a b ≤ a + b
-sum_covers a b = max-le (omega arith) (omega arith)
+pub arms_near : (declared : List FlatVariable) (controls depths depth : ℕ) (accepted otherwise : StraightBlock) → block_nodes accepted + block_nodes otherwise ≤ 6000
+    → AreNear (length (block_code declared controls depths depth accepted)) (length (block_code declared controls depths depth otherwise))
+arms_near declared controls depths depth accepted otherwise few =
+    omega (arith, few, block_length declared controls depths depth accepted, block_length declared controls depths depth otherwise)
+
+pub turn_near : (declared : List FlatVariable) (controls depths depth x : ℕ) (body : StraightBlock) → block_nodes body ≤ 6000
+    → AreNear (length (test_code (next_offset declared controls depth))) (length (count_code (next_offset declared controls depth) (variable_offset declared x) ++ block_code declared controls depths (depth + 1) body))
+turn_near declared controls depths depth x body few =
+    let next = next_offset declared controls depth in
+    let count = count_code next (variable_offset declared x) in
+    let both = length-append count (block_code declared controls depths (depth + 1) body) in
+    omega (arith, few, both, test_length next, count_length next (variable_offset declared x), block_length declared controls depths (depth + 1) body)
+
+-- Slots.
 
 heights : (es : List TermTree) → height_of_all es ≤ terms_nodes es
 heights [] = omega arith
-heights (e ∷ es) = omega (arith, sum_covers (height_of e) (height_of_all es), height e, heights es)
-
-put_height : (index value : TermTree) → height_of_put index value ≤ term_nodes index + term_nodes value
-put_height index value = omega (arith, sum_covers (height_of index) (1 + height_of value), height index, height value)
+heights (e ∷ es) = omega (arith, height e, heights es)
 
 mutual
   -- a statement's temporaries, its loops' words and its control values
@@ -134,23 +143,76 @@ mutual
   statement_room (set x value) = omega (arith, height value)
   statement_room (clear x size) = omega arith
   statement_room (fill x values) = omega (arith, heights values)
-  statement_room (put place x size index value) = omega (arith, put_height index value)
+  statement_room (put place x size index value) = omega (arith, height index, height value)
   statement_room (take control within condition) = omega (arith, height condition)
   statement_room (set_under control x value) = omega (arith, height value)
-  statement_room (put_under control place x size index value) = omega (arith, put_height index value)
-  statement_room (branch condition accepted otherwise) =
-      let a = sum_covers (height_of condition) (max (height_in_all accepted) (height_in_all otherwise)) in
-      let b = sum_covers (height_in_all accepted) (height_in_all otherwise) in
-      let c = sum_covers (depth_in_all accepted) (depth_in_all otherwise) in
-      omega (arith, a, b, c, height condition, block_room accepted, block_room otherwise)
-  statement_room (repeats x low high body) =
-      let a = sum_covers (max (height_of low) (height_of high)) (height_in_all body) in
-      let b = sum_covers (height_of low) (height_of high) in
-      omega (arith, a, b, height low, height high, block_room body)
+  statement_room (put_under control place x size index value) = omega (arith, height index, height value)
+  statement_room (branch condition accepted otherwise) = omega (arith, height condition, block_room accepted, block_room otherwise)
+  statement_room (repeats x low high body) = omega (arith, height low, height high, block_room body)
 
   pub block_room : (b : StraightBlock) → height_in_all b + 2 * depth_in_all b + 2 * taken_in_all b ≤ block_nodes b
   block_room nothing = omega arith
-  block_room (first s rest) =
-      let a = sum_covers (height_in s) (height_in_all rest) in
-      let b = sum_covers (depth_in s) (depth_in_all rest) in
-      omega (arith, a, b, statement_room s, block_room rest)
+  block_room (first s rest) = omega (arith, statement_room s, block_room rest)
+
+-- Places.
+
+-- an array has no more elements than bytes
+elements_in_words : (kind : Kind) (size : ℕ) → size ≤ 4 * array_words kind size
+elements_in_words Boolean size = omega arith
+elements_in_words kind size = omega arith
+
+known_but : (declared : List FlatVariable) (x y : ℕ) (d : FlatVariable) (b : Bool) → cond b None (slice_get declared y) ≡ Some d → y < length declared
+known_but declared x y d true is = absurd (none-some d is)
+known_but declared x y d false is = slice_get_within declared y d is
+
+module _ (profile : Profile) (declared : List FlatVariable) (controls depths : ℕ) (small : 4 * declared_words declared ≤ 40768) where
+  abbrev base : ℕ
+  base = temporaries_offset declared controls depths
+
+  term_placed : {e : TermTree} {word : WordType} (place : ℕ) → HasType (types_of profile declared) e word → base + 4 * slots_to (height_of e + place) ≤ 65536 → IsPlaced (length declared) base place e
+  term_placed place has room = (typed_among profile declared has, room)
+
+  values_placed : (x : ℕ) (word : WordType) (es : List TermTree) → AllSuit (types_but profile declared x) word es → base + 4 * slots_to (height_of_all es) ≤ 65536 → ArePlacedTerms (length declared) base es
+  values_placed x word [] suit room = tt
+  values_placed x word (e ∷ es) suit room =
+      ((typed_within (length declared) (types_but profile declared x) (λ y d is. known_but declared x y d (y == x) is) suit.0.has_type, omega (arith, room)), values_placed x word es suit.1 (omega (arith, room)))
+
+  fits_in_frame : (x size : ℕ) (word : WordType) (mutable : Bool) → slice_get declared x ≡ Some (array_as word mutable size) → (size ≤ 65536) × (variable_offset declared x + 4 * size ≤ 262144)
+  fits_in_frame x size word mutable known =
+      let e = ends_before_result declared x (array_as word mutable size) known in
+      let n = elements_in_words word.kind size in
+      (omega (arith, e, n, small), omega (arith, e, n, small))
+
+  mutual
+    statement_placed : (depth : ℕ) (s : StraightTree) → IsTyped profile declared controls s → base + 4 * slots_to (height_in s) ≤ 65536 → depth + depth_in s ≤ depths → statement_nodes s ≤ 6000 → HasPlace declared controls depths depth s
+    statement_placed depth (set x value) typed room deep nodes = (slice_get_within declared x _ typed.known, term_placed 0 typed.suits.has_type (omega (arith, room)))
+    statement_placed depth (clear x size) typed room deep nodes =
+        (slice_get_within declared x _ typed.known, (fits_in_frame x size typed.word typed.mutable typed.known).0)
+    statement_placed depth (fill x values) typed room deep nodes =
+        (slice_get_within declared x _ typed.known, values_placed x typed.word values typed.suit room, (fits_in_frame x (length values) typed.word typed.mutable typed.known).1)
+    statement_placed depth (put place x size index value) typed room deep nodes =
+        (slice_get_within declared x _ typed.known, term_placed 0 typed.index_type (omega (arith, room)), term_placed 1 typed.suits.has_type (omega (arith, room)))
+    statement_placed depth (take control within condition) typed room deep nodes = (typed.0, typed.1, term_placed 0 typed.2.1 (omega (arith, room)))
+    statement_placed depth (set_under control x value) typed room deep nodes =
+        (typed.0, slice_get_within declared x _ typed.1.known, term_placed 0 typed.1.suits.has_type (omega (arith, room)))
+    statement_placed depth (put_under control place x size index value) typed room deep nodes =
+        (typed.0, slice_get_within declared x _ typed.1.known, term_placed 0 typed.1.index_type (omega (arith, room)), term_placed 1 typed.1.suits.has_type (omega (arith, room)))
+    statement_placed depth (branch condition accepted otherwise) typed room deep nodes = (
+      term_placed 0 typed.0 (omega (arith, room)),
+      blocks_placed depth accepted typed.1 (omega (arith, room)) (omega (arith, deep)) (omega (arith, nodes)),
+      blocks_placed depth otherwise typed.2 (omega (arith, room)) (omega (arith, deep)) (omega (arith, nodes)),
+      arms_near declared controls depths depth accepted otherwise (omega (arith, nodes)),
+    )
+    statement_placed depth (repeats x low high body) typed room deep nodes = (
+      slice_get_within declared x _ typed.2,
+      omega (arith, deep),
+      term_placed 0 typed.0 (omega (arith, room)),
+      term_placed 0 typed.1 (omega (arith, room)),
+      blocks_placed (depth + 1) body typed.3 (omega (arith, room)) (omega (arith, deep)) (omega (arith, nodes)),
+      turn_near declared controls depths depth x body (omega (arith, nodes)),
+    )
+
+    pub blocks_placed : (depth : ℕ) (b : StraightBlock) → AreTyped profile declared controls b → base + 4 * slots_to (height_in_all b) ≤ 65536 → depth + depth_in_all b ≤ depths → block_nodes b ≤ 6000 → HavePlaces declared controls depths depth b
+    blocks_placed depth nothing typed room deep nodes = tt
+    blocks_placed depth (first s rest) typed room deep nodes =
+        (statement_placed depth s typed.0 (omega (arith, room)) (omega (arith, deep)) (omega (arith, nodes)), blocks_placed depth rest typed.1 (omega (arith, room)) (omega (arith, deep)) (omega (arith, nodes)))

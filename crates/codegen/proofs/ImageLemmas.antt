@@ -1,31 +1,24 @@
--- The generated image's fields are allowed.
-use Rattle.std.proofs.Common.{◌≡◌, ℕ, suc, ◌+◌, ◌*◌, ◌%◌, ◌^◌, ◌<◌, ◌≤◌, true, List, [], ◌∷◌, length, map, All, Option, None, Some, IfSome, refl, sym, ap, subst, ◌∙◌, arith, length-append}
+-- Straight code within the limits has room in a frame and in an image, and the fields of its image are allowed.
+use Rattle.std.proofs.Common.{◌≡◌, ℕ, suc, ◌+◌, ◌*◌, ◌%◌, ◌^◌, ◌<◌, ◌≤◌, true, List, [], ◌∷◌, length, map, All, Option, None, Some, IfSome, refl, sym, ap, subst, ◌∙◌, arith, length-append, zero, ◌++◌, take}
 use Rattle.std.proofs.lemmas.Bool.{eq-eqb, le-leb, and_from}
 use Rattle.std.proofs.lemmas.List.{length-map}
 use Rattle.std.proofs.lemmas.List.Elements.{recursion_from_All}
 use Rattle.std.specs.List.{AllByRecursion}
 use Rattle.std.specs.Option.{option_map}
-use Rattle.branch_removal.specs.Straight.{StraightProgram}
-use Rattle.rv_code.specs.Words.{word_of}
-use Rattle.image_fields.specs.Fields.{IsImage, AreSlots, IsResultSlot, is_length, slot_end, result_end, slots_end}
-use Rattle.image_fields.specs.declared.slot.Slot.{Slot}
-use Rattle.image_fields.specs.declared.slot.ResultSlot.{ResultSlot}
-use Rattle.language.specs.Limits.{most_elements}
-use Rattle.language.specs.declared.signature.Form.{Form}
-use Rattle.language.specs.declared.signature.Form.TheVariants.{SingleWord, FixedArray}
-use Rattle.language.specs.declared.signature.Kind.{Kind}
-use Rattle.language.specs.declared.signature.Kind.TheVariants.{Boolean}
-use Rattle.language.specs.declared.signature.Param.{Param}
-use Rattle.language.specs.declared.typing.WordType.{WordType}
-use Rattle.language.specs.Size.{held_words, array_words}
-use Rattle.word.specs.declared.profile.Profile.{Profile}
-use Rattle.expression_code.proofs.Logic.{parameter_words}
-use Rattle.codegen.specs.private.Generated.{program_base, program_code, program_slots, result_slot, step_limit}
-use Rattle.expression_code.specs.Layout.{slots_from, result_offset}
-use Rattle.codegen.specs.private.Room.{HasRoom}
-use Rattle.inline.specs.declared.flat.FlatVariable.{FlatVariable}
-use Rattle.inline.specs.Flat.{declaration_of}
-use Rattle.inline.specs.FlatSize.{HasLength, words_of, declared_words}
+use Rattle.codegen.proofs.Language.{StraightProgram, most_elements, Form, SingleWord, Kind, Boolean}
+use Rattle.codegen.proofs.Language.{Param, WordType, held_words, array_words, Profile, FlatVariable, declaration_of}
+use Rattle.codegen.proofs.Language.{TermTree, HasLength, declared_words, value_nodes, IsBounded, IsTypedStraight}
+use Rattle.codegen.proofs.Language.{types_of, IsResult}
+use Rattle.codegen.proofs.Machine.{word_of, IsImage, AreSlots, IsResultSlot, is_length, slot_end, result_end}
+use Rattle.codegen.proofs.Machine.{slots_end, Slot, ResultSlot, program_base, program_code, program_slots}
+use Rattle.codegen.proofs.Machine.{result_slot, step_limit, result_code, result_height, program_height, slots_from}
+use Rattle.codegen.proofs.Machine.{result_offset, HasRoom, block_code, depth_in_all, HavePlaces}
+use Rattle.codegen.proofs.Machine.{IsAmong}
+use Rattle.codegen.proofs.Logic.{parameter_words, height, store_length, expr_length, typed_among}
+use Rattle.inline.specs.FlatSize.{words_of}
+use Rattle.std.proofs.lemmas.Option.{same_Some}
+use Rattle.codegen.proofs.CodeLengths.{block_length, block_room, blocks_placed}
+use Rattle.rv_code.specs.declared.instructions.Instr.TheVariants.{Ecall}
 
 -- The parameters' slots.
 
@@ -40,12 +33,9 @@ pub length-slots_from : (low : ℕ) (ps : List Param) → length (slots_from low
 length-slots_from low [] = refl
 length-slots_from low (p ∷ ps) = ap suc (length-slots_from (low + 4 * words_of (declaration_of p)) ps)
 
-among_lengths : (n : ℕ) → 1 ≤ n → n ≤ most_elements → is_length FixedArray n ≡ true
-among_lengths n some few = and_from _ _ (le-leb 1 n some) (le-leb n most_elements few)
-
 length_allowed : (form : Form) (n : ℕ) → HasLength form n → is_length form n ≡ true
 length_allowed SingleWord n is = eq-eqb n 1 is
-length_allowed form n is = among_lengths n is.0 is.1
+length_allowed form n is = and_from _ _ (le-leb 1 n is.0) (le-leb n most_elements is.1)
 
 some_words : (kind : Kind) (n : ℕ) → 1 ≤ n → 1 ≤ array_words kind n
 some_words Boolean n some = omega (arith, some)
@@ -106,9 +96,6 @@ returned_inside : (declared : List FlatVariable) (frame : ℕ) (word : Option Wo
 returned_inside declared frame None room = tt
 returned_inside declared frame (Some word) room = omega (arith, room)
 
-code_there : (p : StraightProgram) → 1 ≤ length (map word_of (program_code p))
-code_there p = simp (length-map, length-append) (omega arith)
-
 -- the frame of a program with room
 pub room_frame : (p : StraightProgram) → HasRoom p → program_base p + 4 * program_slots p ≤ 65536
 room_frame p room =
@@ -141,7 +128,7 @@ image_allowed p profile room fit =
       returned_inside = returned_inside p.declared (program_base p + 4 * program_slots p) p.returned (omega arith);
       some_step = omega arith;
       steps = omega (arith, w);
-      some_word = code_there p;
+      some_word = simp (length-map, length-append) (omega arith);
       word_count = omega (arith, size, code, n);
       words = fit;
     }
@@ -155,3 +142,79 @@ pub fields_allowed : (p : StraightProgram) → HasRoom p → (profile : Profile)
 fields_allowed p room profile slots returned frame steps words a b c d e fit =
     let allowed = image_allowed p profile room (subst (AllByRecursion (λ word. word < 2 ^ 32)) e (recursion_from_All (λ word. word < 2 ^ 32) words fit)) in
     rw (a, b, c, d, e) allowed
+
+-- Room.
+
+result_length : (declared : List FlatVariable) (free : ℕ) (value : Option TermTree) → length (result_code declared free value) ≤ 32 * value_nodes value
+result_length declared free None = omega arith
+result_length declared free (Some value) = simp length-append (omega (arith, expr_length declared free 0 value, store_length 5 (result_offset declared)))
+
+result_height_fits : (value : Option TermTree) → result_height value ≤ value_nodes value
+result_height_fits None = omega arith
+result_height_fits (Some value) = omega (arith, height value)
+
+-- the first variables take no more words than all
+first_words : (count : ℕ) (ds : List FlatVariable) → declared_words (take count ds) ≤ declared_words ds
+first_words zero ds = omega arith
+first_words (suc count) [] = omega arith
+first_words (suc count) (d ∷ ds) = omega (arith, first_words count ds)
+
+module _ (p : StraightProgram) (typed : IsTypedStraight p) (is : IsBounded p) where
+  parameters : declared_words (map declaration_of p.parameters) ≤ declared_words p.declared
+  parameters =
+      let first = first_words (length p.parameters) p.declared in
+      let same = ap declared_words typed.parameters in
+      omega (arith, first, same)
+
+  frame : p.controls + 2 * depth_in_all p.body + program_height p ≤ p.nodes
+  frame =
+      let body = block_room p.body in
+      let value = result_height_fits p.value in
+      let taken = is.controls in
+      let counted = is.counted in
+      omega (arith, body, value, taken, counted)
+
+  code : length (program_code p) ≤ 32 * p.nodes + 64
+  code =
+      let xs = block_code p.declared p.controls (depth_in_all p.body) 0 p.body in
+      let ys = result_code p.declared (program_base p) p.value in
+      let i = length-append xs ys in
+      let j = length-append (xs ++ ys) (Ecall ∷ []) in
+      let body = block_length p.declared p.controls (depth_in_all p.body) 0 p.body in
+      let value = result_length p.declared (program_base p) p.value in
+      let counted = is.counted in
+      omega (arith, body, value, i, j, counted)
+
+  pub has_room : HasRoom p
+  has_room = record {
+    typed = typed;
+    lengths = is.lengths;
+    parameters = parameters;
+    given = is.parameters;
+    declared = is.declared;
+    nodes = is.nodes;
+    work = is.work_fits;
+    worked = is.worked;
+    counted = let counted = is.counted in omega (arith, counted);
+    frame = frame;
+    code = code;
+  }
+
+-- what the result's expression names is declared
+pub result_among : (profile : Profile) (declared : List FlatVariable) (returned : Option WordType) (value : Option TermTree) → IsResult (types_of profile declared) returned value
+    → (e : TermTree) → value ≡ Some e → IsAmong (length declared) e
+result_among profile declared None None typed e is = absurd (no_result is)
+  where
+    no_result : None ≡ Some e → ⊥
+    no_result h = cc
+result_among profile declared (Some word) (Some value) typed e is = subst (IsAmong (length declared)) (same_Some value e is) (typed_among profile declared typed.has_type)
+result_among profile declared returned value typed e is = absurd typed
+
+-- the statements have their places
+pub body_placed : (p : StraightProgram) → HasRoom p → HavePlaces p.declared p.controls (depth_in_all p.body) 0 p.body
+body_placed p room =
+    let d = room.declared in
+    let n = room.nodes in
+    let c = room.counted in
+    let f = room.frame in
+    blocks_placed p.profile p.declared p.controls (depth_in_all p.body) d 0 p.body room.typed.body (omega (arith, d, n, f)) (omega arith) (omega (arith, c, n))

@@ -1,41 +1,29 @@
--- The code of a loop.
-use Rattle.std.proofs.Common.{◌≡◌, ℕ, zero, suc, ◌+◌, ◌-◌, ◌*◌, ◌%◌, ◌^◌, ◌<◌, ◌≤◌, true, false, nat_lt, List, [], ◌∷◌, ◌++◌, length, Some, slice_get, slice_index, refl, sym, ap, ap₂, ◌∙◌, subst, arith, inr, append_assoc}
+-- The code of a loop, and of a branch on what is public.
+use Rattle.std.proofs.Common.{◌≡◌, ℕ, zero, suc, ◌+◌, ◌-◌, ◌*◌, ◌%◌, ◌^◌, ◌<◌, ◌≤◌, true, false, nat_lt, List, [], ◌∷◌, ◌++◌, length, Some, slice_get, slice_index, refl, sym, ap, ap₂, ◌∙◌, subst, arith, inr, append_assoc, ◌≢◌, ◌==◌, cond, ne_eqb}
 use Rattle.std.proofs.lemmas.Bool.Decides.{nat_tests}
 use Rattle.std.proofs.lemmas.Nat.{mul-le}
-use Rattle.inline.specs.Flat.{TermTree, word_as}
-use Rattle.inline.specs.FlatMeaning.{value_in, path_in, turns, path_of_turns}
-use Rattle.inline.specs.Path.{Path, bounded}
-use Rattle.inline.specs.FlatSize.{term_nodes}
-use Rattle.inline.specs.FlatTyping.{types_of, HasType, counter_type}
-use Rattle.branch_removal.specs.Straight.{StraightBlock, repeats}
-use Rattle.branch_removal.specs.StraightMeaning.{StraightState, counted, after, after_all, path_at, path_along}
-use Rattle.codegen.specs.private.Emitted.{bounds_code, test_code, count_code}
-use Rattle.codegen.specs.private.Jumps.{loop_code}
-use Rattle.expression_code.specs.Layout.{variable_offset, next_offset}
-use Rattle.expression_code.specs.Registers.{slots_to}
-use Rattle.expression_code.specs.TermCode.{store_code, expr_code, height_of}
-use Rattle.word.specs.Operators.{word_of}
-use Rattle.rv_code.specs.declared.instructions.Instr.{Instr}
+use Rattle.codegen.proofs.Language.{TermTree, word_as, value_in, path_in, turns, path_of_turns, Path, bounded}
+use Rattle.codegen.proofs.Language.{term_nodes, types_of, HasType, counter_type, StraightBlock, repeats, branch}
+use Rattle.codegen.proofs.Language.{StraightState, counted, after, after_all, path_at, path_along, word_of, WordType}
+use Rattle.codegen.proofs.Machine.{bounds_code, test_code, count_code, loop_code, branch_code, variable_offset}
+use Rattle.codegen.proofs.Machine.{next_offset, slots_to, store_code, expr_code, height_of, Instr, Addi, Sltu, Sw}
+use Rattle.codegen.proofs.Machine.{ByteMap, number_at, with_number, sum_of}
 use Rattle.rv_code.specs.declared.instructions.Instr.TheVariants as instr
-use Rattle.rv_code.specs.declared.operations.ImmediateOperation.TheVariants.{Addi}
-use Rattle.rv_code.specs.declared.operations.RegisterOperation.TheVariants.{Sltu}
-use Rattle.rv_code.specs.declared.operations.StoreOperation.TheVariants.{Sw}
-use Rattle.rv_machine.specs.Bytes.{ByteMap, number_at, with_number}
-use Rattle.rv_machine.specs.Effects.{sum_of}
 use Rattle.rv_machine.specs.Machine as machine
-use Rattle.expression_code.proofs.Logic.{value_word, HeldAt, held_regs, take, put, does, moves_run, then_moves, number_or_zero, Setting, setting, base_of, Known, by_bounds, none, Runs, Still, looping, along_fit, seq, quietly, weaken, gives, cheaper, as_code, beside, Kept, Ready, Wrote, wrote_kept, wrote_there, kept_number, kept_less, kept_then, ready_below}
-use Rattle.codegen.proofs.SetRuns.{set_word}
-use Rattle.codegen.proofs.Showing.{Shown, first_runs, ready_with, ready_behind, word_before}
-use Rattle.codegen.proofs.Slots.{Hidden, hidden_then, hidden_less, hidden_by, hidden_wrote, hidden_beyond, hidden_number, other_number, ready_set}
+use Rattle.codegen.proofs.Logic.{value_word, HeldAt, held_regs, take, put, does, moves_run, number_or_zero, Setting, setting, base_of, Known, by_bounds, none, Runs, Still, looping, along_fit, seq, quietly, weaken, gives, cheaper, as_code, beside, Kept, Ready, Wrote, wrote_kept, wrote_there, kept_number, kept_less, kept_then, ready_below, by_mark, branching_at, condition_kind}
+use Rattle.codegen.proofs.Slots.{Shown, ready_with, ready_behind, word_before, stored, assigned, Hidden, hidden_then, hidden_less, hidden_by, hidden_wrote, hidden_beyond, hidden_number, other_number, ready_set, first_runs, ready_valued, ready_still, hidden_kept}
 
 -- So many turns are left, the next of them for this number: both of the loop's words tell it.
-pub record AtLoop (z : Setting) (next left i : ℕ) (env : StraightState) (s : machine.State) : Type 0 where
-  pub ready : Ready z env s
+pub record Counts (z : Setting) (next left i : ℕ) (s : machine.State) : Type 0 where
   pub next_there : number_at s.bytes 4 (z.frame + next) ≡ Some i
   pub bound : ℕ
   pub left_is : bound - i ≡ left
   pub bound_small : bound < 2 ^ 32
   pub bound_there : number_at s.bytes 4 (z.frame + (next + 4)) ≡ Some bound
+
+pub record AtLoop (z : Setting) (next left i : ℕ) (env : StraightState) (s : machine.State) : Type 0 where
+  pub ready : Ready z env s
+  pub counts : Counts z next left i s
 
 -- whether a turn is left is in the value's register, and the number in the left operand's
 pub record TestedFor (z : Setting) (left i : ℕ) (env : StraightState) (s t : machine.State) : Type 0 where
@@ -68,14 +56,20 @@ module _ (z : Setting) (depth : ℕ) (within : depth < z.depths) where
   next_inside : next + 8 ≤ z.size
   next_inside = let room = z.room in omega (arith, room, within)
 
+  -- where both words are as they were
+  counts_kept : (left i : ℕ) (s t : machine.State) → ((o : ℕ) → next ≤ o → o ≤ next + 4 → number_at t.bytes 4 (z.frame + o) ≡ number_at s.bytes 4 (z.frame + o)) → Counts z next left i s → Counts z next left i t
+  counts_kept left i s t same counts = record {
+    next_there = same next (omega arith) (omega arith) ∙ counts.next_there;
+    bound = counts.bound;
+    left_is = counts.left_is;
+    bound_small = counts.bound_small;
+    bound_there = same (next + 4) (omega arith) (omega arith) ∙ counts.bound_there;
+  }
+
   at_same : (left i : ℕ) (env : StraightState) (s t : machine.State) → AtLoop z next left i env s → HeldAt z t → t.bytes ≡ s.bytes → AtLoop z next left i env t
   at_same left i env s t at held same = record {
     ready = ready_with z env s t at.ready held same;
-    next_there = ap (λ (b : ByteMap). number_at b 4 (z.frame + next)) same ∙ at.next_there;
-    bound = at.bound;
-    left_is = at.left_is;
-    bound_small = at.bound_small;
-    bound_there = ap (λ (b : ByteMap). number_at b 4 (z.frame + (next + 4))) same ∙ at.bound_there;
+    counts = counts_kept left i s t (λ o low high. ap (λ (b : ByteMap). number_at b 4 (z.frame + o)) same) at.counts;
   }
 
   held_still : (s t : machine.State) → HeldAt z s → Still s t → HeldAt z t
@@ -88,10 +82,10 @@ module _ (z : Setting) (depth : ℕ) (within : depth < z.depths) where
       (λ env s fine at. at.ready.held)
       (λ env s t fine at moved. record {
         held = moved.held;
-        six = ap (λ (regs : ℕ → ℕ). regs 6) moved.regs ∙ ap number_or_zero at.next_there;
+        six = ap (λ (regs : ℕ → ℕ). regs 6) moved.regs ∙ ap number_or_zero at.counts.next_there;
         five =
             ap (λ (regs : ℕ → ℕ). regs 5) moved.regs
-            ∙ (ap₂ (λ a b. word_of (nat_lt a b)) (ap number_or_zero at.next_there) (ap number_or_zero at.bound_there) ∙ ap word_of (is_left at.bound i left at.left_is));
+            ∙ (ap₂ (λ a b. word_of (nat_lt a b)) (ap number_or_zero at.counts.next_there) (ap number_or_zero at.counts.bound_there) ∙ ap word_of (is_left at.counts.bound i left at.counts.left_is));
         same = moved.bytes;
       })
       (moves_run z (take 6 next) (take 5 (next + 4) ∷ does (instr.Register Sltu 5 6 5 ∷ []) ∷ []) refl ((omega arith, omega (arith, inside)), ((omega arith, omega (arith, inside)), (tt, tt))))
@@ -112,36 +106,36 @@ module _ (z : Setting) (depth : ℕ) (within : depth < z.depths) where
       let room = z.room in
       gives
       (λ env u v fine given done.
-      let at = given.0 in
+      let counts = given.0.counts in
       let m = done.middle in
       let one = done.first in
-      let two = done.second in
-      let small = at.bound_small in
-      let more = at.left_is in
-      let below : i < 2 ^ 32 = omega (arith, small, more) in
-      let below' : i + 1 < 2 ^ 32 = omega (arith, small, more) in
-      let wrote1 : Wrote z 4 o i u m = record { held = one.held; written = one.bytes ∙ ap (λ w. with_number u.bytes 4 (z.frame + o) w) given.1 } in
-      let ready1 = ready_set z x i counter_type false known below env u m at.ready wrote1 in
-      let six : m.regs 6 ≡ i + 1 = ap (λ (regs : ℕ → ℕ). regs 6) one.regs ∙ (ap (λ a. sum_of a 1) given.1 ∙ omega (arith, below')) in
-      let wrote2 : Wrote z 4 next (i + 1) m v = record { held = two.held; written = two.bytes ∙ ap (λ w. with_number m.bytes 4 (z.frame + next) w) six } in (
+      let small = counts.bound_small in
+      let more = counts.left_is in
+      let wrote : Wrote z 4 o i u m = record { held = one.held; written = one.bytes ∙ ap (λ w. with_number u.bytes 4 (z.frame + o) w) given.1 } in
+      let ready1 = ready_set z x i counter_type false known (omega (arith, small, more)) env u m given.0.ready wrote in (
         record {
-          ready = ready_behind z 4 next (i + 1) (omega arith) (counted x i env) m v ready1 wrote2;
-          next_there = wrote_there z next (i + 1) m v wrote2 below';
-          bound = at.bound;
-          left_is = omega (arith, more);
-          bound_small = at.bound_small;
-          bound_there =
-              other_number z 4 next (i + 1) 4 (next + 4) m v wrote2 (inr (omega arith))
-              ∙ (other_number z 4 o i 4 (next + 4) u m wrote1 (inr (omega (arith, before))) ∙ at.bound_there);
+          ready = ready_behind z 4 next (i + 1) (omega arith) (counted x i env) m v ready1 done.second;
+          counts = record {
+            next_there = wrote_there z next (i + 1) m v done.second (omega (arith, small, more));
+            bound = counts.bound;
+            left_is = omega (arith, more);
+            bound_small = counts.bound_small;
+            bound_there =
+                other_number z 4 next (i + 1) 4 (next + 4) m v done.second (inr (omega arith))
+                ∙ (other_number z 4 o i 4 (next + 4) u m wrote (inr (omega (arith, before))) ∙ counts.bound_there);
+          };
         },
-        hidden_then z depth u m v (hidden_wrote z depth 4 o i u m (omega (arith, before)) wrote1) (hidden_beyond z depth 4 next (i + 1) m v (omega arith) wrote2),
+        hidden_then z depth u m v (hidden_wrote z depth 4 o i u m (omega (arith, before)) wrote) (hidden_beyond z depth 4 next (i + 1) m v (omega arith) done.second),
       ))
-      (then_moves z (put Sw 6 next ∷ []) refl ((omega arith, omega (arith, inside)), tt)
+      (stored z 6 next (λ env. i + 1) refl (omega arith) (omega (arith, inside))
       (weaken {P' = Turns left i}
       (λ env s fine given. given.0.ready.held)
       (λ env s t fine given moved. moved)
       (moves_run z (put Sw 6 o) (does (instr.Immediate Addi 6 6 1 ∷ []) ∷ []) refl ((omega arith, omega (arith, before, room)), (tt, tt))))
-      (λ env s t given moved. moved.held))
+      (λ env s t given moved.
+      let small = given.0.counts.bound_small in
+      let more = given.0.counts.left_is in
+      (moved.held, ap (λ (regs : ℕ → ℕ). regs 6) moved.regs ∙ (ap (λ a. sum_of a 1) given.1 ∙ omega (arith, small, more)))))
 
   -- Both bounds.
 
@@ -158,15 +152,12 @@ module _ (z : Setting) (depth : ℕ) (within : depth < z.depths) where
       (λ env s t fine ready done.
       let m = done.middle in
       let v = value_in env.variables e in
-      let wrote = set_word z e o v env s m t done.first done.second refl in
       record {
-        held = wrote.held;
-        there = wrote_there z o v m t wrote (value_word z.code.profile z.declared e counter_type env.variables ready.fits has);
-        kept = kept_then z o s m t (kept_less z o (base_of z) s m below done.first.kept) (wrote_kept z 4 o v m t wrote);
+        held = done.second.held;
+        there = wrote_there z o v m t done.second (value_word z.code.profile z.declared e counter_type env.variables ready.fits has);
+        kept = kept_then z o s m t (kept_less z o (base_of z) s m below done.first.kept) (wrote_kept z 4 o v m t done.second);
       })
-      (cheaper (omega arith)
-      (then_moves z (put Sw 5 o ∷ []) refl ((aligned, inside), tt) (first_runs z has room)
-      (λ env s t ready valued. valued.held)))
+      (assigned z o has room aligned inside)
 
   abbrev Begun : TermTree → TermTree → StraightState → machine.State → machine.State → Type 0
   Begun low high env s t = AtLoop z next (value_in env.variables high - value_in env.variables low) (value_in env.variables low) env t × Hidden z depth s t
@@ -184,11 +175,13 @@ module _ (z : Setting) (depth : ℕ) (within : depth < z.depths) where
       let ready1 = ready_below z next (omega arith) env s m ready one.held one.kept in (
         record {
           ready = ready_below z (next + 4) (omega arith) env m t ready1 two.held two.kept;
-          next_there = kept_number z (next + 4) m t two.kept 4 next (omega arith) ∙ one.there;
-          bound = value_in env.variables high;
-          left_is = refl;
-          bound_small = value_word z.code.profile z.declared high counter_type env.variables ready.fits has_high;
-          bound_there = two.there;
+          counts = record {
+            next_there = kept_number z (next + 4) m t two.kept 4 next (omega arith) ∙ one.there;
+            bound = value_in env.variables high;
+            left_is = refl;
+            bound_small = value_word z.code.profile z.declared high counter_type env.variables ready.fits has_high;
+            bound_there = two.there;
+          };
         },
         hidden_then z depth s m t (hidden_below z depth next s m (omega arith) one.kept) (hidden_below z depth (next + 4) m t (omega arith) two.kept),
       ))
@@ -220,11 +213,7 @@ module _ (z : Setting) (depth : ℕ) (within : depth < z.depths) where
         let shown = done.second in (
           record {
             ready = shown.ready;
-            next_there = hidden_number z (depth + 1) m v shown.hidden next (omega arith) (omega arith) ∙ first.0.next_there;
-            bound = first.0.bound;
-            left_is = first.0.left_is;
-            bound_small = first.0.bound_small;
-            bound_there = hidden_number z (depth + 1) m v shown.hidden (next + 4) (omega arith) (omega arith) ∙ first.0.bound_there;
+            counts = counts_kept left (i + 1) m v (λ o low high. hidden_number z (depth + 1) m v shown.hidden o (omega (arith, low)) (omega (arith, high))) first.0.counts;
           },
           hidden_then z depth u m v first.1 (hidden_less z depth (depth + 1) m v (omega arith) shown.hidden),
         ))
@@ -285,3 +274,51 @@ module _ (z : Setting) (depth : ℕ) (within : depth < z.depths) where
         })
         (seq (bounds_runs low high has_low has_high room_low room_high) loop_runs
         (λ env s t ready begun. (begun.0, λ o from to. refl)))
+
+-- A branch.
+
+-- the condition is known
+record Tested (z : Setting) (condition : TermTree) (env : StraightState) (s : machine.State) : Type 0 where
+  ready : Ready z env s
+  there : s.regs 5 ≡ value_in env.variables condition
+
+module _ (z : Setting) (depth : ℕ) (condition : TermTree) (word : WordType) (accepted otherwise : StraightBlock) (m n : ℕ) {xs ys : List Instr}
+    (has : HasType (types_of z.code.profile z.declared) condition word) (room : base_of z + 4 * slots_to (height_of condition) ≤ z.size) (within : depth ≤ z.depths)
+    (near : 2 * (length xs + length ys) + 8 < 2 ^ 19)
+    (one : Runs z m (λ env. path_along env accepted) xs (Ready z) (Shown z depth (λ env. after_all env accepted)))
+    (two : Runs z n (λ env. path_along env otherwise) ys (Ready z) (Shown z depth (λ env. after_all env otherwise))) where
+  abbrev value : StraightState → ℕ
+  value env = value_in env.variables condition
+
+  first_arm : (env : StraightState) (s t u v : machine.State) → value env ≢ 0 → Tested z condition env s → Still s t → Shown z depth (λ e. after_all e accepted) env t u → Still u v → Shown z depth (λ e. after e (branch condition accepted otherwise)) env s v
+  first_arm env s t u v some tested still done back = record {
+    ready = subst (λ c. Ready z (cond c (after_all env otherwise) (after_all env accepted)) v) (sym (ne_eqb (value env) 0 some)) (ready_still z (after_all env accepted) u v done.ready back);
+    hidden = hidden_then z depth s t v (hidden_by z depth s t still.bytes) (hidden_then z depth t u v done.hidden (hidden_by z depth u v back.bytes));
+  }
+
+  second_arm : (env : StraightState) (s t u : machine.State) → value env ≡ 0 → Tested z condition env s → Still s t → Shown z depth (λ e. after_all e otherwise) env t u → Shown z depth (λ e. after e (branch condition accepted otherwise)) env s u
+  second_arm env s t u none tested still done = record {
+    ready = subst (λ c. Ready z (cond c (after_all env otherwise) (after_all env accepted)) u) (sym (ap (λ x. x == 0) none)) done.ready;
+    hidden = hidden_then z depth s t u (hidden_by z depth s t still.bytes) done.hidden;
+  }
+
+  -- the condition, and then one of both arms
+  pub branch_runs : Runs z (16 * term_nodes condition + (2 + m + n)) (λ env. path_at env (branch condition accepted otherwise)) (expr_code z.declared (base_of z) 0 condition ++ branch_code xs ys) (Ready z) (Shown z depth (λ env. after env (branch condition accepted otherwise)))
+  branch_runs =
+      gives
+      (λ env s t fine ready done. record {
+        ready = done.second.ready;
+        hidden = hidden_then z depth s done.middle t (hidden_kept z depth s done.middle within done.first.kept) done.second.hidden;
+      })
+      (seq
+      (first_runs z has room)
+      (by_mark (condition_kind z) {P = Tested z condition} value
+      (λ v.
+      branching_at {z = setting z} 5 (omega arith) (λ e. omega arith) {P = Known (setting z) ℕ (λ w. Unit {0}) (Tested z condition) value v} {S = Shown z depth (λ env. after env (branch condition accepted otherwise))} value near
+      (λ env s known. known.given.there)
+      (λ env s t some known still. ready_still z env s t known.given.ready still)
+      (λ env s t u w some known still done back. first_arm env s t u w some known.given still done back)
+      (λ env s t none known still. ready_still z env s t known.given.ready still)
+      (λ env s t u none known still done. second_arm env s t u none known.given still done)
+      one two v (λ env s known. known.is)))
+      (λ env s t ready valued. record { ready = ready_valued z condition env s t ready valued; there = valued.there }))

@@ -1,21 +1,33 @@
 -- Numbers that are put one after another.
-use Rattle.std.proofs.Common.{◌≡◌, ℕ, zero, suc, ◌+◌, ◌*◌, ◌%◌, ◌^◌, ◌<◌, ◌≤◌, true, ◌&&◌, cond, nat_le, nat_lt, List, [], ◌∷◌, length, Some, None, slice_index, refl, ap, ap₂, ◌∙◌, arith}
+use Rattle.std.proofs.Common.{◌≡◌, ◌⊎◌, inl, inr, ℕ, zero, suc, ◌+◌, ◌*◌, ◌/◌, ◌%◌, ◌^◌, ◌<◌, ◌≤◌, ◌==◌, Bool, true, false, ◌&&◌, cond, is_some, nat_le, nat_lt, List, [], ◌∷◌, length, Some, None, slice_index, refl, ap, ap₂, ◌∙◌, arith}
+use Rattle.std.proofs.lemmas.Bool.{eqb-true, eqb-false}
 use Rattle.std.proofs.lemmas.Bool.Decides.{nat_tests}
 use Rattle.rv_machine.specs.Bytes.{ByteMap, joined, number_at, with_number, zeros}
-use Rattle.rv_machine.proofs.ByteLaws.{number_at_same, number_at-with_number, number_at-zero, number_at-suc, with_number_below, with_number_above}
+use Rattle.codegen.proofs.Logic.{number_at_same, number_at-with_number, with_number-zero, with_number-suc, with_byte_same, with_byte_other, number_at-zero, number_at-suc, with_number_below, with_number_above}
 use Rattle.codegen.specs.Loaded.{with_numbers}
 
--- bytes below them are as they were
-pub numbers_below : (bytes : ByteMap) (size at : ℕ) (vs : List ℕ) (x : ℕ) → x < at → with_numbers bytes size at vs x ≡ bytes x
-numbers_below bytes size at [] x below = refl
-numbers_below bytes size at (v ∷ vs) x below =
-    numbers_below (with_number bytes size at v) size (at + size) vs x (omega (arith, below)) ∙ with_number_below bytes size at v x below
+-- bytes beside them are as they were
+pub numbers_beside : (bytes : ByteMap) (size at : ℕ) (vs : List ℕ) (x : ℕ) → (x < at) ⊎ (at + size * length vs ≤ x) → with_numbers bytes size at vs x ≡ bytes x
+numbers_beside bytes size at [] x side = refl
+numbers_beside bytes size at (v ∷ vs) x (inl below) =
+    numbers_beside (with_number bytes size at v) size (at + size) vs x (inl (omega (arith, below))) ∙ with_number_below bytes size at v x below
+numbers_beside bytes size at (v ∷ vs) x (inr above) =
+    numbers_beside (with_number bytes size at v) size (at + size) vs x (inr (omega (arith, above))) ∙ with_number_above bytes size at v x (omega (arith, above))
 
--- and those above them
-pub numbers_above : (bytes : ByteMap) (size at : ℕ) (vs : List ℕ) (x : ℕ) → at + size * length vs ≤ x → with_numbers bytes size at vs x ≡ bytes x
-numbers_above bytes size at [] x above = refl
-numbers_above bytes size at (v ∷ vs) x above =
-    numbers_above (with_number bytes size at v) size (at + size) vs x (omega (arith, above)) ∙ with_number_above bytes size at v x (omega (arith, above))
+-- what is data stays data
+
+pub number_data : (bytes : ByteMap) (n at v x : ℕ) → is_some (bytes x) ≡ true → is_some (with_number bytes n at v x) ≡ true
+number_data bytes zero at v x here = ap (λ (b : ByteMap). is_some (b x)) (with_number-zero bytes at v) ∙ here
+number_data bytes (suc n) at v x here = by_case (x == at) refl (number_data bytes n (at + 1) (v / 256) x here)
+  where
+    by_case : (b : Bool) → (x == at) ≡ b → is_some (with_number bytes n (at + 1) (v / 256) x) ≡ true → is_some (with_number bytes (suc n) at v x) ≡ true
+    by_case true e rest = ap (λ (b : ByteMap). is_some (b x)) (with_number-suc bytes n at v) ∙ ap is_some (with_byte_same (with_number bytes n (at + 1) (v / 256)) at (v % 256) x (eqb-true x at e))
+    by_case false e rest =
+        ap (λ (b : ByteMap). is_some (b x)) (with_number-suc bytes n at v) ∙ (ap is_some (with_byte_other (with_number bytes n (at + 1) (v / 256)) at (v % 256) x (eqb-false x at e)) ∙ rest)
+
+pub numbers_data : (bytes : ByteMap) (size at : ℕ) (vs : List ℕ) (x : ℕ) → is_some (bytes x) ≡ true → is_some (with_numbers bytes size at vs x) ≡ true
+numbers_data bytes size at [] x here = here
+numbers_data bytes size at (v ∷ vs) x here = numbers_data (with_number bytes size at v) size (at + size) vs x (number_data bytes size at v x here)
 
 -- each is there
 pub numbers_there : (bytes : ByteMap) (size at : ℕ) (vs : List ℕ) (i : ℕ) → ((j : ℕ) → j < length vs → slice_index vs j % 256 ^ size ≡ slice_index vs j) → i < length vs → number_at (with_numbers bytes size at vs) size (at + size * i) ≡ Some (slice_index vs i)
@@ -24,7 +36,7 @@ numbers_there bytes size at (v ∷ vs) zero fits below =
     let here : at + size * 0 ≡ at = omega arith in
     let next = with_number bytes size at v in
     ap (λ a. number_at (with_numbers next size (at + size) vs) size a) here
-    ∙ (number_at_same next (with_numbers next size (at + size) vs) size at (λ x low high. numbers_below next size (at + size) vs x high)
+    ∙ (number_at_same next (with_numbers next size (at + size) vs) size at (λ x low high. numbers_beside next size (at + size) vs x (inl high))
     ∙ (number_at-with_number bytes size at v ∙ ap Some (fits 0 (omega arith))))
 numbers_there bytes size at (v ∷ vs) (suc i) fits below =
     let next = with_number bytes size at v in

@@ -1,25 +1,20 @@
--- What is shown once a number of a variable, or a control value, is written.
-use Rattle.std.proofs.Common.{◌≡◌, ℕ, ◌+◌, ◌*◌, ◌%◌, ◌^◌, ◌<◌, ◌≤◌, ◌==◌, Bool, true, false, cond, if◌then◌else◌, nat_lt, List, [], ◌∷◌, length, Some, slice_get, slice_index, refl, sym, ap, ◌∙◌, subst, arith, inl, inr, ◌⊎◌, ne_eqb}
+-- What is shown once a number of a variable, or a control value, is written, and what is shown after a piece of a statement's code.
+use Rattle.std.proofs.Common.{◌≡◌, ℕ, ◌+◌, ◌*◌, ◌%◌, ◌^◌, ◌<◌, ◌≤◌, ◌==◌, Bool, true, false, cond, if◌then◌else◌, nat_lt, List, [], ◌∷◌, length, Some, slice_get, slice_index, refl, sym, ap, ◌∙◌, subst, arith, inl, inr, ◌⊎◌, ◌&&◌, not, ◌++◌}
 use Rattle.std.specs.Prelude.{slice_set}
 use Rattle.std.proofs.lemmas.Bool.Decides.{nat_tests}
-use Rattle.std.proofs.lemmas.List.{length-set, get_or-set_same, get_or-set_other}
+use Rattle.std.proofs.lemmas.List.{length-set, get_or-set_same, get_or-set_other, set-get_or}
 use Rattle.std.proofs.lemmas.List.Elements.{All-set}
 use Rattle.std.proofs.lemmas.Option.{same_Some}
 use Rattle.std.proofs.lemmas.Bool.{eqb-true, eqb-false}
-use Rattle.branch_removal.specs.StraightMeaning.{StraightState, with_variable, with_element, with_controls}
-use Rattle.expression_code.specs.Layout.{variable_offset, control_offset, next_offset}
-use Rattle.inline.specs.declared.flat.FlatVariable.{FlatVariable}
-use Rattle.inline.specs.Fitting.{IsWithinKind, IsHeld}
-use Rattle.inline.specs.Flat.{numbers_in, word_as}
+use Rattle.codegen.proofs.Language.{StraightState, with_variable, with_element, with_controls, FlatVariable}
+use Rattle.codegen.proofs.Language.{IsWithinKind, IsHeld, Fits, numbers_in, word_as, TermTree, term_nodes, Kind}
+use Rattle.codegen.proofs.Language.{Boolean, Uint32, WordType, bits_of, Values, value_in, types_of, HasType, Suits}
+use Rattle.codegen.proofs.Language.{Profile}
+use Rattle.codegen.proofs.Machine.{variable_offset, control_offset, next_offset, result_offset, ByteMap, number_at}
+use Rattle.codegen.proofs.Machine.{with_number, slots_to, height_of, expr_code, store_code, Instr, Sw}
 use Rattle.inline.specs.FlatSize.{words_of}
-use Rattle.language.specs.declared.signature.Kind.{Kind}
-use Rattle.language.specs.declared.signature.Kind.TheVariants.{Boolean, Uint32}
-use Rattle.language.specs.declared.typing.WordType.{WordType}
-use Rattle.language.specs.Types.{bits_of}
-use Rattle.rv_machine.specs.Bytes.{ByteMap, number_at, with_number}
-use Rattle.rv_machine.proofs.ByteLaws.{number_at_apart, number_at-with_number, with_number_below, with_number_above}
+use Rattle.codegen.proofs.Logic.{number_at_apart, number_at-with_number, with_number_above, HeldAt, mask_of, mask_fits, bytes_by, bytes_of, place_of, place_within, ends_before_result, apart_from, elements_apart, Setting, base_of, Kept, Ready, Wrote, wrote_kept, wrote_there, number_same, variables_kept, Before, After, Steps, Then, Still, steps_of, expr_runs, held_regs, is_free, put, then_moves, setting, Runs, gives, cheaper, kept_less, kept_by, ready_below, ready_after, kept_then, value_fits}
 use Rattle.rv_machine.specs.Machine as machine
-use Rattle.expression_code.proofs.Logic.{HeldAt, mask_of, mask_fits, bytes_by, bytes_of, place_of, place_within, ends_before_result, apart_from, elements_apart, Setting, base_of, Kept, Ready, Wrote, wrote_kept, wrote_there, number_same, variables_kept}
 
 -- the words of the loops that are around are as they were
 abbrev pub Hidden : Setting → ℕ → machine.State → machine.State → Type 0
@@ -141,39 +136,37 @@ module _ (z : Setting) where
         (record { count = length-set old i v ∙ before.count; within = All-set (IsWithinKind d.word.kind) old i v fits before.within })
         env s t ready wrote.held (λ j more. same_there j more (j == i) refl) outside
 
+  -- a word has one element
+  pub ready_alone : (env : StraightState) (x v : ℕ) (t : machine.State) → length (env.variables x) ≡ 1 → Ready z (with_element env x 0 v) t → Ready z (with_variable env x (v ∷ [])) t
+  ready_alone env x v t one ready =
+      ready_same (with_element env x 0 v) (with_variable env x (v ∷ [])) t (λ y. ap (λ (l : List ℕ). if y == x then l else env.variables y) (alone (env.variables x) v one)) (λ c. refl) ready
+
   -- a word is set
   module _ (x v : ℕ) (word : WordType) (mutable : Bool) (known : slice_get z.declared x ≡ Some (word_as word mutable)) (fits : v < 2 ^ bits_of word.kind)
       (env : StraightState) (s t : machine.State) (ready : Ready z env s) (wrote : Wrote z 4 (variable_offset z.declared x) v s t) where
-    first_place : place_of z.declared x (word_as word mutable) 0 ≡ variable_offset z.declared x
-    first_place = omega arith
-
-    wrote_first : Wrote z 4 (place_of z.declared x (word_as word mutable) 0) v s t
-    wrote_first = subst (λ o. Wrote z 4 o v s t) (sym first_place) wrote
-
     pub ready_set : Ready z (with_variable env x (v ∷ [])) t
     ready_set =
         let small = cut_kind word.kind v fits in
-        let put = ready_put x 0 v v (word_as word mutable) known (omega arith) fits env s t ready wrote_first (omega (arith, small)) in
-        ready_same (with_element env x 0 v) (with_variable env x (v ∷ [])) t (λ y. ap (λ (l : List ℕ). if y == x then l else env.variables y) (alone (env.variables x) v (ready.fits x (word_as word mutable) known).count)) (λ c. refl) put
+        let first : variable_offset z.declared x ≡ place_of z.declared x (word_as word mutable) 0 = omega arith in
+        ready_alone env x v t (ready.fits x (word_as word mutable) known).count
+        (ready_put x 0 v v (word_as word mutable) known (omega arith) fits env s t ready (subst (λ o. Wrote z 4 o v s t) first wrote) (omega (arith, small)))
 
   -- a variable that is set to what it holds
-  same_again : (x : ℕ) (env : StraightState) (y : ℕ) (b : Bool) → (y == x) ≡ b → cond b (env.variables x) (env.variables y) ≡ env.variables y
-  same_again x env y true e = ap env.variables (sym (eqb-true y x e))
-  same_again x env y false e = refl
+  same_again : (x i : ℕ) (env : StraightState) (y : ℕ) (b : Bool) → (y == x) ≡ b → cond b (slice_set (env.variables x) i (slice_index (env.variables x) i)) (env.variables y) ≡ env.variables y
+  same_again x i env y true e = set-get_or (env.variables x) i 0 ∙ ap env.variables (sym (eqb-true y x e))
+  same_again x i env y false e = refl
 
-  -- a variable is set or kept
-  pub ready_under : (b : Bool) (x : ℕ) (l : List ℕ) (env : StraightState) (t : machine.State) → Ready z (with_variable env x (cond b l (env.variables x))) t → Ready z (cond b (with_variable env x l) env) t
-  ready_under true x l env t ready = ready
-  ready_under false x l env t ready = ready_same (with_variable env x (env.variables x)) env t (λ y. same_again x env y (y == x) refl) (λ c. refl) ready
+  -- an element is set or kept
+  pub ready_chosen : (b : Bool) (x i v : ℕ) (env : StraightState) (t : machine.State) → Ready z (with_element env x i (if b then v else slice_index (env.variables x) i)) t → Ready z (if b then with_element env x i v else env) t
+  ready_chosen true x i v env t ready = ready
+  ready_chosen false x i v env t ready =
+      ready_same (with_element env x i (slice_index (env.variables x) i)) env t (λ y. same_again x i env y (y == x) refl) (λ c. refl) ready
 
-  -- one control value is set
-  abbrev with_control : StraightState → ℕ → Bool → StraightState
-  with_control env c b = record { variables = env.variables; controls = λ y. if y == c then b else env.controls y }
-
-  spaced : (y c : ℕ) → (y == c) ≡ false → (y + 1 ≤ c) ⊎ (c + 1 ≤ y)
-  spaced y c h = by_order (nat_lt y c) refl
+  -- two control values lie apart
+  controls_apart : (y c : ℕ) → (y == c) ≡ false → (control_offset z.declared y + 4 ≤ control_offset z.declared c) ⊎ (control_offset z.declared c + 4 ≤ control_offset z.declared y)
+  controls_apart y c h = by_order (nat_lt y c) refl
     where
-      by_order : (b : Bool) → nat_lt y c ≡ b → (y + 1 ≤ c) ⊎ (c + 1 ≤ y)
+      by_order : (b : Bool) → nat_lt y c ≡ b → (control_offset z.declared y + 4 ≤ control_offset z.declared c) ⊎ (control_offset z.declared c + 4 ≤ control_offset z.declared y)
       by_order true e =
           let below : y < c = grind (arith, nat_tests) in
           inl (omega (arith, below))
@@ -181,35 +174,113 @@ module _ (z : Setting) where
           let above : c < y = grind (arith, nat_tests) in
           inr (omega (arith, above))
 
-  module _ (c : ℕ) (b : Bool) (among : c < z.controls) (env : StraightState) (s t : machine.State) (ready : Ready z env s) (wrote : Wrote z 4 (control_offset z.declared c) (mask_of b) s t) where
-    control_there : (y : ℕ) → y < z.controls → (e : Bool) → (y == c) ≡ e → number_at t.bytes 4 (z.frame + control_offset z.declared y) ≡ Some (mask_of (cond e b (env.controls y)))
-    control_there y below true e =
-        ap (λ n. number_at t.bytes 4 (z.frame + control_offset z.declared n)) (eqb-true y c e) ∙ wrote_there z (control_offset z.declared c) (mask_of b) s t wrote (mask_fits b)
-    control_there y below false e =
-        other_number 4 (control_offset z.declared c) (mask_of b) 4 (control_offset z.declared y) s t wrote (by_side (spaced y c e)) ∙ ready.controls_there y below
-      where
-        by_side : (y + 1 ≤ c) ⊎ (c + 1 ≤ y) → (control_offset z.declared y + 4 ≤ control_offset z.declared c) ⊎ (control_offset z.declared c + 4 ≤ control_offset z.declared y)
-        by_side (inl h) = inl (omega (arith, h))
-        by_side (inr h) = inr (omega (arith, h))
+  -- both control values of a condition are set
+  module _ (c : ℕ) (f g : Bool) (among : c + 1 < z.controls) (env : StraightState) (s t u : machine.State) (ready : Ready z env s)
+      (one : Wrote z 4 (control_offset z.declared c) (mask_of f) s t) (two : Wrote z 4 (control_offset z.declared (c + 1)) (mask_of g) t u) where
+    control_there : (y : ℕ) → y < z.controls → (d e : Bool) → (y == c) ≡ d → (y == c + 1) ≡ e
+        → number_at u.bytes 4 (z.frame + control_offset z.declared y) ≡ Some (mask_of (cond d f (cond e g (env.controls y))))
+    control_there y below true e h k =
+        other_number 4 (control_offset z.declared (c + 1)) (mask_of g) 4 (control_offset z.declared y) t u two (inl (omega (arith, eqb-true y c h)))
+        ∙ (ap (λ n. number_at t.bytes 4 (z.frame + control_offset z.declared n)) (eqb-true y c h) ∙ wrote_there z (control_offset z.declared c) (mask_of f) s t one (mask_fits f))
+    control_there y below false true h k =
+        ap (λ n. number_at u.bytes 4 (z.frame + control_offset z.declared n)) (eqb-true y (c + 1) k) ∙ wrote_there z (control_offset z.declared (c + 1)) (mask_of g) t u two (mask_fits g)
+    control_there y below false false h k =
+        other_number 4 (control_offset z.declared (c + 1)) (mask_of g) 4 (control_offset z.declared y) t u two (controls_apart y (c + 1) k)
+        ∙ (other_number 4 (control_offset z.declared c) (mask_of f) 4 (control_offset z.declared y) s t one (controls_apart y c h) ∙ ready.controls_there y below)
 
-    one_control : Ready z (with_control env c b) t
-    one_control = record {
-      held = wrote.held;
+    pub ready_taken : Ready z (with_controls env c f g) u
+    ready_taken = record {
+      held = two.held;
       fits = ready.fits;
-      variables_there = variables_kept z (control_offset z.declared c) env s t (omega arith) ready (wrote_kept z 4 (control_offset z.declared c) (mask_of b) s t wrote);
-      controls_there = λ y below. control_there y below (y == c) refl;
+      variables_there =
+          variables_kept z (control_offset z.declared c) env s u (omega arith) ready
+          (kept_then z (control_offset z.declared c) s t u (wrote_kept z 4 (control_offset z.declared c) (mask_of f) s t one)
+          (kept_less z (control_offset z.declared c) (control_offset z.declared (c + 1)) t u (omega arith) (wrote_kept z 4 (control_offset z.declared (c + 1)) (mask_of g) t u two)));
+      controls_there = λ y below. control_there y below (y == c) (y == c + 1) refl refl;
     }
 
-  -- the order of two control values does not matter
-  swapped : (y c : ℕ) (f g h : Bool) (e : Bool) → (y == c) ≡ e → (if y == c + 1 then g else cond e f h) ≡ cond e f (if y == c + 1 then g else h)
-  swapped y c f g h true e =
-      let same = eqb-true y c e in
-      rw (ne_eqb y (c + 1) (λ q. omega (arith, same, q))) refl
-  swapped y c f g h false e = refl
+-- the state that is made of the one before is shown, and the words of the loops around are as they were
+pub record Shown (z : Setting) (depth : ℕ) (change : StraightState → StraightState) (env : StraightState) (s t : machine.State) : Type 0 where
+  pub ready : Ready z (change env) t
+  pub hidden : Hidden z depth s t
 
-  -- both control values of a condition are set
-  pub ready_taken : (c : ℕ) (f g : Bool) → c + 1 < z.controls → (env : StraightState) (s t u : machine.State) → Ready z env s → Wrote z 4 (control_offset z.declared c) (mask_of f) s t → Wrote z 4 (control_offset z.declared (c + 1)) (mask_of g) t u → Ready z (with_controls env c f g) u
-  ready_taken c f g among env s t u ready one two =
-      let first = one_control c f (omega (arith, among)) env s t ready one in
-      let second = one_control (c + 1) g among (with_control env c f) t u first two in
-      ready_same (with_control (with_control env c f) (c + 1) g) (with_controls env c f g) u (λ x. refl) (λ y. swapped y c f g (env.controls y) (y == c) refl) second
+-- the value's register has what an expression means, and only slots of temporaries are written
+pub record Evaluated (z : Setting) (e : TermTree) (env : StraightState) (s t : machine.State) : Type 0 where
+  pub held : HeldAt z t
+  pub there : t.regs 5 ≡ value_in env.variables e
+  pub kept : Kept z (base_of z) s t
+
+-- a value that suits a type is within the type's kind
+pub suits_fits : (profile : Profile) (declared : List FlatVariable) (word : WordType) (e : TermTree) (m : Values) → Fits (types_of profile declared) m → Suits (types_of profile declared) word e → value_in m e < 2 ^ bits_of word.kind
+suits_fits profile declared word e m fits suits = subst (λ (kind : Kind). value_in m e < 2 ^ bits_of kind) suits.kind (value_fits (types_of profile declared) m fits suits.has_type)
+
+module _ (z : Setting) where
+  -- The code of an expression that no temporary lives beside.
+
+  pub first_runs : {e : TermTree} {word : WordType} → HasType (types_of z.code.profile z.declared) e word → base_of z + 4 * slots_to (height_of e) ≤ z.size → Runs z (16 * term_nodes e) (steps_of e) (expr_code z.declared (base_of z) 0 e) (Ready z) (Evaluated z e)
+  first_runs has room =
+      gives {P = Ready z}
+      (λ env s t fine ready done. record { held = done.held; there = done.there; kept = kept_less z (base_of z) (base_of z + 4 * 0) s t (omega arith) done.kept })
+      (expr_runs z (base_of z) (omega arith) (omega arith) has 0 (omega (arith, room)))
+
+  -- the state is shown after an expression as before it
+  pub ready_valued : (e : TermTree) (env : StraightState) (s t : machine.State) → Ready z env s → Evaluated z e env s t → Ready z env t
+  ready_valued e env s t ready valued = ready_after z env s t ready valued.held valued.kept
+
+  -- as long as nothing is written
+  pub ready_with : (env : StraightState) (s t : machine.State) → Ready z env s → HeldAt z t → t.bytes ≡ s.bytes → Ready z env t
+  ready_with env s t ready held same = ready_after z env s t ready held (kept_by z (base_of z) s t same)
+
+  pub ready_still : (env : StraightState) (s t : machine.State) → Ready z env s → Still s t → Ready z env t
+  ready_still env s t ready still = ready_with env s t ready (held_regs z s t (ap (λ (regs : ℕ → ℕ). regs 2) still.regs) still.bytes ready.held) still.bytes
+
+  -- or only a number that lies behind the control values
+  pub ready_behind : (n o w : ℕ) → next_offset z.declared z.controls 0 ≤ o → (env : StraightState) (s t : machine.State) → Ready z env s → Wrote z n o w s t → Ready z env t
+  ready_behind n o w above env s t ready wrote = ready_below z o above env s t ready wrote.held (wrote_kept z n o w s t wrote)
+
+  -- or only the result's slot
+  pub ready_result : (env : StraightState) (s t : machine.State) (w : ℕ) → Ready z env s → Wrote z 4 (result_offset z.declared) w s t → Ready z env t
+  ready_result env s t w ready wrote = record {
+    held = wrote.held;
+    fits = ready.fits;
+    variables_there = variables_kept z (result_offset z.declared) env s t (omega arith) ready (wrote_kept z 4 (result_offset z.declared) w s t wrote);
+    controls_there = λ c below. other_number z 4 (result_offset z.declared) w 4 (control_offset z.declared c) s t wrote (inr (omega arith)) ∙ ready.controls_there c below;
+  }
+
+  -- a word that is declared lies before the result
+  pub word_before : (x : ℕ) (word : WordType) (mutable : Bool) → slice_get z.declared x ≡ Some (word_as word mutable) → variable_offset z.declared x + 4 ≤ result_offset z.declared
+  word_before x word mutable known =
+      let e = ends_before_result z.declared x (word_as word mutable) known in
+      omega (arith, e)
+
+  pub wrote_as : (n o v w : ℕ) (s t : machine.State) → v ≡ w → Wrote z n o v s t → Wrote z n o w s t
+  wrote_as n o v w s t is wrote = subst (λ u. Wrote z n o u s t) is wrote
+
+  -- What is in a register, put into a word of the frame.
+  pub stored : {n : ℕ} {steps : Steps} {xs : List Instr} {P : Before} {Q : After} (r o : ℕ) (v : StraightState → ℕ) → (is_free r && (nat_lt r 32 && not (r == 28))) ≡ true → o % 4 ≡ 0 → o + 4 ≤ z.size
+      → Runs z n steps xs P Q → ((env : StraightState) (s t : machine.State) → P env s → Q env s t → HeldAt z t × (t.regs r ≡ v env))
+      → Runs z (n + 3) steps (xs ++ store_code r o) P (Then (setting z) Q (λ env s t. Wrote z 4 o (v env) s t))
+  stored r o v ok even inside runs has =
+      cheaper (omega arith)
+      (gives
+      (λ env s t fine given done. record {
+        middle = done.middle;
+        first = done.first;
+        second = record {
+          held = done.second.held;
+          written = done.second.bytes ∙ ap (λ w. with_number done.middle.bytes 4 (z.frame + o) w) (has env s done.middle given done.first).1;
+        };
+      })
+      (then_moves z (put Sw r o ∷ []) (simp ok) ((even, inside), tt) runs (λ env s t given done. (has env s t given done).0)))
+
+  -- an expression's value
+  pub assigned : {e : TermTree} {word : WordType} (o : ℕ) → HasType (types_of z.code.profile z.declared) e word → base_of z + 4 * slots_to (height_of e) ≤ z.size → o % 4 ≡ 0 → o + 4 ≤ z.size
+      → Runs z (16 * term_nodes e + 3) (steps_of e) (expr_code z.declared (base_of z) 0 e ++ store_code 5 o) (Ready z) (Then (setting z) (Evaluated z e) (λ env s t. Wrote z 4 o (value_in env.variables e) s t))
+  assigned {e = e} o has room even inside =
+      stored 5 o (λ env. value_in env.variables e) refl even inside (first_runs has room) (λ env s t ready valued. (valued.held, valued.there))
+
+  -- the loops' words are as they were once a value is written before them
+  pub hidden_valued : (depth : ℕ) → depth ≤ z.depths → (e : TermTree) (env : StraightState) (n o w : ℕ) (s m t : machine.State) → o + n ≤ next_offset z.declared z.controls 0
+      → Evaluated z e env s m → Wrote z n o w m t → Hidden z depth s t
+  hidden_valued depth within e env n o w s m t before valued wrote =
+      hidden_then z depth s m t (hidden_kept z depth s m within valued.kept) (hidden_wrote z depth n o w m t before wrote)

@@ -1,20 +1,14 @@
 -- The code of a statement that holds others, by the lists of its arms or its body.
-use Rattle.std.proofs.Common.{◌≡◌, ℕ, zero, suc, ◌+◌, ◌*◌, ◌^◌, ◌≤◌, ◌<◌, ◌++◌, List, [], ◌∷◌, length, max, drop, Vec, Global, Bor, refl, sym, ap, ap₂, ◌∙◌, subst, arith, append_assoc}
-use Rattle.std.proofs.Math.Nat.{le-max_left, le-max_right}
+use Rattle.std.proofs.Common.{◌≡◌, ℕ, zero, suc, ◌+◌, ◌*◌, ◌^◌, ◌≤◌, ◌<◌, ◌++◌, List, [], ◌∷◌, length, max, drop, get_or, Vec, Global, Bor, refl, sym, ap, ap₂, ◌∙◌, subst, arith, append_assoc}
+use Rattle.std.proofs.lemmas.List.{drop_more}
 use mathlib.Core.Former.{Count}
-use Rattle.branch_removal.specs.Bounds.{statement_nodes, block_nodes}
-use Rattle.branch_removal.specs.declared.straight.StraightStatement.{StraightStatement}
+use Rattle.codegen.proofs.Language.{statement_nodes, block_nodes, StraightStatement, StraightTree, StraightBlock}
+use Rattle.codegen.proofs.Language.{first, branch, repeats, straight_tree, straight_row, straight_block, FlatVariable}
+use Rattle.codegen.proofs.Language.{Term, term_tree}
 use Rattle.branch_removal.specs.declared.straight.StraightStatement as code
-use Rattle.branch_removal.specs.Straight.{StraightTree, StraightBlock, first, branch, repeats, straight_tree, straight_row, straight_block}
-use Rattle.codegen.specs.private.Emitted.{bounds_code, test_code, count_code, statement_code, block_code}
-use Rattle.codegen.specs.private.Jumps.{branch_code, loop_code}
-use Rattle.expression_code.specs.Layout.{variable_offset, next_offset, temporaries_offset}
-use Rattle.codegen.specs.private.Placed.{HasPlace, HavePlaces}
-use Rattle.expression_code.specs.TermCode.{expr_code}
-use Rattle.inline.specs.declared.flat.FlatVariable.{FlatVariable}
-use Rattle.inline.specs.declared.flat.Term.{Term}
-use Rattle.inline.specs.Flat.{term_tree}
-use Rattle.rv_code.specs.declared.instructions.Instr.{Instr}
+use Rattle.codegen.proofs.Machine.{bounds_code, test_code, count_code, statement_code, block_code, branch_code}
+use Rattle.codegen.proofs.Machine.{loop_code, variable_offset, next_offset, temporaries_offset, HasPlace, HavePlaces}
+use Rattle.codegen.proofs.Machine.{expr_code, Instr}
 
 rows : (n : _) (row : code.Row_of-StraightStatement n) → straight_row row ≡ straight_block (code.items-the_row-StraightStatement n row)
 rows n code.end_of-StraightStatement = refl
@@ -42,68 +36,56 @@ loop_tree x low high body =
     let inner = body_of (code.Repeat x low high body) in
     ap (repeats x (term_tree low.now) (term_tree high.now)) (rows inner.0 inner.1 ∙ ap straight_block (code.items_hidden-the_row-StraightStatement-0 body))
 
-module _ (declared : List FlatVariable) (controls depths depth : ℕ) where
-  module _ (statement : StraightStatement) (condition : Bor Term) (accepted otherwise : Vec StraightStatement Global) (is : statement ≡ code.Branch condition accepted otherwise)
-      (ones others : List StraightStatement) (one : ones ≡ accepted.items) (other : others ≡ otherwise.items) where
-    pub tree_of_branch : straight_tree statement ≡ branch (term_tree condition.now) (straight_block ones) (straight_block others)
-    tree_of_branch = ap straight_tree is ∙ (branch_tree condition accepted otherwise ∙ ap₂ (λ xs ys. branch (term_tree condition.now) (straight_block xs) (straight_block ys)) (sym one) (sym other))
+module _ {statement : StraightStatement} {condition : Bor Term} (accepted otherwise : Vec StraightStatement Global) (is : statement ≡ code.Branch condition accepted otherwise)
+    {ones others : List StraightStatement} (one : ones ≡ accepted.items) (other : others ≡ otherwise.items) where
+  pub tree_of_branch : straight_tree statement ≡ branch (term_tree condition.now) (straight_block ones) (straight_block others)
+  tree_of_branch = ap straight_tree is ∙ (branch_tree condition accepted otherwise ∙ ap₂ (λ xs ys. branch (term_tree condition.now) (straight_block xs) (straight_block ys)) (sym one) (sym other))
 
-    pub accepted_smaller : 2 * block_nodes (straight_block ones) + 1 < 2 * statement_nodes (straight_tree statement)
-    accepted_smaller = omega (arith, ap statement_nodes tree_of_branch)
+  pub accepted_smaller : 2 * block_nodes (straight_block ones) + 1 < 2 * statement_nodes (straight_tree statement)
+  accepted_smaller = omega (arith, ap statement_nodes tree_of_branch)
 
-    pub otherwise_smaller : 2 * block_nodes (straight_block others) + 1 < 2 * statement_nodes (straight_tree statement)
-    otherwise_smaller = omega (arith, ap statement_nodes tree_of_branch)
+  pub otherwise_smaller : 2 * block_nodes (straight_block others) + 1 < 2 * statement_nodes (straight_tree statement)
+  otherwise_smaller = omega (arith, ap statement_nodes tree_of_branch)
 
-    pub branch_placed : HasPlace declared controls depths depth (straight_tree statement) → HasPlace declared controls depths depth (branch (term_tree condition.now) (straight_block ones) (straight_block others))
-    branch_placed placed = subst (HasPlace declared controls depths depth) tree_of_branch placed
-
-    pub branch_near : (xs ys : List Instr) → HasPlace declared controls depths depth (straight_tree statement)
-        → xs ≡ block_code declared controls depths depth (straight_block ones) → ys ≡ block_code declared controls depths depth (straight_block others)
-        → 2 * (length xs + length ys) + 8 < 2 ^ 19
-    branch_near xs ys placed x y =
-        let near = (branch_placed placed).3 in
+  module _ (declared : List FlatVariable) (controls depths depth : ℕ) {xs ys : List Instr}
+      (x : xs ≡ block_code declared controls depths depth (straight_block ones)) (y : ys ≡ block_code declared controls depths depth (straight_block others)) where
+    pub branch_near : HasPlace declared controls depths depth (straight_tree statement) → 2 * (length xs + length ys) + 8 < 2 ^ 19
+    branch_near placed =
+        let near = (subst (HasPlace declared controls depths depth) tree_of_branch placed).3 in
         omega (arith, near, ap (λ (l : List Instr). length l) x, ap (λ (l : List Instr). length l) y)
 
-    pub branch_made : (old middle new xs ys : List Instr)
-        → xs ≡ block_code declared controls depths depth (straight_block ones) → ys ≡ block_code declared controls depths depth (straight_block others)
+    pub branch_made : (old middle new : List Instr)
         → middle ≡ old ++ expr_code declared (temporaries_offset declared controls depths) 0 (term_tree condition.now) → new ≡ middle ++ branch_code xs ys
         → new ≡ old ++ statement_code declared controls depths depth (straight_tree statement)
-    branch_made old middle new xs ys x y first' last' =
+    branch_made old middle new first' last' =
         last' ∙ (ap₂ (λ (front back : List Instr). front ++ back) first' (ap₂ branch_code x y)
         ∙ (append_assoc old (expr_code declared (temporaries_offset declared controls depths) 0 (term_tree condition.now)) (branch_code (block_code declared controls depths depth (straight_block ones)) (block_code declared controls depths depth (straight_block others)))
         ∙ ap (λ (s : StraightTree). old ++ statement_code declared controls depths depth s) (sym tree_of_branch)))
 
-  module _ (statement : StraightStatement) (x : ℕ) (low high : Bor Term) (body : Vec StraightStatement Global) (is : statement ≡ code.Repeat x low high body)
-      (inner : List StraightStatement) (items : inner ≡ body.items) where
-    pub tree_of_loop : straight_tree statement ≡ repeats x (term_tree low.now) (term_tree high.now) (straight_block inner)
-    tree_of_loop = ap straight_tree is ∙ (loop_tree x low high body ∙ ap (λ xs. repeats x (term_tree low.now) (term_tree high.now) (straight_block xs)) (sym items))
+module _ {statement : StraightStatement} {x : ℕ} {low high : Bor Term} (body : Vec StraightStatement Global) (is : statement ≡ code.Repeat x low high body)
+    {inner : List StraightStatement} (items : inner ≡ body.items) where
+  pub tree_of_loop : straight_tree statement ≡ repeats x (term_tree low.now) (term_tree high.now) (straight_block inner)
+  tree_of_loop = ap straight_tree is ∙ (loop_tree x low high body ∙ ap (λ xs. repeats x (term_tree low.now) (term_tree high.now) (straight_block xs)) (sym items))
 
-    pub body_smaller : 2 * block_nodes (straight_block inner) + 1 < 2 * statement_nodes (straight_tree statement)
-    body_smaller = omega (arith, ap statement_nodes tree_of_loop)
+  pub body_smaller : 2 * block_nodes (straight_block inner) + 1 < 2 * statement_nodes (straight_tree statement)
+  body_smaller = omega (arith, ap statement_nodes tree_of_loop)
 
-    pub loop_placed : HasPlace declared controls depths depth (straight_tree statement) → HasPlace declared controls depths depth (repeats x (term_tree low.now) (term_tree high.now) (straight_block inner))
-    loop_placed placed = subst (HasPlace declared controls depths depth) tree_of_loop placed
+  module _ (declared : List FlatVariable) (controls depths depth : ℕ) {xs ys : List Instr}
+      (test : xs ≡ test_code (next_offset declared controls depth))
+      (turn : ys ≡ count_code (next_offset declared controls depth) (variable_offset declared x) ++ block_code declared controls depths (depth + 1) (straight_block inner)) where
+    pub loop_near : HasPlace declared controls depths depth (straight_tree statement) → 2 * (length xs + length ys) + 8 < 2 ^ 19
+    loop_near placed =
+        let near = (subst (HasPlace declared controls depths depth) tree_of_loop placed).5 in
+        omega (arith, near, ap (λ (l : List Instr). length l) test, ap (λ (l : List Instr). length l) turn)
 
-    abbrev next : ℕ
-    next = next_offset declared controls depth
-
-    abbrev head_code : List Instr
-    head_code = test_code next
-
-    abbrev turn_code : List Instr
-    turn_code = count_code next (variable_offset declared x) ++ block_code declared controls depths (depth + 1) (straight_block inner)
-
-    pub loop_near : (xs ys : List Instr) → HasPlace declared controls depths depth (straight_tree statement) → xs ≡ head_code → ys ≡ turn_code → 2 * (length xs + length ys) + 8 < 2 ^ 19
-    loop_near xs ys placed x' y =
-        let near = (loop_placed placed).5 in
-        omega (arith, near, ap (λ (l : List Instr). length l) x', ap (λ (l : List Instr). length l) y)
-
-    pub loop_made : (old middle new xs ys : List Instr) → xs ≡ head_code → ys ≡ turn_code
-        → middle ≡ old ++ bounds_code declared next (temporaries_offset declared controls depths) (term_tree low.now) (term_tree high.now) → new ≡ middle ++ loop_code xs ys
+    pub loop_made : (old middle new : List Instr)
+        → middle ≡ old ++ bounds_code declared (next_offset declared controls depth) (temporaries_offset declared controls depths) (term_tree low.now) (term_tree high.now) → new ≡ middle ++ loop_code xs ys
         → new ≡ old ++ statement_code declared controls depths depth (straight_tree statement)
-    loop_made old middle new xs ys x' y first' last' =
-        last' ∙ (ap₂ (λ (front back : List Instr). front ++ back) first' (ap₂ loop_code x' y)
-        ∙ (append_assoc old (bounds_code declared next (temporaries_offset declared controls depths) (term_tree low.now) (term_tree high.now)) (loop_code head_code turn_code)
+    loop_made old middle new first' last' =
+        let next = next_offset declared controls depth in
+        let turn_code = count_code next (variable_offset declared x) ++ block_code declared controls depths (depth + 1) (straight_block inner) in
+        last' ∙ (ap₂ (λ (front back : List Instr). front ++ back) first' (ap₂ loop_code test turn)
+        ∙ (append_assoc old (bounds_code declared next (temporaries_offset declared controls depths) (term_tree low.now) (term_tree high.now)) (loop_code (test_code next) turn_code)
         ∙ ap (λ (s : StraightTree). old ++ statement_code declared controls depths depth s) (sym tree_of_loop)))
 
 -- Lists of statements.
@@ -113,6 +95,10 @@ nodes_behind [] zero = omega arith
 nodes_behind [] (suc i) = omega arith
 nodes_behind (s ∷ rest) zero = omega arith
 nodes_behind (s ∷ rest) (suc i) = omega (arith, nodes_behind rest i)
+
+-- the next item
+pub item_here : (statements : List StraightStatement) (i : ℕ) (item : StraightStatement) → i < length statements → item ≡ get_or statements i item → drop i statements ≡ item ∷ drop (i + 1) statements
+item_here statements i item below is = drop_more statements i item below ∙ ap (λ x. x ∷ drop (i + 1) statements) (sym is)
 
 pub smaller_here : (statements : List StraightStatement) (i : ℕ) (item : StraightStatement) → drop i statements ≡ item ∷ drop (i + 1) statements
     → 2 * statement_nodes (straight_tree item) < 2 * block_nodes (straight_block statements) + 1
@@ -128,6 +114,4 @@ pub greatest_here : (measure : StraightTree → ℕ) (measure_all : StraightBloc
     → (so_far whole : ℕ) → max so_far (measure_all (straight_block (drop i statements))) ≡ whole → whole ≤ 6000 → measure (straight_tree item) ≤ 6000
 greatest_here measure measure_all step statements i item here so_far whole all small =
     let both = ap (λ xs. measure_all (straight_block xs)) here ∙ step (straight_tree item) (straight_block (drop (i + 1) statements)) in
-    let l = le-max_left (measure (straight_tree item)) (measure_all (straight_block (drop (i + 1) statements))) in
-    let r = le-max_right so_far (measure_all (straight_block (drop i statements))) in
-    omega (arith, both, l, r, all, small)
+    omega (arith, both, all, small)

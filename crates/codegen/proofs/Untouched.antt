@@ -1,7 +1,7 @@
 -- What a run leaves alone: a register that none of its instructions writes, and a byte beside the accesses that it shows.
 use Rattle.std.proofs.Common.{◌≡◌, ◌≢◌, ◌⊎◌, ℕ, suc, ◌+◌, ◌%◌, ◌<◌, ◌≤◌, Bool, true, false, cond, nat_eq, List, Option, None, Some, All, refl, sym, ◌∙◌, subst, inl, inr, arith}
 use Rattle.codegen.specs.Bases.{IsInside}
-use Rattle.expression_code.proofs.Logic.{unwritten}
+use Rattle.codegen.proofs.Logic.{unwritten, with_number_below, with_number_above}
 use Rattle.rv_code.specs.declared.instructions.Instr.{Instr}
 use Rattle.rv_machine.specs.declared.effects.Effect.{Effect}
 use Rattle.rv_machine.specs.declared.effects.Effect.TheVariants.{Computes, Multiplies, Divides, Jumps, Branches, Passes, Loads, Stores, Calls, Breaks}
@@ -12,7 +12,6 @@ use Rattle.rv_machine.specs.Effects.{effect_of, load_size, store_size}
 use Rattle.rv_machine.specs.Leakage.{Leads, stays, turns}
 use Rattle.rv_machine.specs.Machine.{State, Code, IsAt, Ending, goes_on, stops, loaded, stored, with_value, with_stored, with_link, moved_to, next, ending_of, Turn, executes}
 use Rattle.rv_machine.specs.Sizes.{byte_count}
-use Rattle.rv_machine.proofs.ByteLaws.{with_number_below, with_number_above}
 use Rattle.rv_code.specs.declared.operations.LoadOperation.{LoadOperation}
 use Rattle.word.specs.declared.profile.Profile.{Profile}
 
@@ -34,58 +33,10 @@ either_goes : (Q : Observation → State → Type 0) (b : Bool) (e f : Ending) �
 either_goes Q true e f one other = one
 either_goes Q false e f one other = other
 
--- Registers.
-
-module _ (r : ℕ) (s : State) where
-  abbrev Keeps : Observation → State → Type 0
-  Keeps o t = t.regs r ≡ s.regs r
-
-  load_keeps : (operation : LoadOperation) (a rd : ℕ) (value : Option ℕ) → r ≢ rd → Goes Keeps (loaded s operation a rd value)
-  unfolding with_value
-  load_keeps operation a rd (Some value) other = unwritten s.regs rd _ r other
-  load_keeps operation a rd None other = tt
-
-  store_keeps : (n : Size) (a value : ℕ) (old : Option ℕ) → Goes Keeps (stored s n a value old)
-  unfolding with_stored
-  store_keeps n a value (Some old) = refl
-  store_keeps n a value None = tt
-
-  effect_keeps : (profile : Profile) (e : Effect) → r ≢ written_by e → Goes Keeps (ending_of profile e s)
-  unfolding ending_of with_value with_link moved_to
-  effect_keeps profile (Computes rd value) other = unwritten s.regs rd value r other
-  effect_keeps profile (Multiplies rd a b value) other = unwritten s.regs rd value r other
-  effect_keeps profile (Divides rd a b value) other = unwritten s.regs rd value r other
-  effect_keeps profile (Jumps rd target) other = either_goes Keeps (nat_eq (target % 4) 0) _ _ (unwritten s.regs rd (next s) r other) tt
-  effect_keeps profile (Branches target) other = either_goes Keeps (nat_eq (target % 4) 0) _ _ refl tt
-  effect_keeps profile Passes other = refl
-  effect_keeps profile (Loads operation rd a) other =
-      let n = byte_count (load_size operation) in
-      either_goes Keeps (nat_eq (a % n) 0) _ _ (load_keeps operation a rd (number_at s.bytes n a) other) tt
-  effect_keeps profile (Stores operation a value) other =
-      let n = byte_count (store_size operation) in
-      either_goes Keeps (nat_eq (a % n) 0) _ _ (store_keeps (store_size operation) a value (number_at s.bytes n a)) tt
-  effect_keeps profile Calls other = tt
-  effect_keeps profile Breaks other = tt
-
--- no instruction that stands in the code writes a register
-abbrev pub IsFree : Code → ℕ → Type 0
-IsFree code r = (p : ℕ) (i : Instr) → IsAt code p i → (regs : ℕ → ℕ) → r ≢ written_by (effect_of i p regs)
-
-module _ (code : Code) (r : ℕ) (free : IsFree code r) where
-  turn_keeps : {s t : State} {o : Observation} → Turn code s (goes_on o t) → t.regs r ≡ s.regs r
-  turn_keeps {s} (executes i even is ok ends) =
-      subst (λ (e : Ending). Goes (Keeps r s) e) (sym ends)
-      (effect_keeps r s code.profile (effect_of i s.pc s.regs) (free s.pc i (record { aligned = even; word = is; in_range = ok }) s.regs))
-
-  pub leads_keep : {n : ℕ} {s t : State} {seen : List Observation} → Leads code n s seen t → t.regs r ≡ s.regs r
-  leads_keep stays = refl
-  leads_keep (turns turn rest) = leads_keep rest ∙ turn_keeps turn
-
--- Bytes.
-
-module _ (frame size a : ℕ) (apart : (a < frame) ⊎ (frame + size ≤ a)) (s : State) where
-  abbrev KeepsByte : Observation → State → Type 0
-  KeepsByte o t = IsInside frame size o.event → t.bytes a ≡ s.bytes a
+module _ (frame size r a : ℕ) (apart : (a < frame) ⊎ (frame + size ≤ a)) (s : State) where
+  -- the register is as it was, and so is the byte where the access is inside
+  abbrev Leaves : Observation → State → Type 0
+  Leaves o t = (t.regs r ≡ s.regs r) × (IsInside frame size o.event → t.bytes a ≡ s.bytes a)
 
   put_beside : (n at value : ℕ) → frame ≤ at → at + n ≤ frame + size → with_number s.bytes n at value a ≡ s.bytes a
   put_beside n at value low high = by_side apart
@@ -94,39 +45,46 @@ module _ (frame size a : ℕ) (apart : (a < frame) ⊎ (frame + size ≤ a)) (s 
       by_side (inl below) = with_number_below s.bytes n at value a (omega (arith, below, low))
       by_side (inr above) = with_number_above s.bytes n at value a (omega (arith, above, high))
 
-  load_beside : (operation : LoadOperation) (at rd : ℕ) (value : Option ℕ) → Goes KeepsByte (loaded s operation at rd value)
+  load_leaves : (operation : LoadOperation) (at rd : ℕ) (value : Option ℕ) → r ≢ rd → Goes Leaves (loaded s operation at rd value)
   unfolding with_value
-  load_beside operation at rd (Some value) = λ inside. refl
-  load_beside operation at rd None = tt
+  load_leaves operation at rd (Some value) other = (unwritten s.regs rd _ r other, λ inside. refl)
+  load_leaves operation at rd None other = tt
 
-  store_beside : (n : Size) (at value : ℕ) (old : Option ℕ) → Goes KeepsByte (stored s n at value old)
+  store_leaves : (n : Size) (at value : ℕ) (old : Option ℕ) → Goes Leaves (stored s n at value old)
   unfolding with_stored
-  store_beside n at value (Some old) = λ inside. put_beside (byte_count n) at value inside.0 inside.1
-  store_beside n at value None = tt
+  store_leaves n at value (Some old) = (refl, λ inside. put_beside (byte_count n) at value inside.0 inside.1)
+  store_leaves n at value None = tt
 
-  effect_beside : (profile : Profile) (e : Effect) → Goes KeepsByte (ending_of profile e s)
+  effect_leaves : (profile : Profile) (e : Effect) → r ≢ written_by e → Goes Leaves (ending_of profile e s)
   unfolding ending_of with_value with_link moved_to
-  effect_beside profile (Jumps rd target) = either_goes KeepsByte (nat_eq (target % 4) 0) _ _ (λ inside. refl) tt
-  effect_beside profile (Branches target) = either_goes KeepsByte (nat_eq (target % 4) 0) _ _ (λ inside. refl) tt
-  effect_beside profile (Loads operation rd at) =
+  effect_leaves profile (Computes rd value) other = (unwritten s.regs rd value r other, λ inside. refl)
+  effect_leaves profile (Multiplies rd b c value) other = (unwritten s.regs rd value r other, λ inside. refl)
+  effect_leaves profile (Divides rd b c value) other = (unwritten s.regs rd value r other, λ inside. refl)
+  effect_leaves profile (Jumps rd target) other = either_goes Leaves (nat_eq (target % 4) 0) _ _ (unwritten s.regs rd (next s) r other, λ inside. refl) tt
+  effect_leaves profile (Branches target) other = either_goes Leaves (nat_eq (target % 4) 0) _ _ (refl, λ inside. refl) tt
+  effect_leaves profile Passes other = (refl, λ inside. refl)
+  effect_leaves profile (Loads operation rd at) other =
       let n = byte_count (load_size operation) in
-      either_goes KeepsByte (nat_eq (at % n) 0) _ _ (load_beside operation at rd (number_at s.bytes n at)) tt
-  effect_beside profile (Stores operation at value) =
+      either_goes Leaves (nat_eq (at % n) 0) _ _ (load_leaves operation at rd (number_at s.bytes n at) other) tt
+  effect_leaves profile (Stores operation at value) other =
       let n = byte_count (store_size operation) in
-      either_goes KeepsByte (nat_eq (at % n) 0) _ _ (store_beside (store_size operation) at value (number_at s.bytes n at)) tt
-  effect_beside profile Calls = tt
-  effect_beside profile Breaks = tt
-  effect_beside profile (Computes rd value) = λ inside. refl
-  effect_beside profile (Multiplies rd b c value) = λ inside. refl
-  effect_beside profile (Divides rd b c value) = λ inside. refl
-  effect_beside profile Passes = λ inside. refl
+      either_goes Leaves (nat_eq (at % n) 0) _ _ (store_leaves (store_size operation) at value (number_at s.bytes n at)) tt
+  effect_leaves profile Calls other = tt
+  effect_leaves profile Breaks other = tt
 
-module _ (code : Code) (frame size a : ℕ) (apart : (a < frame) ⊎ (frame + size ≤ a)) where
-  turn_beside : {s t : State} {o : Observation} → Turn code s (goes_on o t) → IsInside frame size o.event → t.bytes a ≡ s.bytes a
-  turn_beside {s} (executes i even is ok ends) =
-      subst (λ (e : Ending). Goes (KeepsByte frame size a apart s) e) (sym ends) (effect_beside frame size a apart s code.profile (effect_of i s.pc s.regs))
+-- no instruction that stands in the code writes a register
+abbrev pub IsFree : Code → ℕ → Type 0
+IsFree code r = (p : ℕ) (i : Instr) → IsAt code p i → (regs : ℕ → ℕ) → r ≢ written_by (effect_of i p regs)
 
-  pub leads_beside : {n : ℕ} {s t : State} {seen : List Observation} → Leads code n s seen t → All (λ (o : Observation). IsInside frame size o.event) seen → t.bytes a ≡ s.bytes a
-  leads_beside stays inside = refl
-  leads_beside (turns {o = o} turn rest) inside =
-      leads_beside rest (λ k d below. inside (suc k) d (omega (arith, below))) ∙ turn_beside turn (inside 0 o (omega arith))
+module _ (code : Code) (frame size r a : ℕ) (free : IsFree code r) (apart : (a < frame) ⊎ (frame + size ≤ a)) where
+  turn_leaves : {s t : State} {o : Observation} → Turn code s (goes_on o t) → Leaves frame size r a apart s o t
+  turn_leaves {s} (executes i even is ok ends) =
+      subst (λ (e : Ending). Goes (Leaves frame size r a apart s) e) (sym ends)
+      (effect_leaves frame size r a apart s code.profile (effect_of i s.pc s.regs) (free s.pc i (record { aligned = even; word = is; in_range = ok }) s.regs))
+
+  pub leads_leave : {n : ℕ} {s t : State} {seen : List Observation} → Leads code n s seen t → All (λ (o : Observation). IsInside frame size o.event) seen → (t.regs r ≡ s.regs r) × (t.bytes a ≡ s.bytes a)
+  leads_leave stays inside = (refl, refl)
+  leads_leave (turns {o = o} turn rest) inside =
+      let one = turn_leaves turn in
+      let more = leads_leave rest (λ k d below. inside (suc k) d (omega (arith, below))) in
+      (more.0 ∙ one.0, more.1 ∙ one.1 (inside 0 o (omega arith)))

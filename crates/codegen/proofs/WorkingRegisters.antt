@@ -1,71 +1,55 @@
--- Code that writes working registers alone, x5 and those after it: so is all that is emitted for expressions.
-use Rattle.std.proofs.Common.{◌≡◌, ◌≢◌, ℕ, zero, suc, ◌+◌, ◌/◌, ◌%◌, ◌<◌, ◌≤◌, ◌==◌, Bool, true, false, cond, nat_lt, List, [], ◌∷◌, ◌++◌, map, Some, slice_get, refl, ◌∙◌, subst, arith}
+-- Code that writes working registers alone, x5 and those after it: so is all that is emitted, for expressions, for statements
+-- and for the result. Whether a list does so is computed, but for the lists that it is put together of.
+use Rattle.std.proofs.Common.{◌≡◌, ◌≢◌, ℕ, zero, suc, ◌+◌, ◌/◌, ◌%◌, ◌<◌, ◌≤◌, ◌==◌, ◌&&◌, Bool, true, false, cond, nat_lt, nat_le, List, [], ◌∷◌, ◌++◌, map, Option, None, Some, slice_get, refl, ◌∙◌, subst, arith}
+use Rattle.std.proofs.lemmas.Bool.{eqb-true, false≢true}
 use Rattle.std.proofs.lemmas.Bool.Decides.{nat_tests}
 use Rattle.std.proofs.lemmas.Option.{none-some, same_Some}
+use Rattle.codegen.proofs.Language.{StraightTree, set, clear, fill, put, take, set_under, put_under, branch, repeats}
+use Rattle.codegen.proofs.Language.{StraightBlock, nothing, first, FlatVariable, TermTree, number, truth, variable}
+use Rattle.codegen.proofs.Language.{prefix, binary, rotate, convert, select, element, Kind, Uint16}
+use Rattle.codegen.proofs.Language.{Uint32, BinaryOperator, PrefixOperator, element_bytes, Width, W8, W16, W32}
+use Rattle.codegen.specs.private.Emitted.{within_code, element_store_code, fill_code, statement_code, block_code}
+use Rattle.codegen.specs.private.Generated.{result_code}
+use Rattle.codegen.specs.private.Jumps.{branch_code, loop_code}
 use Rattle.codegen.proofs.Untouched.{written_by}
-use Rattle.expression_code.specs.Layout.{variable_offset}
 use Rattle.expression_code.specs.Registers.{register_count, has_register, home, slot_of}
-use Rattle.expression_code.specs.TermCode.{is_near, load_code, store_code, constant_code, fetch_code, keep_code, cut_code, Step, between, turned, product, division, step_code, Finish, alone, gives_zero, gives_more, narrowed, of_truths, finish_code, row_of, operator_code, prefix_code, around_code, rotate_code, choice_code, scale_code, raise_code, address_code, element_code, kind_at, expr_code}
-use Rattle.inline.specs.declared.flat.FlatVariable.{FlatVariable}
-use Rattle.inline.specs.Flat.{TermTree, number, truth, variable, prefix, binary, rotate, convert, select, element}
-use Rattle.language.specs.declared.signature.Kind.{Kind}
-use Rattle.language.specs.declared.signature.Kind.TheVariants.{Boolean, Uint8, Uint16, Uint32}
-use Rattle.language.specs.declared.tree.BinaryOperator.{BinaryOperator}
-use Rattle.language.specs.declared.tree.PrefixOperator.{PrefixOperator}
+use Rattle.expression_code.specs.TermCode.{is_near, load_code, store_code, constant_code, fetch_code, keep_code, cut_code, Step, between, turned, product, division, step_code, Finish, alone, gives_zero, gives_more, narrowed, of_truths, finish_code, row_of, operator_code, prefix_code, around_code, scale_code, raise_code, expr_code}
 use Rattle.language.specs.declared.tree.PrefixOperator.TheVariants as prefixes
-use Rattle.language.specs.Operators.{width_of}
 use Rattle.rv_code.specs.declared.instructions.Instr.{Instr}
-use Rattle.rv_code.specs.declared.instructions.Instr.TheVariants.{Upper, Jump, JumpRegister, Branch, Load, Store, Immediate, Shift, Register, Multiply, Divide, Fence, Ecall, Ebreak}
+use Rattle.rv_code.specs.declared.instructions.Instr.TheVariants.{Upper, Jump, JumpRegister, Branch, Load, Store, Immediate, Shift, Register, Multiply, Divide}
 use Rattle.rv_code.specs.declared.operations.UpperOperation.TheVariants.{Lui, Auipc}
 use Rattle.rv_code.specs.Words.{word_of, IsInstr, store_opcode, branch_opcode}
 use Rattle.rv_machine.specs.declared.effects.Effect.TheVariants.{Branches, Passes}
 use Rattle.rv_machine.specs.Effects.{effect_of}
-use Rattle.word.specs.declared.width.Width.{Width}
-use Rattle.word.specs.declared.width.Width.TheVariants.{W8, W16, W32}
-use Rattle.word.specs.Operators.{word_of as word_of_truth}
-use Rattle.word.specs.Widths.{bits}
 
-abbrev pub IsWorking : ℕ → Type 0
-IsWorking r = (5 ≤ r) × (r < 32)
+abbrev pub is_working : ℕ → Bool
+is_working r = nat_le 5 r && nat_lt r 32
 
 -- a jump keeps no link
-abbrev pub WritesWorking : Instr → Type 0
-WritesWorking (Upper operation rd immediate) = IsWorking rd
-WritesWorking (Jump rd offset) = rd ≡ 0
-WritesWorking (JumpRegister rd rs1 offset) = ⊥
-WritesWorking (Branch test rs1 rs2 offset) = Unit {0}
-WritesWorking (Load operation rd rs1 offset) = IsWorking rd
-WritesWorking (Store operation rs2 rs1 offset) = Unit {0}
-WritesWorking (Immediate operation rd rs1 immediate) = IsWorking rd
-WritesWorking (Shift operation rd rs1 amount) = IsWorking rd
-WritesWorking (Register operation rd rs1 rs2) = IsWorking rd
-WritesWorking (Multiply operation rd rs1 rs2) = IsWorking rd
-WritesWorking (Divide operation rd rs1 rs2) = IsWorking rd
-WritesWorking (Fence mode before after rs1 rd) = ⊥
-WritesWorking Ecall = ⊥
-WritesWorking Ebreak = ⊥
-
-abbrev pub EachWorks : List Instr → Type 0
-EachWorks [] = Unit {0}
-EachWorks (i ∷ is) = WritesWorking i × EachWorks is
+abbrev pub writes_working : Instr → Bool
+writes_working (Upper operation rd immediate) = is_working rd
+writes_working (Jump rd offset) = rd == 0
+writes_working (Branch test rs1 rs2 offset) = true
+writes_working (Load operation rd rs1 offset) = is_working rd
+writes_working (Store operation rs2 rs1 offset) = true
+writes_working (Immediate operation rd rs1 immediate) = is_working rd
+writes_working (Shift operation rd rs1 amount) = is_working rd
+writes_working (Register operation rd rs1 rs2) = is_working rd
+writes_working (Multiply operation rd rs1 rs2) = is_working rd
+writes_working (Divide operation rd rs1 rs2) = is_working rd
+writes_working _ = false
 
 -- each instruction of a list writes working registers alone
-pub record Works (is : List Instr) : Type 0 where
-  pub each : EachWorks is
+abbrev pub all_work : List Instr → Bool
+all_work [] = true
+all_work (i ∷ is) = writes_working i && all_work is
 
-each_then : (xs ys : List Instr) → EachWorks xs → EachWorks ys → EachWorks (xs ++ ys)
-each_then [] ys one other = other
-each_then (x ∷ xs) ys one other = (one.0, each_then xs ys one.1 other)
+working : (r : ℕ) → is_working r ≡ true → (5 ≤ r) × (r < 32)
+working r works = (grind (arith, nat_tests), grind (arith, nat_tests))
 
-pub works_then : {xs ys : List Instr} → Works xs → Works ys → Works (xs ++ ys)
-works_then {xs} {ys} one other = record { each = each_then xs ys one.each other.each }
-
-pub works_either : (b : Bool) (xs ys : List Instr) → Works xs → Works ys → Works (cond b xs ys)
-works_either true xs ys one other = one
-works_either false xs ys one other = other
-
-pub works_none : Works []
-works_none = record { each = tt }
+first_and_rest : (a b : Bool) → (a && b) ≡ true → (a ≡ true) × (b ≡ true)
+first_and_rest true true both = (refl, refl)
+first_and_rest a b both = absurd (false≢true both)
 
 -- The words of such instructions keep the lower registers, whichever instructions they are read as.
 module _ (r : ℕ) (some : 0 < r) (low : r < 5) where
@@ -73,23 +57,20 @@ module _ (r : ℕ) (some : 0 < r) (low : r < 5) where
   abbrev IsCalm : ℕ → Type 0
   IsCalm w = w % 128 ≢ store_opcode → w % 128 ≢ branch_opcode → w / 128 % 32 ≢ r
 
-  works_calm : (i : Instr) → WritesWorking i → IsCalm (word_of i)
+  works_calm : (i : Instr) → writes_working i ≡ true → IsCalm (word_of i)
   unfolding word_of
-  works_calm (Upper Lui rd immediate) works store branch e = omega (arith, works, e)
-  works_calm (Upper Auipc rd immediate) works store branch e = omega (arith, works, e)
-  works_calm (Jump rd offset) works store branch e = omega (arith, works, e)
-  works_calm (JumpRegister rd rs1 offset) works store branch e = works
-  works_calm (Branch test rs1 rs2 offset) works store branch e = branch (omega arith)
-  works_calm (Load operation rd rs1 offset) works store branch e = omega (arith, works, e)
-  works_calm (Store operation rs2 rs1 offset) works store branch e = store (omega arith)
-  works_calm (Immediate operation rd rs1 immediate) works store branch e = omega (arith, works, e)
-  works_calm (Shift operation rd rs1 amount) works store branch e = omega (arith, works, e)
-  works_calm (Register operation rd rs1 rs2) works store branch e = omega (arith, works, e)
-  works_calm (Multiply operation rd rs1 rs2) works store branch e = omega (arith, works, e)
-  works_calm (Divide operation rd rs1 rs2) works store branch e = omega (arith, works, e)
-  works_calm (Fence mode before after rs1 rd) works store branch e = works
-  works_calm Ecall works store branch e = works
-  works_calm Ebreak works store branch e = works
+  works_calm (Upper Lui rd immediate) works no_store no_branch e = omega (arith, working rd works, e)
+  works_calm (Upper Auipc rd immediate) works no_store no_branch e = omega (arith, working rd works, e)
+  works_calm (Jump rd offset) works no_store no_branch e = omega (arith, eqb-true rd 0 works, e)
+  works_calm (Branch test rs1 rs2 offset) works no_store no_branch e = no_branch (omega arith)
+  works_calm (Load operation rd rs1 offset) works no_store no_branch e = omega (arith, working rd works, e)
+  works_calm (Store operation rs2 rs1 offset) works no_store no_branch e = no_store (omega arith)
+  works_calm (Immediate operation rd rs1 immediate) works no_store no_branch e = omega (arith, working rd works, e)
+  works_calm (Shift operation rd rs1 amount) works no_store no_branch e = omega (arith, working rd works, e)
+  works_calm (Register operation rd rs1 rs2) works no_store no_branch e = omega (arith, working rd works, e)
+  works_calm (Multiply operation rd rs1 rs2) works no_store no_branch e = omega (arith, working rd works, e)
+  works_calm (Divide operation rd rs1 rs2) works no_store no_branch e = omega (arith, working rd works, e)
+  works_calm other works no_store no_branch e = absurd (false≢true works)
 
   branch_writes : (b : Bool) (target : ℕ) → written_by (cond b (Branches target) Passes) ≡ 0
   branch_writes true target = refl
@@ -110,127 +91,145 @@ module _ (r : ℕ) (some : 0 < r) (low : r < 5) where
   calm_keeps (Divide operation rd rs1 rs2) ok calm pc regs e = calm (λ h. omega (arith, h)) (λ h. omega (arith, h)) (omega (arith, e, ok))
   calm_keeps other ok calm pc regs e = omega (arith, e)
 
-  pub calm_word : (is : List Instr) → EachWorks is → (k w : ℕ) → slice_get (map word_of is) k ≡ Some w → IsCalm w
+  pub calm_word : (is : List Instr) → all_work is ≡ true → (k w : ℕ) → slice_get (map word_of is) k ≡ Some w → IsCalm w
   calm_word [] works k w is = absurd (none-some w is)
-  calm_word (i ∷ rest) works zero w is = subst IsCalm (same_Some (word_of i) w is) (works_calm i works.0)
-  calm_word (i ∷ rest) works (suc k) w is = calm_word rest works.1 k w is
+  calm_word (i ∷ rest) works zero w is = subst IsCalm (same_Some (word_of i) w is) (works_calm i (first_and_rest (writes_working i) (all_work rest) works).0)
+  calm_word (i ∷ rest) works (suc k) w is = calm_word rest (first_and_rest (writes_working i) (all_work rest) works).1 k w is
 
--- Instructions.
+-- Lists put together.
 
-pub address_works : IsWorking 28
-address_works = (omega arith, omega arith)
+work_then : (xs ys : List Instr) → all_work (xs ++ ys) ≡ (all_work xs && all_work ys)
+work_then [] ys = refl
+work_then (x ∷ xs) ys = rw (work_then xs ys) (regrouped (writes_working x) (all_work xs) (all_work ys))
+  where
+    regrouped : (a b c : Bool) → (a && (b && c)) ≡ ((a && b) && c)
+    regrouped true b c = refl
+    regrouped false b c = refl
 
-pub load_works : (r o : ℕ) → IsWorking r → Works (load_code r o)
-load_works r o r_works = works_either (is_near o) _ _ (record { each = (r_works, tt) }) (record { each = (r_works, (r_works, (r_works, tt))) })
+work_either : (b : Bool) (xs ys : List Instr) → all_work xs ≡ true → all_work ys ≡ true → all_work (cond b xs ys) ≡ true
+work_either true xs ys one other = one
+work_either false xs ys one other = other
 
-pub store_works : (r o : ℕ) → Works (store_code r o)
-store_works r o = works_either (is_near o) _ _ (record { each = (tt, tt) }) (record { each = (address_works, (address_works, (tt, tt))) })
+home_works : (place spare : ℕ) → is_working spare ≡ true → is_working (home place spare) ≡ true
+home_works place spare works = by_case (nat_lt place register_count) refl
+  where
+    by_case : (b : Bool) → nat_lt place register_count ≡ b → is_working (cond b (5 + place) spare) ≡ true
+    by_case true near = grind (arith, nat_tests)
+    by_case false near = works
 
-pub constant_works : (r n : ℕ) → IsWorking r → Works (constant_code r n)
-constant_works r n r_works = works_either (is_near n) _ _ (record { each = (r_works, tt) }) (record { each = (r_works, (r_works, tt)) })
+load_works : (r o : ℕ) → is_working r ≡ true → all_work (load_code r o) ≡ true
+load_works r o works = work_either (is_near o) _ _ (simp works) (simp works)
 
-fetch_works : (free place spare : ℕ) → IsWorking spare → Works (fetch_code free place spare)
-fetch_works free place spare works = works_either (has_register place) _ _ works_none (load_works spare (slot_of free place) works)
+store_works : (r o : ℕ) → all_work (store_code r o) ≡ true
+store_works r o = work_either (is_near o) _ _ refl refl
 
-keep_works : (free place : ℕ) → Works (keep_code free place)
-keep_works free place = works_either (has_register place) _ _ works_none (store_works 29 (slot_of free place))
+constant_works : (r n : ℕ) → is_working r ≡ true → all_work (constant_code r n) ≡ true
+constant_works r n works = work_either (is_near n) _ _ (simp works) (simp works)
 
-cut_works : (r : ℕ) (w : Width) → IsWorking r → Works (cut_code r w)
-cut_works r W8 r_works = record { each = (r_works, tt) }
-cut_works r W16 r_works = record { each = (r_works, (r_works, tt)) }
-cut_works r W32 r_works = works_none
+fetch_works : (free place spare : ℕ) → is_working spare ≡ true → all_work (fetch_code free place spare) ≡ true
+fetch_works free place spare works = work_either (has_register place) _ _ refl (load_works spare (slot_of free place) works)
 
-step_works : (l r : ℕ) (step : Step) → IsWorking l → WritesWorking (step_code l r step)
+keep_works : (free place : ℕ) → all_work (keep_code free place) ≡ true
+keep_works free place = work_either (has_register place) _ _ refl (store_works 29 (slot_of free place))
+
+-- Operators.
+
+cut_works : (r : ℕ) (w : Width) → is_working r ≡ true → all_work (cut_code r w) ≡ true
+cut_works r W8 works = simp works
+cut_works r W16 works = simp works
+cut_works r W32 works = refl
+
+step_works : (l r : ℕ) (step : Step) → is_working l ≡ true → writes_working (step_code l r step) ≡ true
 step_works l r (between operation) works = works
 step_works l r (turned operation) works = works
 step_works l r product works = works
 step_works l r (division operation) works = works
 
-module _ (l r : ℕ) (l_works : IsWorking l) (r_works : IsWorking r) where
-  finish_works : (w : Width) (f : Finish) (i : Instr) → WritesWorking i → Works (finish_code l r w f i)
-  finish_works w alone i works = record { each = (works, tt) }
-  finish_works w gives_zero i works = record { each = (works, (l_works, tt)) }
-  finish_works w gives_more i works = record { each = (works, (l_works, tt)) }
-  finish_works w narrowed i works = record { each = (works, (cut_works l w l_works).each) }
-  finish_works w of_truths i works = record { each = (r_works, (l_works, (works, tt))) }
+finish_works : (l r : ℕ) (w : Width) (f : Finish) (i : Instr) → is_working l ≡ true → is_working r ≡ true → writes_working i ≡ true → all_work (finish_code l r w f i) ≡ true
+finish_works l r w alone i one other works = simp works
+finish_works l r w gives_zero i one other works = simp (works, one)
+finish_works l r w gives_more i one other works = simp (works, one)
+finish_works l r w narrowed i one other works = simp (works, cut_works, one)
+finish_works l r w of_truths i one other works = simp (works, one, other)
 
-  operator_works : (o : BinaryOperator) (w : Width) → Works (operator_code l r o w)
-  operator_works o w = finish_works w (row_of o).finish (step_code l r (row_of o).step) (step_works l r (row_of o).step l_works)
+operator_works : (l r : ℕ) (o : BinaryOperator) (w : Width) → is_working l ≡ true → is_working r ≡ true → all_work (operator_code l r o w) ≡ true
+operator_works l r o w one other = finish_works l r w (row_of o).finish (step_code l r (row_of o).step) one other (step_works l r (row_of o).step one)
 
-  choice_works : (c : ℕ) → IsWorking c → Works (choice_code c l r)
-  choice_works c c_works = record { each = (c_works, (l_works, (l_works, (c_works, tt)))) }
+prefix_works : (r : ℕ) (o : PrefixOperator) (w : Width) → is_working r ≡ true → all_work (prefix_code r o w) ≡ true
+prefix_works r prefixes.Not w works = simp works
+prefix_works r prefixes.Complement w works = simp (works, cut_works)
+prefix_works r prefixes.Negate w works = simp (works, cut_works)
 
-module _ (r : ℕ) (r_works : IsWorking r) where
-  prefix_works : (o : PrefixOperator) (w : Width) → Works (prefix_code r o w)
-  prefix_works prefixes.Not w = record { each = (r_works, tt) }
-  prefix_works prefixes.Complement w = record { each = (r_works, (r_works, (cut_works r w r_works).each)) }
-  prefix_works prefixes.Negate w = record { each = (r_works, (cut_works r w r_works).each) }
+around_works : (r : ℕ) (w : Width) (amount : ℕ) → is_working r ≡ true → all_work (around_code r w amount) ≡ true
+around_works r w amount works = work_either (amount == 0) _ _ refl (simp (works, cut_works))
 
-  around_works : (w : Width) (amount : ℕ) → Works (around_code r w amount)
-  around_works w amount =
-      works_either (amount == 0) _ _ works_none (record { each = ((omega arith, omega arith), (r_works, (r_works, (cut_works r w r_works).each))) })
+-- Addresses and elements.
 
-  rotate_works : (w : Width) (amount : ℕ) → Works (rotate_code r w amount)
-  rotate_works w amount = works_then (cut_works r w r_works) (around_works w (amount % bits w))
+scale_works : (r : ℕ) (kind : Kind) → is_working r ≡ true → all_work (scale_code r kind) ≡ true
+scale_works r Uint16 works = simp works
+scale_works r Uint32 works = simp works
+scale_works r kind works = refl
 
-  scale_works : (kind : Kind) → Works (scale_code r kind)
-  scale_works Boolean = works_none
-  scale_works Uint8 = works_none
-  scale_works Uint16 = record { each = (r_works, tt) }
-  scale_works Uint32 = record { each = (r_works, tt) }
+raise_works : (r o : ℕ) → is_working r ≡ true → all_work (raise_code r o) ≡ true
+raise_works r o works = work_either (is_near o) _ _ refl (simp works)
 
-  raise_works : (o : ℕ) → Works (raise_code r o)
-  raise_works o = works_either (is_near o) _ _ works_none (record { each = (address_works, (r_works, tt)) })
+element_store_works : (kind : Kind) (o : ℕ) → all_work (element_store_code kind o) ≡ true
+element_store_works kind o = work_either (is_near o) _ _ refl refl
 
-  pub element_address_works : (kind : Kind) (o : ℕ) → Works (address_code r kind o)
-  element_address_works kind o = works_then (scale_works kind) (record { each = (r_works, (raise_works o).each) })
-
-  element_works : (kind : Kind) (o : ℕ) → Works (element_code r kind o)
-  element_works kind o = works_then (element_address_works kind o) (record { each = (r_works, tt) })
+ruleset pieces_work = (work_then, home_works, load_works, store_works, constant_works, fetch_works, keep_works, cut_works, operator_works, prefix_works, around_works, scale_works, raise_works, element_store_works)
 
 -- Expressions.
 
-home_by : (place spare : ℕ) (b : Bool) → nat_lt place register_count ≡ b → IsWorking spare → IsWorking (cond b (5 + place) spare)
-home_by place spare true near works =
-    let below : place < register_count = grind (arith, nat_tests) in
-    (omega arith, omega (arith, below))
-home_by place spare false near works = works
-
-home_works : (place spare : ℕ) → IsWorking spare → IsWorking (home place spare)
-home_works place spare works = home_by place spare (nat_lt place register_count) refl works
-
-first_works : IsWorking 29
-first_works = (omega arith, omega arith)
-
-second_works : IsWorking 30
-second_works = (omega arith, omega arith)
-
-third_works : IsWorking 31
-third_works = (omega arith, omega arith)
-
-pub expr_works : (declared : List FlatVariable) (free place : ℕ) (e : TermTree) → Works (expr_code declared free place e)
-expr_works declared free place (number value kind) = works_then (constant_works (home place 29) value (home_works place 29 first_works)) (keep_works free place)
-expr_works declared free place (truth value) = works_then (constant_works (home place 29) (word_of_truth value) (home_works place 29 first_works)) (keep_works free place)
-expr_works declared free place (variable x) = works_then (load_works (home place 29) (variable_offset declared x) (home_works place 29 first_works)) (keep_works free place)
-expr_works declared free place (prefix operator width operand) =
-    works_then (works_then (works_then (expr_works declared free place operand) (fetch_works free place 29 first_works))
-    (prefix_works (home place 29) (home_works place 29 first_works) operator width)) (keep_works free place)
+expr_works : (declared : List FlatVariable) (free place : ℕ) (e : TermTree) → all_work (expr_code declared free place e) ≡ true
+expr_works declared free place (number value kind) = simp pieces_work
+expr_works declared free place (truth value) = simp pieces_work
+expr_works declared free place (variable x) = simp pieces_work
+expr_works declared free place (prefix operator width operand) = simp (pieces_work, expr_works declared free place operand)
 expr_works declared free place (binary source operator width left right) =
-    works_then (works_then (works_then (works_then (works_then (expr_works declared free place left) (expr_works declared free (place + 1) right))
-    (fetch_works free place 29 first_works)) (fetch_works free (place + 1) 30 second_works))
-    (operator_works (home place 29) (home (place + 1) 30) (home_works place 29 first_works) (home_works (place + 1) 30 second_works) operator width)) (keep_works free place)
-expr_works declared free place (rotate width operand amount) =
-    works_then (works_then (works_then (expr_works declared free place operand) (fetch_works free place 29 first_works))
-    (rotate_works (home place 29) (home_works place 29 first_works) width amount)) (keep_works free place)
-expr_works declared free place (convert kind operand) =
-    works_then (works_then (works_then (expr_works declared free place operand) (fetch_works free place 29 first_works))
-    (cut_works (home place 29) (width_of kind) (home_works place 29 first_works))) (keep_works free place)
+    simp (pieces_work, expr_works declared free place left, expr_works declared free (place + 1) right)
+expr_works declared free place (rotate width operand amount) = simp (pieces_work, expr_works declared free place operand)
+expr_works declared free place (convert kind operand) = simp (pieces_work, expr_works declared free place operand)
 expr_works declared free place (select condition accepted otherwise) =
-    works_then (works_then (works_then (works_then (works_then
-    (works_then (works_then (expr_works declared free place condition) (expr_works declared free (place + 1) accepted)) (expr_works declared free (place + 2) otherwise))
-    (fetch_works free place 29 first_works)) (fetch_works free (place + 1) 30 second_works)) (fetch_works free (place + 2) 31 third_works))
-    (choice_works (home (place + 1) 30) (home (place + 2) 31) (home_works (place + 1) 30 second_works) (home_works (place + 2) 31 third_works) (home place 29) (home_works place 29 first_works)))
-    (keep_works free place)
-expr_works declared free place (element source x size index) =
-    works_then (works_then (works_then (expr_works declared free place index) (fetch_works free place 29 first_works))
-    (element_works (home place 29) (home_works place 29 first_works) (kind_at declared x) (variable_offset declared x))) (keep_works free place)
+    simp (pieces_work, expr_works declared free place condition, expr_works declared free (place + 1) accepted, expr_works declared free (place + 2) otherwise)
+expr_works declared free place (element source x size index) = simp (pieces_work, expr_works declared free place index)
+
+-- Statements.
+
+within_works : (declared : List FlatVariable) (within : Option ℕ) → all_work (within_code declared within) ≡ true
+within_works declared None = refl
+within_works declared (Some control) = simp pieces_work
+
+fill_works : (declared : List FlatVariable) (free : ℕ) (kind : Kind) (o : ℕ) (es : List TermTree) → all_work (fill_code declared free kind o es) ≡ true
+fill_works declared free kind o [] = refl
+fill_works declared free kind o (e ∷ es) = simp (pieces_work, expr_works, fill_works declared free kind (o + element_bytes kind) es)
+
+branch_works : (xs ys : List Instr) → all_work xs ≡ true → all_work ys ≡ true → all_work (branch_code xs ys) ≡ true
+branch_works xs ys one other = simp (work_then, one, other)
+
+loop_works : (test body : List Instr) → all_work test ≡ true → all_work body ≡ true → all_work (loop_code test body) ≡ true
+loop_works test body one other = simp (work_then, one, other)
+
+ruleset statements_work = (pieces_work, expr_works, within_works, fill_works, branch_works, loop_works)
+
+module _ (declared : List FlatVariable) (controls depths : ℕ) where
+  mutual
+    statement_works : (depth : ℕ) (s : StraightTree) → all_work (statement_code declared controls depths depth s) ≡ true
+    statement_works depth (set x value) = simp statements_work
+    statement_works depth (clear x size) = simp statements_work
+    statement_works depth (fill x values) = simp statements_work
+    statement_works depth (put place x size index value) = simp statements_work
+    statement_works depth (take control within condition) = simp statements_work
+    statement_works depth (set_under control x value) = simp statements_work
+    statement_works depth (put_under control place x size index value) = simp statements_work
+    statement_works depth (branch condition accepted otherwise) = simp (statements_work, block_works depth accepted, block_works depth otherwise)
+    statement_works depth (repeats x low high body) = simp (statements_work, block_works (depth + 1) body)
+
+    pub block_works : (depth : ℕ) (b : StraightBlock) → all_work (block_code declared controls depths depth b) ≡ true
+    block_works depth nothing = refl
+    block_works depth (first s rest) = simp (work_then, statement_works depth s, block_works depth rest)
+
+-- the statements and the result
+pub body_works : (declared : List FlatVariable) (controls depths base : ℕ) (b : StraightBlock) (value : Option TermTree)
+    → all_work (block_code declared controls depths 0 b ++ result_code declared base value) ≡ true
+body_works declared controls depths base b None = simp (work_then, block_works)
+body_works declared controls depths base b (Some value) = simp (statements_work, block_works)

@@ -110,7 +110,7 @@ fn listed(
 
 /// The code of a straight program. The machine, running it, follows the program: the outcome is that of the program, and
 /// what it shows is decided by what the program's observer sees of the path. The program alone decides which code it is.
-/// Want of memory alone refuses it.
+/// It is refused only when out of memory.
 pub fn generate(alloc: Global, straight: &Straight<'_>) -> Result<Code, Refusal>
     ensures generated { IfOk result (IsGenerated straight.now) }
     ensures exact { IfOk result (λ code. code ≡ fields_of straight.now) }

@@ -1,7 +1,5 @@
 use Rattle.std.proofs.Common.{◌≡◌, ◌++◌, ◌+◌, ◌*◌, ◌≤◌, drop, map, length}
-use Rattle.codegen.specs.private.Emitted.{fill_code}
-use Rattle.codegen.specs.private.Placed.{ArePlacedTerms}
-use Rattle.expression_code.specs.Layout.{temporaries_offset}
+use Rattle.codegen.proofs.Machine.{fill_code, ArePlacedTerms, temporaries_offset}
 use Rattle.inline.specs.Flat.{term_tree}
 use Rattle.codegen.proofs.arrays.fill.Given as goal
 

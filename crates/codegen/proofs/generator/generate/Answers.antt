@@ -1,13 +1,8 @@
 use Rattle.std.proofs.Common.{◌≡◌, ℕ, List, ap, ap₂, sym, subst, ◌∙◌, arith}
-use Rattle.codegen.specs.private.Emitted.{depth_in_all}
+use Rattle.codegen.proofs.Machine.{depth_in_all, IsGenerated, frame_of, Frame, temporaries_offset, Fields}
 use Rattle.codegen.specs.Exact.{fields_of}
-use Rattle.codegen.specs.Followed.{IsGenerated}
-use Rattle.codegen.specs.private.Room.{frame_of}
-use Rattle.codegen.proofs.GeneratedLemmas.{is_generated}
-use Rattle.codegen.proofs.ImageLemmas.{room_frame}
-use Rattle.codegen.proofs.RoomLemmas.{has_room}
-use Rattle.expression_code.specs.Layout.{Frame, temporaries_offset}
-use Rattle.image_fields.specs.Fields.{Fields}
+use Rattle.codegen.proofs.BodyRuns.{is_generated}
+use Rattle.codegen.proofs.ImageLemmas.{room_frame, has_room}
 use Rattle.inline.specs.declared.flat.FlatVariable.{FlatVariable}
 use Rattle.inline.specs.FlatSize.{declared_words}
 use Rattle.codegen.proofs.generator.generate.Goals as goal

@@ -1,11 +1,8 @@
 use Rattle.std.proofs.Common.{◌≡◌, length, Some, sym, ap, subst, ◌∙◌}
 use Rattle.std.specs.Option.{option_map}
 use Rattle.branch_removal.specs.Straight.{StraightBlock, straight_block}
-use Rattle.codegen.specs.private.Emitted.{depth_in_all}
-use Rattle.expression_code.specs.Layout.{Frame}
-use Rattle.codegen.specs.private.Placed.{HavePlaces}
-use Rattle.expression_code.specs.TermCode.{IsAmong}
-use Rattle.codegen.proofs.RoomLemmas.{result_among, body_placed}
+use Rattle.codegen.proofs.Machine.{depth_in_all, Frame, HavePlaces, IsAmong}
+use Rattle.codegen.proofs.ImageLemmas.{result_among, body_placed}
 use Rattle.inline.specs.Flat.{term_tree}
 use Rattle.codegen.proofs.generator.program_code.Goals as goal
 
