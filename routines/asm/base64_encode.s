@@ -1,0 +1,324 @@
+# base64_encode: made by factc function; 264 words, 256 bytes of stack, profile 1
+    .option push
+    .option norvc
+    .option norelax
+    .cfi_sections .debug_frame
+    .section .text.base64_encode, "ax", @progbits
+    .p2align 2
+    .globl base64_encode
+    .type base64_encode, @function
+base64_encode:
+    .cfi_startproc
+    # room above the frame
+    .word 0xfb010113  # addi x2, x2, -80
+    .cfi_def_cfa_offset 80
+    # the caller's registers
+    .word 0x00812023  # sw x8, 0(x2)
+    .cfi_offset 8, -80
+    .word 0x00912223  # sw x9, 4(x2)
+    .cfi_offset 9, -76
+    .word 0x01212423  # sw x18, 8(x2)
+    .cfi_offset 18, -72
+    .word 0x01312623  # sw x19, 12(x2)
+    .cfi_offset 19, -68
+    .word 0x01412823  # sw x20, 16(x2)
+    .cfi_offset 20, -64
+    .word 0x01512a23  # sw x21, 20(x2)
+    .cfi_offset 21, -60
+    .word 0x01612c23  # sw x22, 24(x2)
+    .cfi_offset 22, -56
+    .word 0x01712e23  # sw x23, 28(x2)
+    .cfi_offset 23, -52
+    .word 0x03812023  # sw x24, 32(x2)
+    .cfi_offset 24, -48
+    .word 0x03912223  # sw x25, 36(x2)
+    .cfi_offset 25, -44
+    .word 0x03a12423  # sw x26, 40(x2)
+    .cfi_offset 26, -40
+    .word 0x03b12623  # sw x27, 44(x2)
+    .cfi_offset 27, -36
+    # the arguments, below those on the stack
+    .word 0x02a12823  # sw x10, 48(x2)
+    .word 0x02b12a23  # sw x11, 52(x2)
+    .word 0x02c12c23  # sw x12, 56(x2)
+    .word 0x02d12e23  # sw x13, 60(x2)
+    .word 0x04e12023  # sw x14, 64(x2)
+    .word 0x04f12223  # sw x15, 68(x2)
+    .word 0x05012423  # sw x16, 72(x2)
+    .word 0x05112623  # sw x17, 76(x2)
+    # the frame's base
+    .word 0x0b000293  # addi x5, x0, 176
+    .word 0x405102b3  # sub x5, x2, x5
+    .cfi_def_cfa 5, 256
+    # the frame, zeroed downward
+    .word 0xff010113  # addi x2, x2, -16
+    .word 0x00012023  # sw x0, 0(x2)
+    .word 0x00012223  # sw x0, 4(x2)
+    .word 0x00012423  # sw x0, 8(x2)
+    .word 0x00012623  # sw x0, 12(x2)
+    .word 0xfe5116e3  # bne x2, x5, -20
+    .cfi_def_cfa 2, 256
+    # parameter 0: an array
+    .word 0x0e012283  # lw x5, 224(x2)
+    .word 0x00000313  # addi x6, x0, 0
+    .word 0x00230333  # add x6, x6, x2
+    .word 0x03000393  # addi x7, x0, 48
+    .word 0x005383b3  # add x7, x7, x5
+    .word 0x0002ce03  # lbu x28, 0(x5)
+    .word 0x01c30023  # sb x28, 0(x6)
+    .word 0x00128293  # addi x5, x5, 1
+    .word 0x00130313  # addi x6, x6, 1
+    .word 0xfe7298e3  # bne x5, x7, -16
+    # parameter 1: a word
+    .word 0x0e412283  # lw x5, 228(x2)
+    .word 0x02512823  # sw x5, 48(x2)
+    # parameter 2: an array
+    .word 0x0e812283  # lw x5, 232(x2)
+    .word 0x03400313  # addi x6, x0, 52
+    .word 0x00230333  # add x6, x6, x2
+    .word 0x04000393  # addi x7, x0, 64
+    .word 0x005383b3  # add x7, x7, x5
+    .word 0x0002ce03  # lbu x28, 0(x5)
+    .word 0x01c30023  # sb x28, 0(x6)
+    .word 0x00128293  # addi x5, x5, 1
+    .word 0x00130313  # addi x6, x6, 1
+    .word 0xfe7298e3  # bne x5, x7, -16
+    # the body
+    .word 0x00000293  # addi x5, x0, 0
+    .word 0x08512a23  # sw x5, 148(x2)
+    .word 0x01000293  # addi x5, x0, 16
+    .word 0x08512c23  # sw x5, 152(x2)
+    .word 0x09412303  # lw x6, 148(x2)
+    .word 0x09812283  # lw x5, 152(x2)
+    .word 0x005332b3  # sltu x5, x6, x5
+    .word 0x00029463  # bne x5, x0, 8
+    .word 0x2780006f  # jal x0, 632
+    .word 0x06612a23  # sw x6, 116(x2)
+    .word 0x00130313  # addi x6, x6, 1
+    .word 0x08612a23  # sw x6, 148(x2)
+    .word 0x00000293  # addi x5, x0, 0
+    .word 0x06512c23  # sw x5, 120(x2)
+    .word 0x00000293  # addi x5, x0, 0
+    .word 0x08512e23  # sw x5, 156(x2)
+    .word 0x00300293  # addi x5, x0, 3
+    .word 0x0a512023  # sw x5, 160(x2)
+    .word 0x09c12303  # lw x6, 156(x2)
+    .word 0x0a012283  # lw x5, 160(x2)
+    .word 0x005332b3  # sltu x5, x6, x5
+    .word 0x00029463  # bne x5, x0, 8
+    .word 0x0740006f  # jal x0, 116
+    .word 0x06612e23  # sw x6, 124(x2)
+    .word 0x00130313  # addi x6, x6, 1
+    .word 0x08612e23  # sw x6, 156(x2)
+    .word 0x07812283  # lw x5, 120(x2)
+    .word 0x00800313  # addi x6, x0, 8
+    .word 0x006292b3  # sll x5, x5, x6
+    .word 0x06512c23  # sw x5, 120(x2)
+    .word 0x00300293  # addi x5, x0, 3
+    .word 0x07412303  # lw x6, 116(x2)
+    .word 0x026282b3  # mul x5, x5, x6
+    .word 0x07c12303  # lw x6, 124(x2)
+    .word 0x006282b3  # add x5, x5, x6
+    .word 0x03012303  # lw x6, 48(x2)
+    .word 0x0062b2b3  # sltu x5, x5, x6
+    .word 0x00029463  # bne x5, x0, 8
+    .word 0x0300006f  # jal x0, 48
+    .word 0x07812283  # lw x5, 120(x2)
+    .word 0x00300313  # addi x6, x0, 3
+    .word 0x07412383  # lw x7, 116(x2)
+    .word 0x02730333  # mul x6, x6, x7
+    .word 0x07c12383  # lw x7, 124(x2)
+    .word 0x00730333  # add x6, x6, x7
+    .word 0x00230333  # add x6, x6, x2
+    .word 0x00034303  # lbu x6, 0(x6)
+    .word 0x0062e2b3  # or x5, x5, x6
+    .word 0x06512c23  # sw x5, 120(x2)
+    .word 0x0040006f  # jal x0, 4
+    .word 0xf81ff06f  # jal x0, -128
+    .word 0x00000293  # addi x5, x0, 0
+    .word 0x08512e23  # sw x5, 156(x2)
+    .word 0x00400293  # addi x5, x0, 4
+    .word 0x0a512023  # sw x5, 160(x2)
+    .word 0x09c12303  # lw x6, 156(x2)
+    .word 0x0a012283  # lw x5, 160(x2)
+    .word 0x005332b3  # sltu x5, x6, x5
+    .word 0x00029463  # bne x5, x0, 8
+    .word 0x1a80006f  # jal x0, 424
+    .word 0x08612023  # sw x6, 128(x2)
+    .word 0x00130313  # addi x6, x6, 1
+    .word 0x08612e23  # sw x6, 156(x2)
+    .word 0x07812283  # lw x5, 120(x2)
+    .word 0x01200313  # addi x6, x0, 18
+    .word 0x00600393  # addi x7, x0, 6
+    .word 0x08012403  # lw x8, 128(x2)
+    .word 0x028383b3  # mul x7, x7, x8
+    .word 0x40730333  # sub x6, x6, x7
+    .word 0x0062d2b3  # srl x5, x5, x6
+    .word 0x03f00313  # addi x6, x0, 63
+    .word 0x0062f2b3  # and x5, x5, x6
+    .word 0x0ff2f293  # andi x5, x5, 255
+    .word 0x08512223  # sw x5, 132(x2)
+    .word 0x08412283  # lw x5, 132(x2)
+    .word 0x04100313  # addi x6, x0, 65
+    .word 0x006282b3  # add x5, x5, x6
+    .word 0x0ff2f293  # andi x5, x5, 255
+    .word 0x08512423  # sw x5, 136(x2)
+    .word 0x08412283  # lw x5, 132(x2)
+    .word 0x01a00313  # addi x6, x0, 26
+    .word 0x0062b2b3  # sltu x5, x5, x6
+    .word 0x08812303  # lw x6, 136(x2)
+    .word 0x08412383  # lw x7, 132(x2)
+    .word 0x04700413  # addi x8, x0, 71
+    .word 0x008383b3  # add x7, x7, x8
+    .word 0x0ff3f393  # andi x7, x7, 255
+    .word 0x405002b3  # sub x5, x0, x5
+    .word 0x00734333  # xor x6, x6, x7
+    .word 0x00537333  # and x6, x6, x5
+    .word 0x0063c2b3  # xor x5, x7, x6
+    .word 0x08512423  # sw x5, 136(x2)
+    .word 0x08412283  # lw x5, 132(x2)
+    .word 0x03400313  # addi x6, x0, 52
+    .word 0x0062b2b3  # sltu x5, x5, x6
+    .word 0x08812303  # lw x6, 136(x2)
+    .word 0x08412383  # lw x7, 132(x2)
+    .word 0x00400413  # addi x8, x0, 4
+    .word 0x408383b3  # sub x7, x7, x8
+    .word 0x0ff3f393  # andi x7, x7, 255
+    .word 0x405002b3  # sub x5, x0, x5
+    .word 0x00734333  # xor x6, x6, x7
+    .word 0x00537333  # and x6, x6, x5
+    .word 0x0063c2b3  # xor x5, x7, x6
+    .word 0x08512423  # sw x5, 136(x2)
+    .word 0x08412283  # lw x5, 132(x2)
+    .word 0x03e00313  # addi x6, x0, 62
+    .word 0x406282b3  # sub x5, x5, x6
+    .word 0x0012b293  # sltiu x5, x5, 1
+    .word 0x02b00313  # addi x6, x0, 43
+    .word 0x08812383  # lw x7, 136(x2)
+    .word 0x405002b3  # sub x5, x0, x5
+    .word 0x00734333  # xor x6, x6, x7
+    .word 0x00537333  # and x6, x6, x5
+    .word 0x0063c2b3  # xor x5, x7, x6
+    .word 0x08512423  # sw x5, 136(x2)
+    .word 0x08412283  # lw x5, 132(x2)
+    .word 0x03f00313  # addi x6, x0, 63
+    .word 0x406282b3  # sub x5, x5, x6
+    .word 0x0012b293  # sltiu x5, x5, 1
+    .word 0x02f00313  # addi x6, x0, 47
+    .word 0x08812383  # lw x7, 136(x2)
+    .word 0x405002b3  # sub x5, x0, x5
+    .word 0x00734333  # xor x6, x6, x7
+    .word 0x00537333  # and x6, x6, x5
+    .word 0x0063c2b3  # xor x5, x7, x6
+    .word 0x08512623  # sw x5, 140(x2)
+    .word 0x08012283  # lw x5, 128(x2)
+    .word 0x00000313  # addi x6, x0, 0
+    .word 0x005332b3  # sltu x5, x6, x5
+    .word 0x03012303  # lw x6, 48(x2)
+    .word 0x00300393  # addi x7, x0, 3
+    .word 0x07412403  # lw x8, 116(x2)
+    .word 0x028383b3  # mul x7, x7, x8
+    .word 0x08012403  # lw x8, 128(x2)
+    .word 0x008383b3  # add x7, x7, x8
+    .word 0x00733333  # sltu x6, x6, x7
+    .word 0x00603333  # sltu x6, x0, x6
+    .word 0x005032b3  # sltu x5, x0, x5
+    .word 0x0062f2b3  # and x5, x5, x6
+    .word 0x00029463  # bne x5, x0, 8
+    .word 0x0100006f  # jal x0, 16
+    .word 0x03d00293  # addi x5, x0, 61
+    .word 0x08512623  # sw x5, 140(x2)
+    .word 0x0040006f  # jal x0, 4
+    .word 0x03012283  # lw x5, 48(x2)
+    .word 0x00300313  # addi x6, x0, 3
+    .word 0x07412383  # lw x7, 116(x2)
+    .word 0x02730333  # mul x6, x6, x7
+    .word 0x005332b3  # sltu x5, x6, x5
+    .word 0x0012b293  # sltiu x5, x5, 1
+    .word 0x00029463  # bne x5, x0, 8
+    .word 0x0100006f  # jal x0, 16
+    .word 0x00000293  # addi x5, x0, 0
+    .word 0x08512623  # sw x5, 140(x2)
+    .word 0x0040006f  # jal x0, 4
+    .word 0x00400293  # addi x5, x0, 4
+    .word 0x07412303  # lw x6, 116(x2)
+    .word 0x026282b3  # mul x5, x5, x6
+    .word 0x08012303  # lw x6, 128(x2)
+    .word 0x006282b3  # add x5, x5, x6
+    .word 0x08c12303  # lw x6, 140(x2)
+    .word 0x002282b3  # add x5, x5, x2
+    .word 0x02628a23  # sb x6, 52(x5)
+    .word 0xe4dff06f  # jal x0, -436
+    .word 0xd7dff06f  # jal x0, -644
+    # the result
+    .word 0x00000513  # addi x10, x0, 0
+    # parameter 2: the array, back
+    .word 0x0e812283  # lw x5, 232(x2)
+    .word 0x03400313  # addi x6, x0, 52
+    .word 0x00230333  # add x6, x6, x2
+    .word 0x04000393  # addi x7, x0, 64
+    .word 0x005383b3  # add x7, x7, x5
+    .word 0x00034e03  # lbu x28, 0(x6)
+    .word 0x01c28023  # sb x28, 0(x5)
+    .word 0x00128293  # addi x5, x5, 1
+    .word 0x00130313  # addi x6, x6, 1
+    .word 0xfe7298e3  # bne x5, x7, -16
+    # above the frame
+    .word 0x0b000293  # addi x5, x0, 176
+    .word 0x002282b3  # add x5, x5, x2
+    # the caller's registers
+    .word 0x0002a403  # lw x8, 0(x5)
+    .cfi_restore 8
+    .word 0x0042a483  # lw x9, 4(x5)
+    .cfi_restore 9
+    .word 0x0082a903  # lw x18, 8(x5)
+    .cfi_restore 18
+    .word 0x00c2a983  # lw x19, 12(x5)
+    .cfi_restore 19
+    .word 0x0102aa03  # lw x20, 16(x5)
+    .cfi_restore 20
+    .word 0x0142aa83  # lw x21, 20(x5)
+    .cfi_restore 21
+    .word 0x0182ab03  # lw x22, 24(x5)
+    .cfi_restore 22
+    .word 0x01c2ab83  # lw x23, 28(x5)
+    .cfi_restore 23
+    .word 0x0202ac03  # lw x24, 32(x5)
+    .cfi_restore 24
+    .word 0x0242ac83  # lw x25, 36(x5)
+    .cfi_restore 25
+    .word 0x0282ad03  # lw x26, 40(x5)
+    .cfi_restore 26
+    .word 0x02c2ad83  # lw x27, 44(x5)
+    .cfi_restore 27
+    # the caller's x2
+    .word 0x05028293  # addi x5, x5, 80
+    .cfi_def_cfa 5, 0
+    # all the room, wiped upward
+    .word 0x00012023  # sw x0, 0(x2)
+    .word 0x00012223  # sw x0, 4(x2)
+    .word 0x00012423  # sw x0, 8(x2)
+    .word 0x00012623  # sw x0, 12(x2)
+    .word 0x01010113  # addi x2, x2, 16
+    .word 0xfe5116e3  # bne x2, x5, -20
+    .cfi_def_cfa 2, 0
+    # temporaries, wiped
+    .word 0x00000293  # addi x5, x0, 0
+    .word 0x00000313  # addi x6, x0, 0
+    .word 0x00000393  # addi x7, x0, 0
+    .word 0x00000593  # addi x11, x0, 0
+    .word 0x00000613  # addi x12, x0, 0
+    .word 0x00000693  # addi x13, x0, 0
+    .word 0x00000713  # addi x14, x0, 0
+    .word 0x00000793  # addi x15, x0, 0
+    .word 0x00000813  # addi x16, x0, 0
+    .word 0x00000893  # addi x17, x0, 0
+    .word 0x00000e13  # addi x28, x0, 0
+    .word 0x00000e93  # addi x29, x0, 0
+    .word 0x00000f13  # addi x30, x0, 0
+    .word 0x00000f93  # addi x31, x0, 0
+    # back
+    .word 0x00008067  # jalr x0, 0(x1)
+    .cfi_endproc
+    .size base64_encode, . - base64_encode
+    .option pop

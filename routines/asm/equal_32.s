@@ -1,0 +1,174 @@
+# equal_32: made by factc function; 116 words, 176 bytes of stack, profile 1
+    .option push
+    .option norvc
+    .option norelax
+    .cfi_sections .debug_frame
+    .section .text.equal_32, "ax", @progbits
+    .p2align 2
+    .globl equal_32
+    .type equal_32, @function
+equal_32:
+    .cfi_startproc
+    # room above the frame
+    .word 0xfb010113  # addi x2, x2, -80
+    .cfi_def_cfa_offset 80
+    # the caller's registers
+    .word 0x00812023  # sw x8, 0(x2)
+    .cfi_offset 8, -80
+    .word 0x00912223  # sw x9, 4(x2)
+    .cfi_offset 9, -76
+    .word 0x01212423  # sw x18, 8(x2)
+    .cfi_offset 18, -72
+    .word 0x01312623  # sw x19, 12(x2)
+    .cfi_offset 19, -68
+    .word 0x01412823  # sw x20, 16(x2)
+    .cfi_offset 20, -64
+    .word 0x01512a23  # sw x21, 20(x2)
+    .cfi_offset 21, -60
+    .word 0x01612c23  # sw x22, 24(x2)
+    .cfi_offset 22, -56
+    .word 0x01712e23  # sw x23, 28(x2)
+    .cfi_offset 23, -52
+    .word 0x03812023  # sw x24, 32(x2)
+    .cfi_offset 24, -48
+    .word 0x03912223  # sw x25, 36(x2)
+    .cfi_offset 25, -44
+    .word 0x03a12423  # sw x26, 40(x2)
+    .cfi_offset 26, -40
+    .word 0x03b12623  # sw x27, 44(x2)
+    .cfi_offset 27, -36
+    # the arguments, below those on the stack
+    .word 0x02a12823  # sw x10, 48(x2)
+    .word 0x02b12a23  # sw x11, 52(x2)
+    .word 0x02c12c23  # sw x12, 56(x2)
+    .word 0x02d12e23  # sw x13, 60(x2)
+    .word 0x04e12023  # sw x14, 64(x2)
+    .word 0x04f12223  # sw x15, 68(x2)
+    .word 0x05012423  # sw x16, 72(x2)
+    .word 0x05112623  # sw x17, 76(x2)
+    # the frame's base
+    .word 0x06000293  # addi x5, x0, 96
+    .word 0x405102b3  # sub x5, x2, x5
+    .cfi_def_cfa 5, 176
+    # the frame, zeroed downward
+    .word 0xff010113  # addi x2, x2, -16
+    .word 0x00012023  # sw x0, 0(x2)
+    .word 0x00012223  # sw x0, 4(x2)
+    .word 0x00012423  # sw x0, 8(x2)
+    .word 0x00012623  # sw x0, 12(x2)
+    .word 0xfe5116e3  # bne x2, x5, -20
+    .cfi_def_cfa 2, 176
+    # parameter 0: an array
+    .word 0x09012283  # lw x5, 144(x2)
+    .word 0x00000313  # addi x6, x0, 0
+    .word 0x00230333  # add x6, x6, x2
+    .word 0x02000393  # addi x7, x0, 32
+    .word 0x005383b3  # add x7, x7, x5
+    .word 0x0002ce03  # lbu x28, 0(x5)
+    .word 0x01c30023  # sb x28, 0(x6)
+    .word 0x00128293  # addi x5, x5, 1
+    .word 0x00130313  # addi x6, x6, 1
+    .word 0xfe7298e3  # bne x5, x7, -16
+    # parameter 1: an array
+    .word 0x09412283  # lw x5, 148(x2)
+    .word 0x02000313  # addi x6, x0, 32
+    .word 0x00230333  # add x6, x6, x2
+    .word 0x02000393  # addi x7, x0, 32
+    .word 0x005383b3  # add x7, x7, x5
+    .word 0x0002ce03  # lbu x28, 0(x5)
+    .word 0x01c30023  # sb x28, 0(x6)
+    .word 0x00128293  # addi x5, x5, 1
+    .word 0x00130313  # addi x6, x6, 1
+    .word 0xfe7298e3  # bne x5, x7, -16
+    # the body
+    .word 0x00000293  # addi x5, x0, 0
+    .word 0x04512023  # sw x5, 64(x2)
+    .word 0x00000293  # addi x5, x0, 0
+    .word 0x04512623  # sw x5, 76(x2)
+    .word 0x02000293  # addi x5, x0, 32
+    .word 0x04512823  # sw x5, 80(x2)
+    .word 0x04c12303  # lw x6, 76(x2)
+    .word 0x05012283  # lw x5, 80(x2)
+    .word 0x005332b3  # sltu x5, x6, x5
+    .word 0x00029463  # bne x5, x0, 8
+    .word 0x03c0006f  # jal x0, 60
+    .word 0x04612223  # sw x6, 68(x2)
+    .word 0x00130313  # addi x6, x6, 1
+    .word 0x04612623  # sw x6, 76(x2)
+    .word 0x04012283  # lw x5, 64(x2)
+    .word 0x04412303  # lw x6, 68(x2)
+    .word 0x00230333  # add x6, x6, x2
+    .word 0x00034303  # lbu x6, 0(x6)
+    .word 0x04412383  # lw x7, 68(x2)
+    .word 0x002383b3  # add x7, x7, x2
+    .word 0x0203c383  # lbu x7, 32(x7)
+    .word 0x00734333  # xor x6, x6, x7
+    .word 0x0062e2b3  # or x5, x5, x6
+    .word 0x04512023  # sw x5, 64(x2)
+    .word 0xfb9ff06f  # jal x0, -72
+    .word 0x04012283  # lw x5, 64(x2)
+    .word 0x00000313  # addi x6, x0, 0
+    .word 0x406282b3  # sub x5, x5, x6
+    .word 0x0012b293  # sltiu x5, x5, 1
+    .word 0x04512423  # sw x5, 72(x2)
+    # the result
+    .word 0x04812503  # lw x10, 72(x2)
+    # above the frame
+    .word 0x06000293  # addi x5, x0, 96
+    .word 0x002282b3  # add x5, x5, x2
+    # the caller's registers
+    .word 0x0002a403  # lw x8, 0(x5)
+    .cfi_restore 8
+    .word 0x0042a483  # lw x9, 4(x5)
+    .cfi_restore 9
+    .word 0x0082a903  # lw x18, 8(x5)
+    .cfi_restore 18
+    .word 0x00c2a983  # lw x19, 12(x5)
+    .cfi_restore 19
+    .word 0x0102aa03  # lw x20, 16(x5)
+    .cfi_restore 20
+    .word 0x0142aa83  # lw x21, 20(x5)
+    .cfi_restore 21
+    .word 0x0182ab03  # lw x22, 24(x5)
+    .cfi_restore 22
+    .word 0x01c2ab83  # lw x23, 28(x5)
+    .cfi_restore 23
+    .word 0x0202ac03  # lw x24, 32(x5)
+    .cfi_restore 24
+    .word 0x0242ac83  # lw x25, 36(x5)
+    .cfi_restore 25
+    .word 0x0282ad03  # lw x26, 40(x5)
+    .cfi_restore 26
+    .word 0x02c2ad83  # lw x27, 44(x5)
+    .cfi_restore 27
+    # the caller's x2
+    .word 0x05028293  # addi x5, x5, 80
+    .cfi_def_cfa 5, 0
+    # all the room, wiped upward
+    .word 0x00012023  # sw x0, 0(x2)
+    .word 0x00012223  # sw x0, 4(x2)
+    .word 0x00012423  # sw x0, 8(x2)
+    .word 0x00012623  # sw x0, 12(x2)
+    .word 0x01010113  # addi x2, x2, 16
+    .word 0xfe5116e3  # bne x2, x5, -20
+    .cfi_def_cfa 2, 0
+    # temporaries, wiped
+    .word 0x00000293  # addi x5, x0, 0
+    .word 0x00000313  # addi x6, x0, 0
+    .word 0x00000393  # addi x7, x0, 0
+    .word 0x00000593  # addi x11, x0, 0
+    .word 0x00000613  # addi x12, x0, 0
+    .word 0x00000693  # addi x13, x0, 0
+    .word 0x00000713  # addi x14, x0, 0
+    .word 0x00000793  # addi x15, x0, 0
+    .word 0x00000813  # addi x16, x0, 0
+    .word 0x00000893  # addi x17, x0, 0
+    .word 0x00000e13  # addi x28, x0, 0
+    .word 0x00000e93  # addi x29, x0, 0
+    .word 0x00000f13  # addi x30, x0, 0
+    .word 0x00000f93  # addi x31, x0, 0
+    # back
+    .word 0x00008067  # jalr x0, 0(x1)
+    .cfi_endproc
+    .size equal_32, . - equal_32
+    .option pop

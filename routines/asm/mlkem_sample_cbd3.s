@@ -1,0 +1,237 @@
+# mlkem_sample_cbd3: made by factc function; 178 words, 832 bytes of stack, profile 1
+    .option push
+    .option norvc
+    .option norelax
+    .cfi_sections .debug_frame
+    .section .text.mlkem_sample_cbd3, "ax", @progbits
+    .p2align 2
+    .globl mlkem_sample_cbd3
+    .type mlkem_sample_cbd3, @function
+mlkem_sample_cbd3:
+    .cfi_startproc
+    # room above the frame
+    .word 0xfb010113  # addi x2, x2, -80
+    .cfi_def_cfa_offset 80
+    # the caller's registers
+    .word 0x00812023  # sw x8, 0(x2)
+    .cfi_offset 8, -80
+    .word 0x00912223  # sw x9, 4(x2)
+    .cfi_offset 9, -76
+    .word 0x01212423  # sw x18, 8(x2)
+    .cfi_offset 18, -72
+    .word 0x01312623  # sw x19, 12(x2)
+    .cfi_offset 19, -68
+    .word 0x01412823  # sw x20, 16(x2)
+    .cfi_offset 20, -64
+    .word 0x01512a23  # sw x21, 20(x2)
+    .cfi_offset 21, -60
+    .word 0x01612c23  # sw x22, 24(x2)
+    .cfi_offset 22, -56
+    .word 0x01712e23  # sw x23, 28(x2)
+    .cfi_offset 23, -52
+    .word 0x03812023  # sw x24, 32(x2)
+    .cfi_offset 24, -48
+    .word 0x03912223  # sw x25, 36(x2)
+    .cfi_offset 25, -44
+    .word 0x03a12423  # sw x26, 40(x2)
+    .cfi_offset 26, -40
+    .word 0x03b12623  # sw x27, 44(x2)
+    .cfi_offset 27, -36
+    # the arguments, below those on the stack
+    .word 0x02a12823  # sw x10, 48(x2)
+    .word 0x02b12a23  # sw x11, 52(x2)
+    .word 0x02c12c23  # sw x12, 56(x2)
+    .word 0x02d12e23  # sw x13, 60(x2)
+    .word 0x04e12023  # sw x14, 64(x2)
+    .word 0x04f12223  # sw x15, 68(x2)
+    .word 0x05012423  # sw x16, 72(x2)
+    .word 0x05112623  # sw x17, 76(x2)
+    # the frame's base
+    .word 0x2f000293  # addi x5, x0, 752
+    .word 0x405102b3  # sub x5, x2, x5
+    .cfi_def_cfa 5, 832
+    # the frame, zeroed downward
+    .word 0xff010113  # addi x2, x2, -16
+    .word 0x00012023  # sw x0, 0(x2)
+    .word 0x00012223  # sw x0, 4(x2)
+    .word 0x00012423  # sw x0, 8(x2)
+    .word 0x00012623  # sw x0, 12(x2)
+    .word 0xfe5116e3  # bne x2, x5, -20
+    .cfi_def_cfa 2, 832
+    # parameter 0: an array
+    .word 0x32012283  # lw x5, 800(x2)
+    .word 0x00000313  # addi x6, x0, 0
+    .word 0x00230333  # add x6, x6, x2
+    .word 0x0c000393  # addi x7, x0, 192
+    .word 0x005383b3  # add x7, x7, x5
+    .word 0x0002ce03  # lbu x28, 0(x5)
+    .word 0x01c30023  # sb x28, 0(x6)
+    .word 0x00128293  # addi x5, x5, 1
+    .word 0x00130313  # addi x6, x6, 1
+    .word 0xfe7298e3  # bne x5, x7, -16
+    # parameter 1: an array
+    .word 0x32412283  # lw x5, 804(x2)
+    .word 0x0c000313  # addi x6, x0, 192
+    .word 0x00230333  # add x6, x6, x2
+    .word 0x20000393  # addi x7, x0, 512
+    .word 0x005383b3  # add x7, x7, x5
+    .word 0x0002de03  # lhu x28, 0(x5)
+    .word 0x01c31023  # sh x28, 0(x6)
+    .word 0x00228293  # addi x5, x5, 2
+    .word 0x00230313  # addi x6, x6, 2
+    .word 0xfe7298e3  # bne x5, x7, -16
+    # the body
+    .word 0x00000293  # addi x5, x0, 0
+    .word 0x2c512c23  # sw x5, 728(x2)
+    .word 0x10000293  # addi x5, x0, 256
+    .word 0x2c512e23  # sw x5, 732(x2)
+    .word 0x2d812303  # lw x6, 728(x2)
+    .word 0x2dc12283  # lw x5, 732(x2)
+    .word 0x005332b3  # sltu x5, x6, x5
+    .word 0x00029463  # bne x5, x0, 8
+    .word 0x1280006f  # jal x0, 296
+    .word 0x2c612023  # sw x6, 704(x2)
+    .word 0x00130313  # addi x6, x6, 1
+    .word 0x2c612c23  # sw x6, 728(x2)
+    .word 0x000012b7  # lui x5, 0x00001
+    .word 0xd0128293  # addi x5, x5, -767
+    .word 0x2c512223  # sw x5, 708(x2)
+    .word 0x00000293  # addi x5, x0, 0
+    .word 0x2e512023  # sw x5, 736(x2)
+    .word 0x00600293  # addi x5, x0, 6
+    .word 0x2e512223  # sw x5, 740(x2)
+    .word 0x2e012303  # lw x6, 736(x2)
+    .word 0x2e412283  # lw x5, 740(x2)
+    .word 0x005332b3  # sltu x5, x6, x5
+    .word 0x00029463  # bne x5, x0, 8
+    .word 0x0980006f  # jal x0, 152
+    .word 0x2c612423  # sw x6, 712(x2)
+    .word 0x00130313  # addi x6, x6, 1
+    .word 0x2e612023  # sw x6, 736(x2)
+    .word 0x00600293  # addi x5, x0, 6
+    .word 0x2c012303  # lw x6, 704(x2)
+    .word 0x026282b3  # mul x5, x5, x6
+    .word 0x2c812303  # lw x6, 712(x2)
+    .word 0x006282b3  # add x5, x5, x6
+    .word 0x2c512623  # sw x5, 716(x2)
+    .word 0x2cc12283  # lw x5, 716(x2)
+    .word 0x00800313  # addi x6, x0, 8
+    .word 0x0262d2b3  # divu x5, x5, x6
+    .word 0x002282b3  # add x5, x5, x2
+    .word 0x0002c283  # lbu x5, 0(x5)
+    .word 0x2cc12303  # lw x6, 716(x2)
+    .word 0x00800393  # addi x7, x0, 8
+    .word 0x02737333  # remu x6, x6, x7
+    .word 0x0062d2b3  # srl x5, x5, x6
+    .word 0x0ff2f293  # andi x5, x5, 255
+    .word 0x00100313  # addi x6, x0, 1
+    .word 0x0062f2b3  # and x5, x5, x6
+    .word 0x2c512823  # sw x5, 720(x2)
+    .word 0x2c812283  # lw x5, 712(x2)
+    .word 0x00300313  # addi x6, x0, 3
+    .word 0x0062b2b3  # sltu x5, x5, x6
+    .word 0x00029463  # bne x5, x0, 8
+    .word 0x0180006f  # jal x0, 24
+    .word 0x2c412283  # lw x5, 708(x2)
+    .word 0x2d012303  # lw x6, 720(x2)
+    .word 0x006282b3  # add x5, x5, x6
+    .word 0x2c512223  # sw x5, 708(x2)
+    .word 0x0140006f  # jal x0, 20
+    .word 0x2c412283  # lw x5, 708(x2)
+    .word 0x2d012303  # lw x6, 720(x2)
+    .word 0x406282b3  # sub x5, x5, x6
+    .word 0x2c512223  # sw x5, 708(x2)
+    .word 0xf5dff06f  # jal x0, -164
+    .word 0x2c012283  # lw x5, 704(x2)
+    .word 0x2c412303  # lw x6, 708(x2)
+    .word 0x000013b7  # lui x7, 0x00001
+    .word 0xd0138393  # addi x7, x7, -767
+    .word 0x2c412403  # lw x8, 708(x2)
+    .word 0x007433b3  # sltu x7, x8, x7
+    .word 0x0013b393  # sltiu x7, x7, 1
+    .word 0x00001437  # lui x8, 0x00001
+    .word 0xd0140413  # addi x8, x8, -767
+    .word 0x00000493  # addi x9, x0, 0
+    .word 0x407003b3  # sub x7, x0, x7
+    .word 0x00944433  # xor x8, x8, x9
+    .word 0x00747433  # and x8, x8, x7
+    .word 0x0084c3b3  # xor x7, x9, x8
+    .word 0x40730333  # sub x6, x6, x7
+    .word 0x01031313  # slli x6, x6, 16
+    .word 0x01035313  # srli x6, x6, 16
+    .word 0x00129293  # slli x5, x5, 1
+    .word 0x002282b3  # add x5, x5, x2
+    .word 0x0c629023  # sh x6, 192(x5)
+    .word 0xecdff06f  # jal x0, -308
+    # the result
+    .word 0x00000513  # addi x10, x0, 0
+    # parameter 1: the array, back
+    .word 0x32412283  # lw x5, 804(x2)
+    .word 0x0c000313  # addi x6, x0, 192
+    .word 0x00230333  # add x6, x6, x2
+    .word 0x20000393  # addi x7, x0, 512
+    .word 0x005383b3  # add x7, x7, x5
+    .word 0x00035e03  # lhu x28, 0(x6)
+    .word 0x01c29023  # sh x28, 0(x5)
+    .word 0x00228293  # addi x5, x5, 2
+    .word 0x00230313  # addi x6, x6, 2
+    .word 0xfe7298e3  # bne x5, x7, -16
+    # above the frame
+    .word 0x2f000293  # addi x5, x0, 752
+    .word 0x002282b3  # add x5, x5, x2
+    # the caller's registers
+    .word 0x0002a403  # lw x8, 0(x5)
+    .cfi_restore 8
+    .word 0x0042a483  # lw x9, 4(x5)
+    .cfi_restore 9
+    .word 0x0082a903  # lw x18, 8(x5)
+    .cfi_restore 18
+    .word 0x00c2a983  # lw x19, 12(x5)
+    .cfi_restore 19
+    .word 0x0102aa03  # lw x20, 16(x5)
+    .cfi_restore 20
+    .word 0x0142aa83  # lw x21, 20(x5)
+    .cfi_restore 21
+    .word 0x0182ab03  # lw x22, 24(x5)
+    .cfi_restore 22
+    .word 0x01c2ab83  # lw x23, 28(x5)
+    .cfi_restore 23
+    .word 0x0202ac03  # lw x24, 32(x5)
+    .cfi_restore 24
+    .word 0x0242ac83  # lw x25, 36(x5)
+    .cfi_restore 25
+    .word 0x0282ad03  # lw x26, 40(x5)
+    .cfi_restore 26
+    .word 0x02c2ad83  # lw x27, 44(x5)
+    .cfi_restore 27
+    # the caller's x2
+    .word 0x05028293  # addi x5, x5, 80
+    .cfi_def_cfa 5, 0
+    # all the room, wiped upward
+    .word 0x00012023  # sw x0, 0(x2)
+    .word 0x00012223  # sw x0, 4(x2)
+    .word 0x00012423  # sw x0, 8(x2)
+    .word 0x00012623  # sw x0, 12(x2)
+    .word 0x01010113  # addi x2, x2, 16
+    .word 0xfe5116e3  # bne x2, x5, -20
+    .cfi_def_cfa 2, 0
+    # temporaries, wiped
+    .word 0x00000293  # addi x5, x0, 0
+    .word 0x00000313  # addi x6, x0, 0
+    .word 0x00000393  # addi x7, x0, 0
+    .word 0x00000593  # addi x11, x0, 0
+    .word 0x00000613  # addi x12, x0, 0
+    .word 0x00000693  # addi x13, x0, 0
+    .word 0x00000713  # addi x14, x0, 0
+    .word 0x00000793  # addi x15, x0, 0
+    .word 0x00000813  # addi x16, x0, 0
+    .word 0x00000893  # addi x17, x0, 0
+    .word 0x00000e13  # addi x28, x0, 0
+    .word 0x00000e93  # addi x29, x0, 0
+    .word 0x00000f13  # addi x30, x0, 0
+    .word 0x00000f93  # addi x31, x0, 0
+    # back
+    .word 0x00008067  # jalr x0, 0(x1)
+    .cfi_endproc
+    .size mlkem_sample_cbd3, . - mlkem_sample_cbd3
+    .option pop

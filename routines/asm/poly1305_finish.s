@@ -1,0 +1,462 @@
+# poly1305_finish: made by factc function; 402 words, 384 bytes of stack, profile 1
+    .option push
+    .option norvc
+    .option norelax
+    .cfi_sections .debug_frame
+    .section .text.poly1305_finish, "ax", @progbits
+    .p2align 2
+    .globl poly1305_finish
+    .type poly1305_finish, @function
+poly1305_finish:
+    .cfi_startproc
+    # room above the frame
+    .word 0xfb010113  # addi x2, x2, -80
+    .cfi_def_cfa_offset 80
+    # the caller's registers
+    .word 0x00812023  # sw x8, 0(x2)
+    .cfi_offset 8, -80
+    .word 0x00912223  # sw x9, 4(x2)
+    .cfi_offset 9, -76
+    .word 0x01212423  # sw x18, 8(x2)
+    .cfi_offset 18, -72
+    .word 0x01312623  # sw x19, 12(x2)
+    .cfi_offset 19, -68
+    .word 0x01412823  # sw x20, 16(x2)
+    .cfi_offset 20, -64
+    .word 0x01512a23  # sw x21, 20(x2)
+    .cfi_offset 21, -60
+    .word 0x01612c23  # sw x22, 24(x2)
+    .cfi_offset 22, -56
+    .word 0x01712e23  # sw x23, 28(x2)
+    .cfi_offset 23, -52
+    .word 0x03812023  # sw x24, 32(x2)
+    .cfi_offset 24, -48
+    .word 0x03912223  # sw x25, 36(x2)
+    .cfi_offset 25, -44
+    .word 0x03a12423  # sw x26, 40(x2)
+    .cfi_offset 26, -40
+    .word 0x03b12623  # sw x27, 44(x2)
+    .cfi_offset 27, -36
+    # the arguments, below those on the stack
+    .word 0x02a12823  # sw x10, 48(x2)
+    .word 0x02b12a23  # sw x11, 52(x2)
+    .word 0x02c12c23  # sw x12, 56(x2)
+    .word 0x02d12e23  # sw x13, 60(x2)
+    .word 0x04e12023  # sw x14, 64(x2)
+    .word 0x04f12223  # sw x15, 68(x2)
+    .word 0x05012423  # sw x16, 72(x2)
+    .word 0x05112623  # sw x17, 76(x2)
+    # the frame's base
+    .word 0x13000293  # addi x5, x0, 304
+    .word 0x405102b3  # sub x5, x2, x5
+    .cfi_def_cfa 5, 384
+    # the frame, zeroed downward
+    .word 0xff010113  # addi x2, x2, -16
+    .word 0x00012023  # sw x0, 0(x2)
+    .word 0x00012223  # sw x0, 4(x2)
+    .word 0x00012423  # sw x0, 8(x2)
+    .word 0x00012623  # sw x0, 12(x2)
+    .word 0xfe5116e3  # bne x2, x5, -20
+    .cfi_def_cfa 2, 384
+    # parameter 0: an array
+    .word 0x16012283  # lw x5, 352(x2)
+    .word 0x00000313  # addi x6, x0, 0
+    .word 0x00230333  # add x6, x6, x2
+    .word 0x02000393  # addi x7, x0, 32
+    .word 0x005383b3  # add x7, x7, x5
+    .word 0x0002ce03  # lbu x28, 0(x5)
+    .word 0x01c30023  # sb x28, 0(x6)
+    .word 0x00128293  # addi x5, x5, 1
+    .word 0x00130313  # addi x6, x6, 1
+    .word 0xfe7298e3  # bne x5, x7, -16
+    # parameter 1: an array
+    .word 0x16412283  # lw x5, 356(x2)
+    .word 0x02000313  # addi x6, x0, 32
+    .word 0x00230333  # add x6, x6, x2
+    .word 0x02800393  # addi x7, x0, 40
+    .word 0x005383b3  # add x7, x7, x5
+    .word 0x0002ae03  # lw x28, 0(x5)
+    .word 0x01c32023  # sw x28, 0(x6)
+    .word 0x00428293  # addi x5, x5, 4
+    .word 0x00430313  # addi x6, x6, 4
+    .word 0xfe7298e3  # bne x5, x7, -16
+    # parameter 2: an array
+    .word 0x16812283  # lw x5, 360(x2)
+    .word 0x04800313  # addi x6, x0, 72
+    .word 0x00230333  # add x6, x6, x2
+    .word 0x01000393  # addi x7, x0, 16
+    .word 0x005383b3  # add x7, x7, x5
+    .word 0x0002ce03  # lbu x28, 0(x5)
+    .word 0x01c30023  # sb x28, 0(x6)
+    .word 0x00128293  # addi x5, x5, 1
+    .word 0x00130313  # addi x6, x6, 1
+    .word 0xfe7298e3  # bne x5, x7, -16
+    # the body
+    .word 0x05800313  # addi x6, x0, 88
+    .word 0x00230333  # add x6, x6, x2
+    .word 0x02800393  # addi x7, x0, 40
+    .word 0x006383b3  # add x7, x7, x6
+    .word 0x406382b3  # sub x5, x7, x6
+    .word 0x00029463  # bne x5, x0, 8
+    .word 0x0100006f  # jal x0, 16
+    .word 0x00032023  # sw x0, 0(x6)
+    .word 0x00430313  # addi x6, x6, 4
+    .word 0xfedff06f  # jal x0, -20
+    .word 0x00000293  # addi x5, x0, 0
+    .word 0x12512023  # sw x5, 288(x2)
+    .word 0x00a00293  # addi x5, x0, 10
+    .word 0x12512223  # sw x5, 292(x2)
+    .word 0x12012303  # lw x6, 288(x2)
+    .word 0x12412283  # lw x5, 292(x2)
+    .word 0x005332b3  # sltu x5, x6, x5
+    .word 0x00029463  # bne x5, x0, 8
+    .word 0x0340006f  # jal x0, 52
+    .word 0x08612023  # sw x6, 128(x2)
+    .word 0x00130313  # addi x6, x6, 1
+    .word 0x12612023  # sw x6, 288(x2)
+    .word 0x08012283  # lw x5, 128(x2)
+    .word 0x08012303  # lw x6, 128(x2)
+    .word 0x00231313  # slli x6, x6, 2
+    .word 0x00230333  # add x6, x6, x2
+    .word 0x02032303  # lw x6, 32(x6)
+    .word 0x00229293  # slli x5, x5, 2
+    .word 0x002282b3  # add x5, x5, x2
+    .word 0x0462ac23  # sw x6, 88(x5)
+    .word 0xfc1ff06f  # jal x0, -64
+    .word 0x00000293  # addi x5, x0, 0
+    .word 0x08512223  # sw x5, 132(x2)
+    .word 0x00000293  # addi x5, x0, 0
+    .word 0x12512023  # sw x5, 288(x2)
+    .word 0x00a00293  # addi x5, x0, 10
+    .word 0x12512223  # sw x5, 292(x2)
+    .word 0x12012303  # lw x6, 288(x2)
+    .word 0x12412283  # lw x5, 292(x2)
+    .word 0x005332b3  # sltu x5, x6, x5
+    .word 0x00029463  # bne x5, x0, 8
+    .word 0x0600006f  # jal x0, 96
+    .word 0x08612423  # sw x6, 136(x2)
+    .word 0x00130313  # addi x6, x6, 1
+    .word 0x12612023  # sw x6, 288(x2)
+    .word 0x08812283  # lw x5, 136(x2)
+    .word 0x00229293  # slli x5, x5, 2
+    .word 0x002282b3  # add x5, x5, x2
+    .word 0x0582a283  # lw x5, 88(x5)
+    .word 0x08412303  # lw x6, 132(x2)
+    .word 0x006282b3  # add x5, x5, x6
+    .word 0x08512623  # sw x5, 140(x2)
+    .word 0x08812283  # lw x5, 136(x2)
+    .word 0x08c12303  # lw x6, 140(x2)
+    .word 0x000023b7  # lui x7, 0x00002
+    .word 0xfff38393  # addi x7, x7, -1
+    .word 0x00737333  # and x6, x6, x7
+    .word 0x00229293  # slli x5, x5, 2
+    .word 0x002282b3  # add x5, x5, x2
+    .word 0x0462ac23  # sw x6, 88(x5)
+    .word 0x08c12283  # lw x5, 140(x2)
+    .word 0x00d00313  # addi x6, x0, 13
+    .word 0x0062d2b3  # srl x5, x5, x6
+    .word 0x08512223  # sw x5, 132(x2)
+    .word 0xf95ff06f  # jal x0, -108
+    .word 0x00000293  # addi x5, x0, 0
+    .word 0x00000313  # addi x6, x0, 0
+    .word 0x00231313  # slli x6, x6, 2
+    .word 0x00230333  # add x6, x6, x2
+    .word 0x05832303  # lw x6, 88(x6)
+    .word 0x08412383  # lw x7, 132(x2)
+    .word 0x00730333  # add x6, x6, x7
+    .word 0x08412383  # lw x7, 132(x2)
+    .word 0x00200413  # addi x8, x0, 2
+    .word 0x008393b3  # sll x7, x7, x8
+    .word 0x00730333  # add x6, x6, x7
+    .word 0x00229293  # slli x5, x5, 2
+    .word 0x002282b3  # add x5, x5, x2
+    .word 0x0462ac23  # sw x6, 88(x5)
+    .word 0x00000293  # addi x5, x0, 0
+    .word 0x08512823  # sw x5, 144(x2)
+    .word 0x00000293  # addi x5, x0, 0
+    .word 0x12512023  # sw x5, 288(x2)
+    .word 0x00a00293  # addi x5, x0, 10
+    .word 0x12512223  # sw x5, 292(x2)
+    .word 0x12012303  # lw x6, 288(x2)
+    .word 0x12412283  # lw x5, 292(x2)
+    .word 0x005332b3  # sltu x5, x6, x5
+    .word 0x00029463  # bne x5, x0, 8
+    .word 0x0600006f  # jal x0, 96
+    .word 0x08612a23  # sw x6, 148(x2)
+    .word 0x00130313  # addi x6, x6, 1
+    .word 0x12612023  # sw x6, 288(x2)
+    .word 0x09412283  # lw x5, 148(x2)
+    .word 0x00229293  # slli x5, x5, 2
+    .word 0x002282b3  # add x5, x5, x2
+    .word 0x0582a283  # lw x5, 88(x5)
+    .word 0x09012303  # lw x6, 144(x2)
+    .word 0x006282b3  # add x5, x5, x6
+    .word 0x08512c23  # sw x5, 152(x2)
+    .word 0x09412283  # lw x5, 148(x2)
+    .word 0x09812303  # lw x6, 152(x2)
+    .word 0x000023b7  # lui x7, 0x00002
+    .word 0xfff38393  # addi x7, x7, -1
+    .word 0x00737333  # and x6, x6, x7
+    .word 0x00229293  # slli x5, x5, 2
+    .word 0x002282b3  # add x5, x5, x2
+    .word 0x0462ac23  # sw x6, 88(x5)
+    .word 0x09812283  # lw x5, 152(x2)
+    .word 0x00d00313  # addi x6, x0, 13
+    .word 0x0062d2b3  # srl x5, x5, x6
+    .word 0x08512823  # sw x5, 144(x2)
+    .word 0xf95ff06f  # jal x0, -108
+    .word 0x00000293  # addi x5, x0, 0
+    .word 0x00000313  # addi x6, x0, 0
+    .word 0x00231313  # slli x6, x6, 2
+    .word 0x00230333  # add x6, x6, x2
+    .word 0x05832303  # lw x6, 88(x6)
+    .word 0x09012383  # lw x7, 144(x2)
+    .word 0x00730333  # add x6, x6, x7
+    .word 0x09012383  # lw x7, 144(x2)
+    .word 0x00200413  # addi x8, x0, 2
+    .word 0x008393b3  # sll x7, x7, x8
+    .word 0x00730333  # add x6, x6, x7
+    .word 0x00229293  # slli x5, x5, 2
+    .word 0x002282b3  # add x5, x5, x2
+    .word 0x0462ac23  # sw x6, 88(x5)
+    .word 0x09c00313  # addi x6, x0, 156
+    .word 0x00230333  # add x6, x6, x2
+    .word 0x02800393  # addi x7, x0, 40
+    .word 0x006383b3  # add x7, x7, x6
+    .word 0x406382b3  # sub x5, x7, x6
+    .word 0x00029463  # bne x5, x0, 8
+    .word 0x0100006f  # jal x0, 16
+    .word 0x00032023  # sw x0, 0(x6)
+    .word 0x00430313  # addi x6, x6, 4
+    .word 0xfedff06f  # jal x0, -20
+    .word 0x00500293  # addi x5, x0, 5
+    .word 0x0c512223  # sw x5, 196(x2)
+    .word 0x00000293  # addi x5, x0, 0
+    .word 0x12512023  # sw x5, 288(x2)
+    .word 0x00a00293  # addi x5, x0, 10
+    .word 0x12512223  # sw x5, 292(x2)
+    .word 0x12012303  # lw x6, 288(x2)
+    .word 0x12412283  # lw x5, 292(x2)
+    .word 0x005332b3  # sltu x5, x6, x5
+    .word 0x00029463  # bne x5, x0, 8
+    .word 0x0600006f  # jal x0, 96
+    .word 0x0c612423  # sw x6, 200(x2)
+    .word 0x00130313  # addi x6, x6, 1
+    .word 0x12612023  # sw x6, 288(x2)
+    .word 0x0c812283  # lw x5, 200(x2)
+    .word 0x00229293  # slli x5, x5, 2
+    .word 0x002282b3  # add x5, x5, x2
+    .word 0x0582a283  # lw x5, 88(x5)
+    .word 0x0c412303  # lw x6, 196(x2)
+    .word 0x006282b3  # add x5, x5, x6
+    .word 0x0c512623  # sw x5, 204(x2)
+    .word 0x0c812283  # lw x5, 200(x2)
+    .word 0x0cc12303  # lw x6, 204(x2)
+    .word 0x000023b7  # lui x7, 0x00002
+    .word 0xfff38393  # addi x7, x7, -1
+    .word 0x00737333  # and x6, x6, x7
+    .word 0x00229293  # slli x5, x5, 2
+    .word 0x002282b3  # add x5, x5, x2
+    .word 0x0862ae23  # sw x6, 156(x5)
+    .word 0x0cc12283  # lw x5, 204(x2)
+    .word 0x00d00313  # addi x6, x0, 13
+    .word 0x0062d2b3  # srl x5, x5, x6
+    .word 0x0c512223  # sw x5, 196(x2)
+    .word 0xf95ff06f  # jal x0, -108
+    .word 0x0c412283  # lw x5, 196(x2)
+    .word 0x00100313  # addi x6, x0, 1
+    .word 0x406282b3  # sub x5, x5, x6
+    .word 0x0012b293  # sltiu x5, x5, 1
+    .word 0x405003b3  # sub x7, x0, x5
+    .word 0xfff28293  # addi x5, x5, -1
+    .word 0x10712c23  # sw x7, 280(x2)
+    .word 0x10512e23  # sw x5, 284(x2)
+    .word 0x00000293  # addi x5, x0, 0
+    .word 0x12512023  # sw x5, 288(x2)
+    .word 0x00a00293  # addi x5, x0, 10
+    .word 0x12512223  # sw x5, 292(x2)
+    .word 0x12012303  # lw x6, 288(x2)
+    .word 0x12412283  # lw x5, 292(x2)
+    .word 0x005332b3  # sltu x5, x6, x5
+    .word 0x00029463  # bne x5, x0, 8
+    .word 0x0480006f  # jal x0, 72
+    .word 0x0c612823  # sw x6, 208(x2)
+    .word 0x00130313  # addi x6, x6, 1
+    .word 0x12612023  # sw x6, 288(x2)
+    .word 0x0d012283  # lw x5, 208(x2)
+    .word 0x0d012303  # lw x6, 208(x2)
+    .word 0x00231313  # slli x6, x6, 2
+    .word 0x00230333  # add x6, x6, x2
+    .word 0x09c32303  # lw x6, 156(x6)
+    .word 0x00229293  # slli x5, x5, 2
+    .word 0x002282b3  # add x5, x5, x2
+    .word 0x0582a383  # lw x7, 88(x5)
+    .word 0x11812e83  # lw x29, 280(x2)
+    .word 0x00734333  # xor x6, x6, x7
+    .word 0x01d37333  # and x6, x6, x29
+    .word 0x0063c333  # xor x6, x7, x6
+    .word 0x0462ac23  # sw x6, 88(x5)
+    .word 0xfadff06f  # jal x0, -84
+    .word 0x0d400313  # addi x6, x0, 212
+    .word 0x00230333  # add x6, x6, x2
+    .word 0x02c00393  # addi x7, x0, 44
+    .word 0x006383b3  # add x7, x7, x6
+    .word 0x406382b3  # sub x5, x7, x6
+    .word 0x00029463  # bne x5, x0, 8
+    .word 0x0100006f  # jal x0, 16
+    .word 0x00032023  # sw x0, 0(x6)
+    .word 0x00430313  # addi x6, x6, 4
+    .word 0xfedff06f  # jal x0, -20
+    .word 0x00000293  # addi x5, x0, 0
+    .word 0x12512023  # sw x5, 288(x2)
+    .word 0x00a00293  # addi x5, x0, 10
+    .word 0x12512223  # sw x5, 292(x2)
+    .word 0x12012303  # lw x6, 288(x2)
+    .word 0x12412283  # lw x5, 292(x2)
+    .word 0x005332b3  # sltu x5, x6, x5
+    .word 0x00029463  # bne x5, x0, 8
+    .word 0x0340006f  # jal x0, 52
+    .word 0x10612023  # sw x6, 256(x2)
+    .word 0x00130313  # addi x6, x6, 1
+    .word 0x12612023  # sw x6, 288(x2)
+    .word 0x10012283  # lw x5, 256(x2)
+    .word 0x10012303  # lw x6, 256(x2)
+    .word 0x00231313  # slli x6, x6, 2
+    .word 0x00230333  # add x6, x6, x2
+    .word 0x05832303  # lw x6, 88(x6)
+    .word 0x00229293  # slli x5, x5, 2
+    .word 0x002282b3  # add x5, x5, x2
+    .word 0x0c62aa23  # sw x6, 212(x5)
+    .word 0xfc1ff06f  # jal x0, -64
+    .word 0x00000293  # addi x5, x0, 0
+    .word 0x10512223  # sw x5, 260(x2)
+    .word 0x00000293  # addi x5, x0, 0
+    .word 0x12512023  # sw x5, 288(x2)
+    .word 0x01000293  # addi x5, x0, 16
+    .word 0x12512223  # sw x5, 292(x2)
+    .word 0x12012303  # lw x6, 288(x2)
+    .word 0x12412283  # lw x5, 292(x2)
+    .word 0x005332b3  # sltu x5, x6, x5
+    .word 0x00029463  # bne x5, x0, 8
+    .word 0x0c80006f  # jal x0, 200
+    .word 0x10612423  # sw x6, 264(x2)
+    .word 0x00130313  # addi x6, x6, 1
+    .word 0x12612023  # sw x6, 288(x2)
+    .word 0x10812283  # lw x5, 264(x2)
+    .word 0x00800313  # addi x6, x0, 8
+    .word 0x026282b3  # mul x5, x5, x6
+    .word 0x00d00313  # addi x6, x0, 13
+    .word 0x0262d2b3  # divu x5, x5, x6
+    .word 0x10512623  # sw x5, 268(x2)
+    .word 0x10c12283  # lw x5, 268(x2)
+    .word 0x00229293  # slli x5, x5, 2
+    .word 0x002282b3  # add x5, x5, x2
+    .word 0x0d42a283  # lw x5, 212(x5)
+    .word 0x10c12303  # lw x6, 268(x2)
+    .word 0x00100393  # addi x7, x0, 1
+    .word 0x00730333  # add x6, x6, x7
+    .word 0x00231313  # slli x6, x6, 2
+    .word 0x00230333  # add x6, x6, x2
+    .word 0x0d432303  # lw x6, 212(x6)
+    .word 0x00d00393  # addi x7, x0, 13
+    .word 0x00731333  # sll x6, x6, x7
+    .word 0x0062e2b3  # or x5, x5, x6
+    .word 0x10812303  # lw x6, 264(x2)
+    .word 0x00800393  # addi x7, x0, 8
+    .word 0x02730333  # mul x6, x6, x7
+    .word 0x00d00393  # addi x7, x0, 13
+    .word 0x02737333  # remu x6, x6, x7
+    .word 0x0062d2b3  # srl x5, x5, x6
+    .word 0x0ff00313  # addi x6, x0, 255
+    .word 0x0062f2b3  # and x5, x5, x6
+    .word 0x10512823  # sw x5, 272(x2)
+    .word 0x10412283  # lw x5, 260(x2)
+    .word 0x00800313  # addi x6, x0, 8
+    .word 0x0062d2b3  # srl x5, x5, x6
+    .word 0x11012303  # lw x6, 272(x2)
+    .word 0x006282b3  # add x5, x5, x6
+    .word 0x10812303  # lw x6, 264(x2)
+    .word 0x01000393  # addi x7, x0, 16
+    .word 0x00730333  # add x6, x6, x7
+    .word 0x00230333  # add x6, x6, x2
+    .word 0x00034303  # lbu x6, 0(x6)
+    .word 0x006282b3  # add x5, x5, x6
+    .word 0x10512223  # sw x5, 260(x2)
+    .word 0x10812283  # lw x5, 264(x2)
+    .word 0x10412303  # lw x6, 260(x2)
+    .word 0x0ff37313  # andi x6, x6, 255
+    .word 0x002282b3  # add x5, x5, x2
+    .word 0x04628423  # sb x6, 72(x5)
+    .word 0xf2dff06f  # jal x0, -212
+    # the result
+    .word 0x00000513  # addi x10, x0, 0
+    # parameter 2: the array, back
+    .word 0x16812283  # lw x5, 360(x2)
+    .word 0x04800313  # addi x6, x0, 72
+    .word 0x00230333  # add x6, x6, x2
+    .word 0x01000393  # addi x7, x0, 16
+    .word 0x005383b3  # add x7, x7, x5
+    .word 0x00034e03  # lbu x28, 0(x6)
+    .word 0x01c28023  # sb x28, 0(x5)
+    .word 0x00128293  # addi x5, x5, 1
+    .word 0x00130313  # addi x6, x6, 1
+    .word 0xfe7298e3  # bne x5, x7, -16
+    # above the frame
+    .word 0x13000293  # addi x5, x0, 304
+    .word 0x002282b3  # add x5, x5, x2
+    # the caller's registers
+    .word 0x0002a403  # lw x8, 0(x5)
+    .cfi_restore 8
+    .word 0x0042a483  # lw x9, 4(x5)
+    .cfi_restore 9
+    .word 0x0082a903  # lw x18, 8(x5)
+    .cfi_restore 18
+    .word 0x00c2a983  # lw x19, 12(x5)
+    .cfi_restore 19
+    .word 0x0102aa03  # lw x20, 16(x5)
+    .cfi_restore 20
+    .word 0x0142aa83  # lw x21, 20(x5)
+    .cfi_restore 21
+    .word 0x0182ab03  # lw x22, 24(x5)
+    .cfi_restore 22
+    .word 0x01c2ab83  # lw x23, 28(x5)
+    .cfi_restore 23
+    .word 0x0202ac03  # lw x24, 32(x5)
+    .cfi_restore 24
+    .word 0x0242ac83  # lw x25, 36(x5)
+    .cfi_restore 25
+    .word 0x0282ad03  # lw x26, 40(x5)
+    .cfi_restore 26
+    .word 0x02c2ad83  # lw x27, 44(x5)
+    .cfi_restore 27
+    # the caller's x2
+    .word 0x05028293  # addi x5, x5, 80
+    .cfi_def_cfa 5, 0
+    # all the room, wiped upward
+    .word 0x00012023  # sw x0, 0(x2)
+    .word 0x00012223  # sw x0, 4(x2)
+    .word 0x00012423  # sw x0, 8(x2)
+    .word 0x00012623  # sw x0, 12(x2)
+    .word 0x01010113  # addi x2, x2, 16
+    .word 0xfe5116e3  # bne x2, x5, -20
+    .cfi_def_cfa 2, 0
+    # temporaries, wiped
+    .word 0x00000293  # addi x5, x0, 0
+    .word 0x00000313  # addi x6, x0, 0
+    .word 0x00000393  # addi x7, x0, 0
+    .word 0x00000593  # addi x11, x0, 0
+    .word 0x00000613  # addi x12, x0, 0
+    .word 0x00000693  # addi x13, x0, 0
+    .word 0x00000713  # addi x14, x0, 0
+    .word 0x00000793  # addi x15, x0, 0
+    .word 0x00000813  # addi x16, x0, 0
+    .word 0x00000893  # addi x17, x0, 0
+    .word 0x00000e13  # addi x28, x0, 0
+    .word 0x00000e93  # addi x29, x0, 0
+    .word 0x00000f13  # addi x30, x0, 0
+    .word 0x00000f93  # addi x31, x0, 0
+    # back
+    .word 0x00008067  # jalr x0, 0(x1)
+    .cfi_endproc
+    .size poly1305_finish, . - poly1305_finish
+    .option pop

@@ -1,0 +1,18 @@
+/* aes128_encrypt: made by factc function.
+   Arrays are aligned by their elements, lie outside the stack below the caller, and no two that are not const overlap.
+   Neither time nor addresses hang on what is secret, for an observer of profile 1. */
+#ifndef FACT_aes128_encrypt_H
+#define FACT_aes128_encrypt_H
+#include <stdbool.h>
+#include <stdint.h>
+#define aes128_encrypt_STACK_BYTES 1744
+#ifdef __cplusplus
+extern "C" {
+#endif
+void aes128_encrypt(
+    const uint8_t key[16] /* secret */,
+    uint8_t block[16] /* secret */);
+#ifdef __cplusplus
+}
+#endif
+#endif

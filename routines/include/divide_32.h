@@ -1,0 +1,19 @@
+/* divide_32: made by factc function.
+   Arrays are aligned by their elements, lie outside the stack below the caller, and no two that are not const overlap.
+   Neither time nor addresses hang on what is secret, for an observer of profile 1. */
+#ifndef FACT_divide_32_H
+#define FACT_divide_32_H
+#include <stdbool.h>
+#include <stdint.h>
+#define divide_32_STACK_BYTES 144
+#ifdef __cplusplus
+extern "C" {
+#endif
+void divide_32(
+    uint32_t dividend /* secret */,
+    uint32_t divisor /* secret */,
+    uint32_t result[2] /* secret */);
+#ifdef __cplusplus
+}
+#endif
+#endif

@@ -1,0 +1,18 @@
+/* hex_decode: made by factc function.
+   Arrays are aligned by their elements, lie outside the stack below the caller, and no two that are not const overlap.
+   Neither time nor addresses hang on what is secret, for an observer of profile 1. */
+#ifndef FACT_hex_decode_H
+#define FACT_hex_decode_H
+#include <stdbool.h>
+#include <stdint.h>
+#define hex_decode_STACK_BYTES 224
+#ifdef __cplusplus
+extern "C" {
+#endif
+bool /* secret */ hex_decode(
+    const uint8_t text[64] /* secret */,
+    uint8_t bytes[32] /* secret */);
+#ifdef __cplusplus
+}
+#endif
+#endif

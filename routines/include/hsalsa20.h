@@ -1,0 +1,19 @@
+/* hsalsa20: made by factc function.
+   Arrays are aligned by their elements, lie outside the stack below the caller, and no two that are not const overlap.
+   Neither time nor addresses hang on what is secret, for an observer of profile 1. */
+#ifndef FACT_hsalsa20_H
+#define FACT_hsalsa20_H
+#include <stdbool.h>
+#include <stdint.h>
+#define hsalsa20_STACK_BYTES 384
+#ifdef __cplusplus
+extern "C" {
+#endif
+void hsalsa20(
+    const uint8_t key[32] /* secret */,
+    const uint8_t nonce[16] /* public */,
+    uint8_t derived[32] /* secret */);
+#ifdef __cplusplus
+}
+#endif
+#endif

@@ -1,0 +1,17 @@
+/* keccak_f1600: made by factc function.
+   Arrays are aligned by their elements, lie outside the stack below the caller, and no two that are not const overlap.
+   Neither time nor addresses hang on what is secret, for an observer of profile 1. */
+#ifndef FACT_keccak_f1600_H
+#define FACT_keccak_f1600_H
+#include <stdbool.h>
+#include <stdint.h>
+#define keccak_f1600_STACK_BYTES 976
+#ifdef __cplusplus
+extern "C" {
+#endif
+void keccak_f1600(
+    uint32_t state[50] /* secret */);
+#ifdef __cplusplus
+}
+#endif
+#endif

@@ -1,0 +1,18 @@
+/* lookup_256: made by factc function.
+   Arrays are aligned by their elements, lie outside the stack below the caller, and no two that are not const overlap.
+   Neither time nor addresses hang on what is secret, for an observer of profile 1. */
+#ifndef FACT_lookup_256_H
+#define FACT_lookup_256_H
+#include <stdbool.h>
+#include <stdint.h>
+#define lookup_256_STACK_BYTES 368
+#ifdef __cplusplus
+extern "C" {
+#endif
+uint8_t /* secret */ lookup_256(
+    uint8_t place /* secret */,
+    const uint8_t table[256] /* secret */);
+#ifdef __cplusplus
+}
+#endif
+#endif

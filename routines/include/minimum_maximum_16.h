@@ -1,0 +1,18 @@
+/* minimum_maximum_16: made by factc function.
+   Arrays are aligned by their elements, lie outside the stack below the caller, and no two that are not const overlap.
+   Neither time nor addresses hang on what is secret, for an observer of profile 1. */
+#ifndef FACT_minimum_maximum_16_H
+#define FACT_minimum_maximum_16_H
+#include <stdbool.h>
+#include <stdint.h>
+#define minimum_maximum_16_STACK_BYTES 176
+#ifdef __cplusplus
+extern "C" {
+#endif
+void minimum_maximum_16(
+    const uint32_t a[16] /* secret */,
+    uint32_t ends[2] /* secret */);
+#ifdef __cplusplus
+}
+#endif
+#endif

@@ -1,0 +1,18 @@
+/* mlkem_compress: made by factc function.
+   Arrays are aligned by their elements, lie outside the stack below the caller, and no two that are not const overlap.
+   Neither time nor addresses hang on what is secret, for an observer of profile 1. */
+#ifndef FACT_mlkem_compress_H
+#define FACT_mlkem_compress_H
+#include <stdbool.h>
+#include <stdint.h>
+#define mlkem_compress_STACK_BYTES 624
+#ifdef __cplusplus
+extern "C" {
+#endif
+void mlkem_compress(
+    uint16_t f[256] /* secret */,
+    uint32_t d /* public */);
+#ifdef __cplusplus
+}
+#endif
+#endif

@@ -1,0 +1,18 @@
+/* mlkem_decompress: made by factc function.
+   Arrays are aligned by their elements, lie outside the stack below the caller, and no two that are not const overlap.
+   Neither time nor addresses hang on what is secret, for an observer of profile 1. */
+#ifndef FACT_mlkem_decompress_H
+#define FACT_mlkem_decompress_H
+#include <stdbool.h>
+#include <stdint.h>
+#define mlkem_decompress_STACK_BYTES 624
+#ifdef __cplusplus
+extern "C" {
+#endif
+void mlkem_decompress(
+    uint16_t f[256] /* secret */,
+    uint32_t d /* public */);
+#ifdef __cplusplus
+}
+#endif
+#endif

@@ -1,0 +1,19 @@
+/* mlkem_multiply_ntts: made by factc function.
+   Arrays are aligned by their elements, lie outside the stack below the caller, and no two that are not const overlap.
+   Neither time nor addresses hang on what is secret, for an observer of profile 1. */
+#ifndef FACT_mlkem_multiply_ntts_H
+#define FACT_mlkem_multiply_ntts_H
+#include <stdbool.h>
+#include <stdint.h>
+#define mlkem_multiply_ntts_STACK_BYTES 2256
+#ifdef __cplusplus
+extern "C" {
+#endif
+void mlkem_multiply_ntts(
+    const uint16_t f[256] /* secret */,
+    const uint16_t g[256] /* secret */,
+    uint16_t product[256] /* secret */);
+#ifdef __cplusplus
+}
+#endif
+#endif

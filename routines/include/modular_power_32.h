@@ -1,0 +1,19 @@
+/* modular_power_32: made by factc function.
+   Arrays are aligned by their elements, lie outside the stack below the caller, and no two that are not const overlap.
+   Neither time nor addresses hang on what is secret, for an observer of profile 1. */
+#ifndef FACT_modular_power_32_H
+#define FACT_modular_power_32_H
+#include <stdbool.h>
+#include <stdint.h>
+#define modular_power_32_STACK_BYTES 176
+#ifdef __cplusplus
+extern "C" {
+#endif
+uint32_t /* secret */ modular_power_32(
+    uint32_t base /* secret */,
+    uint32_t exponent /* secret */,
+    uint32_t modulus /* secret */);
+#ifdef __cplusplus
+}
+#endif
+#endif

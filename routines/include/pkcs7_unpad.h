@@ -1,0 +1,17 @@
+/* pkcs7_unpad: made by factc function.
+   Arrays are aligned by their elements, lie outside the stack below the caller, and no two that are not const overlap.
+   Neither time nor addresses hang on what is secret, for an observer of profile 1. */
+#ifndef FACT_pkcs7_unpad_H
+#define FACT_pkcs7_unpad_H
+#include <stdbool.h>
+#include <stdint.h>
+#define pkcs7_unpad_STACK_BYTES 128
+#ifdef __cplusplus
+extern "C" {
+#endif
+uint8_t /* secret */ pkcs7_unpad(
+    const uint8_t block[16] /* secret */);
+#ifdef __cplusplus
+}
+#endif
+#endif

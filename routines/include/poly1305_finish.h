@@ -1,0 +1,19 @@
+/* poly1305_finish: made by factc function.
+   Arrays are aligned by their elements, lie outside the stack below the caller, and no two that are not const overlap.
+   Neither time nor addresses hang on what is secret, for an observer of profile 1. */
+#ifndef FACT_poly1305_finish_H
+#define FACT_poly1305_finish_H
+#include <stdbool.h>
+#include <stdint.h>
+#define poly1305_finish_STACK_BYTES 384
+#ifdef __cplusplus
+extern "C" {
+#endif
+void poly1305_finish(
+    const uint8_t key[32] /* secret */,
+    const uint32_t sum[10] /* secret */,
+    uint8_t tag[16] /* secret */);
+#ifdef __cplusplus
+}
+#endif
+#endif

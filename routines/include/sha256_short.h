@@ -1,0 +1,19 @@
+/* sha256_short: made by factc function.
+   Arrays are aligned by their elements, lie outside the stack below the caller, and no two that are not const overlap.
+   Neither time nor addresses hang on what is secret, for an observer of profile 1. */
+#ifndef FACT_sha256_short_H
+#define FACT_sha256_short_H
+#include <stdbool.h>
+#include <stdint.h>
+#define sha256_short_STACK_BYTES 896
+#ifdef __cplusplus
+extern "C" {
+#endif
+void sha256_short(
+    const uint8_t message[119] /* secret */,
+    uint32_t length /* public */,
+    uint8_t digest[32] /* secret */);
+#ifdef __cplusplus
+}
+#endif
+#endif

@@ -1,0 +1,19 @@
+/* sha3_256_short: made by factc function.
+   Arrays are aligned by their elements, lie outside the stack below the caller, and no two that are not const overlap.
+   Neither time nor addresses hang on what is secret, for an observer of profile 1. */
+#ifndef FACT_sha3_256_short_H
+#define FACT_sha3_256_short_H
+#include <stdbool.h>
+#include <stdint.h>
+#define sha3_256_short_STACK_BYTES 1168
+#ifdef __cplusplus
+extern "C" {
+#endif
+void sha3_256_short(
+    const uint8_t message[135] /* secret */,
+    uint32_t length /* public */,
+    uint8_t digest[32] /* secret */);
+#ifdef __cplusplus
+}
+#endif
+#endif

@@ -1,0 +1,18 @@
+/* sha512_block: made by factc function.
+   Arrays are aligned by their elements, lie outside the stack below the caller, and no two that are not const overlap.
+   Neither time nor addresses hang on what is secret, for an observer of profile 1. */
+#ifndef FACT_sha512_block_H
+#define FACT_sha512_block_H
+#include <stdbool.h>
+#include <stdint.h>
+#define sha512_block_STACK_BYTES 1840
+#ifdef __cplusplus
+extern "C" {
+#endif
+void sha512_block(
+    uint32_t state[16] /* secret */,
+    const uint8_t block[128] /* secret */);
+#ifdef __cplusplus
+}
+#endif
+#endif

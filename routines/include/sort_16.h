@@ -1,0 +1,17 @@
+/* sort_16: made by factc function.
+   Arrays are aligned by their elements, lie outside the stack below the caller, and no two that are not const overlap.
+   Neither time nor addresses hang on what is secret, for an observer of profile 1. */
+#ifndef FACT_sort_16_H
+#define FACT_sort_16_H
+#include <stdbool.h>
+#include <stdint.h>
+#define sort_16_STACK_BYTES 224
+#ifdef __cplusplus
+extern "C" {
+#endif
+void sort_16(
+    uint32_t a[16] /* secret */);
+#ifdef __cplusplus
+}
+#endif
+#endif

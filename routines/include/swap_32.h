@@ -1,0 +1,19 @@
+/* swap_32: made by factc function.
+   Arrays are aligned by their elements, lie outside the stack below the caller, and no two that are not const overlap.
+   Neither time nor addresses hang on what is secret, for an observer of profile 1. */
+#ifndef FACT_swap_32_H
+#define FACT_swap_32_H
+#include <stdbool.h>
+#include <stdint.h>
+#define swap_32_STACK_BYTES 176
+#ifdef __cplusplus
+extern "C" {
+#endif
+void swap_32(
+    bool choice /* secret */,
+    uint8_t a[32] /* secret */,
+    uint8_t b[32] /* secret */);
+#ifdef __cplusplus
+}
+#endif
+#endif
