@@ -21,7 +21,7 @@ use Rattle.certified_runs.specs.declared.certifying.CertifiedEnd.{CertifiedEnd}
 pub refused_certified : (image : Fields) (given : List (Option Arg)) (fault : ArgumentFault) (e : RunFault) → e ≡ Argument fault.rule fault.index → fault_of_given (params_of image) given ≡ Some fault → Certified image given (Err e)
 refused_certified image given fault e is first = subst (λ (x : RunFault). Certified image given (Err x)) (sym is) (refused first)
 
--- want of memory
+-- out of memory
 pub memory_certified : (image : Fields) (given : List (Option Arg)) (answer : Result CertifiedEnd RunFault) → fault_of_given (params_of image) given ≡ None → answer ≡ Err Memory → Certified image given answer
 memory_certified image given answer none is = subst (λ (x : Result CertifiedEnd RunFault). Certified image given x) (sym is) (out_of_memory none)
 

@@ -27,19 +27,19 @@ pub fn factc<'a>(alloc: Global) -> Result<Command<'a>, AllocError> {
 
 fn check_command<'a>(alloc: Global) -> Result<Command<'a>, AllocError> {
     Command::new(alloc, "check")
-        .about("Says whether a text is accepted, or names the first rule that it violates")
-        .arg(path(alloc, "FILE", "The text to judge"))?
+        .about("Says whether a source is accepted, or names the first rule that it violates")
+        .arg(path(alloc, "FILE", "The source to check"))?
         .arg(profile(alloc))
 }
 
 fn build_command<'a>(alloc: Global) -> Result<Command<'a>, AllocError> {
     Command::new(alloc, "build")
-        .about("Compiles a text to an image, or names the first rule that the text violates")
-        .arg(path(alloc, "FILE", "The text to compile"))?
+        .about("Compiles a source to an image, or names the first rule that it violates")
+        .arg(path(alloc, "FILE", "The source to compile"))?
         .arg(path(
             alloc,
             "IMAGE",
-            "Where to write the image; the text of a refused FILE leaves it as it was",
+            "Where to write the image; it stays as it was if FILE is refused",
         ))?
         .arg(profile(alloc))
 }
@@ -47,30 +47,30 @@ fn build_command<'a>(alloc: Global) -> Result<Command<'a>, AllocError> {
 fn function_command<'a>(alloc: Global) -> Result<Command<'a>, AllocError> {
     Command::new(alloc, "function")
         .about(
-            "Compiles a text to a function that C calls: one file for an assembler, and one with its C header",
+            "Compiles a source to a function that C calls: one file for an assembler, and one with its C header",
         )
         .arg(path(
             alloc,
             "FILE",
-            "The text to compile; the function has the name of its export",
+            "The source to compile; the function has the name of its export",
         ))?
         .arg(path(
             alloc,
             "ASM",
-            "Where to write the function, for a GNU or LLVM assembler; the text of a refused FILE leaves it as it was",
+            "Where to write the function, for a GNU or LLVM assembler; it stays as it was if FILE is refused",
         ))?
         .arg(path(
             alloc,
             "HEADER",
-            "Where to write the C header, after ASM; the text of a refused FILE leaves it as it was",
+            "Where to write the C header, after ASM; it stays as it was if FILE is refused",
         ))?
         .arg(profile(alloc))
 }
 
 fn eval_command<'a>(alloc: Global) -> Result<Command<'a>, AllocError> {
     Command::new(alloc, "eval")
-        .about("Works out what an accepted text means on arguments, without an image")
-        .arg(path(alloc, "FILE", "The text"))?
+        .about("Works out what an accepted source means on arguments, without an image")
+        .arg(path(alloc, "FILE", "The source"))?
         .arg(arguments(
             alloc,
             "One for each parameter: a number (decimal, or hexadecimal after 0x), for a bool 0 or \
@@ -136,7 +136,7 @@ fn wrap_command<'a>(alloc: Global) -> Result<Command<'a>, AllocError> {
         .arg(path(
             alloc,
             "FILE",
-            "A text whose export has the parameters and the result that the code has",
+            "A source whose export has the parameters and the result that the code has",
         ))?
         .arg(path(
             alloc,
@@ -177,7 +177,7 @@ fn harts_command<'a>(alloc: Global) -> Result<Command<'a>, AllocError> {
 fn explain_command<'a>(alloc: Global) -> Result<Command<'a>, AllocError> {
     Command::new(alloc, "explain")
         .about(
-            "Explains the code of a refusal, or the name of a stop: the rule, a text that violates it, and the same text mended",
+            "Explains the code of an error, or the name of a stop: the rule, a source that violates it, and the same source mended",
         )
         .arg(path(
             alloc,
@@ -208,7 +208,7 @@ fn number<'a>(alloc: Global, name: &'a str, help: &'a str) -> Arg<'a> {
 /// The numbers of the profiles.
 static PROFILES: [&str; 2] = ["1", "2"];
 
-/// For which observer a text is judged or compiled.
+/// For which observer a source is judged or compiled.
 fn profile<'a>(alloc: Global) -> Arg<'a> {
     Arg::new(alloc, "profile")
         .long("profile")

@@ -34,6 +34,6 @@ pub handed_on : {A : Type 0} (P : Fault → Type 0) (answer : Result A Fault) (e
 handed_on {A} P answer e fault is same h =
     subst (λ (r : Result A Fault). IfErr r P) (sym is) (subst P (sym same) h)
 
--- and want of memory
+-- and out of memory
 pub memory_on : {A : Type 0} (P : Fault → Type 0) (answer : Result A Fault) (e : Fault) → answer ≡ Err e → P e → IfErr answer P
 memory_on {A} P answer e is h = subst (λ (r : Result A Fault). IfErr r P) (sym is) h

@@ -30,7 +30,7 @@ failing fault = Err fault
 abbrev giving : Results → Answered
 giving outcome = Ok outcome
 
--- where the meaning is known, a fault is want of memory
+-- where the meaning is known, a fault is out of memory
 pub only_memory : (fault : EvalFault) (answer : Answered) (results : Results) → answer ≡ giving results → (failing fault ≢ failing Memory → failing fault ≡ answer) → fault ≡ Memory
 only_memory (Argument why) answer results is exact = let both = exact (λ e. cc) ∙ is in cc
 only_memory (NoMeaning place) answer results is exact = let both = exact (λ e. cc) ∙ is in cc

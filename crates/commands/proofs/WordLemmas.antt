@@ -20,7 +20,7 @@ use Rattle.language.specs.declared.signature.Param.{Param}
 use Rattle.language.specs.declared.values.Arg.{Arg}
 use Rattle.rv_machine.specs.declared.stops.Stop.{Stop}
 
--- a fault that reading answers is want of memory or the first fault
+-- a fault that reading answers is out of memory or the first fault
 pub fault_of_words : {A : Type 0} (first : Option ArgumentFault) (why : RunFault) (answer : Result A RunFault) → answer ≡ Err why
     → ((fault : ArgumentFault) → ((answer ≡ Err (Argument fault.rule fault.index)) → first ≡ Some fault) × (first ≡ Some fault → answer ≡ Err (Argument fault.rule fault.index)))
     → ((stop : Stop) → answer ≢ Err (Stopped stop)) → IsFaultOfWords first why

@@ -78,7 +78,7 @@ Refuses (requests.Explain explanation) before after fault = IsOutOfMemory fault 
 abbrev pub IsPut : List ℕ → List ℕ → List ℕ → Type 0
 IsPut bytes before after = (after ≡ before ++ bytes) ⊎ GainsPart before after bytes
 
--- how a fault is reported on standard error, with which exit status: by its line; or, where there is no memory for that, as want of memory
+-- how a fault is reported on standard error, with which exit status: by its line; or, where there is no memory for that, as out of memory
 pub data Reports (fault : Fault) (before after : List ℕ) : ℕ → Type 0 where
   by_line : IsPut (fault_line fault ++ codes "\n") before after → Reports fault before after (fault_status fault)
   no_memory : IsPut (codes "refused: M1: memory\n") before after → Reports fault before after 4

@@ -74,7 +74,7 @@ pub fn perform<F: Files, O: Sink, E: Sink>(
 }
 
 /// Prints the fault's line, and answers its exit status. Where there is no memory for the line, the
-/// fault is want of memory. That the line could not be printed is nowhere to be said.
+/// fault is out of memory. That the line could not be printed is nowhere to be said.
 fn report<E: Sink>(alloc: Global, fault: &Fault<'_>, err: &mut E) -> u8
     ensures reported { IsTrue E.TELLS → Reports fault.now (E.taken err.old) (E.taken err.new) result }
     ensures low { 1 ≤ result }

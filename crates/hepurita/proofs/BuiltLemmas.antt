@@ -43,7 +43,7 @@ module _ (profile : Profile) where
   small_flat program flat typed (before, export, is, sized, made) =
       (before, export, record { well_formed = record { typed = typed; is_export = is }; sized = sized }, made)
 
-  -- what is refused for the export's size, or for want of memory
+  -- what is refused for the export's size, or when out of memory
   abbrev pub IsLargeFor : ProgramTree → Refusal → Type 0
   IsLargeFor program r =
       (before : List ProcedureTree) × (export : ProcedureTree) × (exported [] program.procedures ≡ Some (before, export))

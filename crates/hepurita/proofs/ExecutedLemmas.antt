@@ -15,7 +15,7 @@ use Rattle.hepurita.specs.Bases.{code_base, frame_base}
 use Rattle.codegen.specs.Loaded.{params_of, code_at, loaded_at}
 use Rattle.hepurita.specs.Executed.{Executed, refused, out_of_memory, ran, answer_at}
 
--- want of memory, where there is no fault
+-- out of memory, where there is no fault
 pub memory_executed : (image : Fields) (args : List Arg) (keeps : Bool) (list : List Observation) (r : Result Results RunFault) → fault_of (params_of image) args ≡ None → r ≡ Err Memory → Executed image args keeps list r list
 memory_executed image args keeps list r none is = subst (λ (x : Result Results RunFault). Executed image args keeps list x list) (sym is) (out_of_memory none)
 

@@ -57,7 +57,7 @@ pub data Judges (profile : Profile) (text : List ℕ) : Judgement → Type 0 whe
   -- it is one
   readable : {program : ProgramTree} {judgement : Judgement} → Reads text (accepted program) → JudgesProgram profile program judgement → Judges profile text judgement
 
--- the refusal is want of memory, which has no place, or it has a place and is the judgement
+-- the refusal is out of memory, which has no place, or it has a place and is the judgement
 abbrev pub IsRefusal : (Judgement → Type 0) → Refusal → Type 0
 IsRefusal J refusal = IsWantOfMemory refusal.rule refusal.place ⊎ ((place : Place) × (refusal.place ≡ Some place) × J (refuses refusal.rule place))
 

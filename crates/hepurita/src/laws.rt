@@ -65,7 +65,7 @@ pub fn builds_agree()
 /// `build_as` answers and executed on arguments within the parameter types, gives the one outcome that the text
 /// means. On two lists of arguments that are equal where they are public `pair` answers `same`, the
 /// recorder takes one and the same list, and the return and the `mut` arrays are equal where they are public. Other
-/// answers are want of memory and a recorder that refuses.
+/// answers are out of memory and a recorder that refuses.
 pub fn images_do_what_texts_mean()
     ensures outcome { (profile : Profile) (text bytes : List ℕ) (program : ProgramTree) (before : List ProcedureTree) (export : ProcedureTree) (image : Fields) (args : List Arg) (keeps : Bool) (list after : List Observation) (answer : Result Results RunFault)
         → Builds profile text bytes program before export image → AreWithin (params_of image) args

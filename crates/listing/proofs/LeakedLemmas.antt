@@ -14,7 +14,7 @@ use Rattle.listing.specs.declared.fault.LeakFault.TheVariants.{Argument, Memory}
 use Rattle.listing.specs.Leaked.{Leaks, refused, out_of_memory, ran}
 use Rattle.listing.specs.Listings.{Ends}
 
--- want of memory, where there is no fault
+-- out of memory, where there is no fault
 pub memory_leaks : (image : Fields) (args : List Arg) (r : Result Stop LeakFault) → fault_of (params_of image) args ≡ None → r ≡ Err Memory → Leaks image args r
 memory_leaks image args r none is = subst (λ (x : Result Stop LeakFault). Leaks image args x) (sym is) (out_of_memory none)
 

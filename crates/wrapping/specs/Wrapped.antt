@@ -78,7 +78,7 @@ abbrev pub IsFaultOf : List ℕ → List ℕ → Asked → WrapFault Refusal →
 IsFaultOf text code asked (Text refusal) = IsRefusal (Judges asked.profile text) refusal
 IsFaultOf text code asked (Code rule) = Breaks text code asked rule
 
--- want of memory, or a broken rule of which this holds
+-- out of memory, or a broken rule of which this holds
 abbrev pub IsUnlessMemory : WrapFault Refusal → (CodeRule → Type 0) → Type 0
 IsUnlessMemory (Text refusal) P = IsWantOfMemory refusal.rule refusal.place
 IsUnlessMemory (Code rule) P = P rule

@@ -1,4 +1,4 @@
--- A run is refused, or cut short for want of memory, or follows the schedule.
+-- A run is refused, or cut short when out of memory, or follows the schedule.
 use Rattle.std.proofs.Common.{◌≡◌, ◌<◌, All, Ok, length, map, inr, sym, ap, subst, ◌∙◌}
 use Rattle.std.proofs.lemmas.List.{length-map}
 use Rattle.std.proofs.lemmas.Result.{err_from_is_err_and}
