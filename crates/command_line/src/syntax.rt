@@ -14,6 +14,7 @@ pub fn factc<'a>(alloc: Global) -> Result<Command<'a>, AllocError> {
         .subcommand(check_command(alloc)?)?
         .subcommand(build_command(alloc)?)?
         .subcommand(function_command(alloc)?)?
+        .subcommand(stat_command(alloc)?)?
         .subcommand(eval_command(alloc)?)?
         .subcommand(run_command(alloc)?)?
         .subcommand(leak_command(alloc)?)?
@@ -29,7 +30,8 @@ fn check_command<'a>(alloc: Global) -> Result<Command<'a>, AllocError> {
     Command::new(alloc, "check")
         .about("Says whether a source is accepted, or names the first rule that it violates")
         .arg(path(alloc, "FILE", "The source to check"))?
-        .arg(profile(alloc))
+        .arg(profile(alloc))?
+        .arg(explain(alloc))
 }
 
 fn build_command<'a>(alloc: Global) -> Result<Command<'a>, AllocError> {
@@ -41,6 +43,17 @@ fn build_command<'a>(alloc: Global) -> Result<Command<'a>, AllocError> {
             "IMAGE",
             "Where to write the image; it stays as it was if FILE is refused",
         ))?
+        .arg(profile(alloc))?
+        .arg(explain(alloc))
+}
+
+fn stat_command<'a>(alloc: Global) -> Result<Command<'a>, AllocError> {
+    Command::new(alloc, "stat")
+        .about(
+            "Says what an accepted source costs: its nodes, its work, the size of its code and of its frame, and how many \
+             instructions a run executes at most",
+        )
+        .arg(path(alloc, "FILE", "The source"))?
         .arg(profile(alloc))
 }
 
@@ -219,6 +232,17 @@ fn profile<'a>(alloc: Global) -> Arg<'a> {
         .help(
             "From whom secrets are kept: from an observer to whom multiplications show nothing of their operands \
              (1), or from one who sees the operands of multiplications too (2)",
+        )
+}
+
+/// Whether a refusal is explained.
+fn explain<'a>(alloc: Global) -> Arg<'a> {
+    Arg::new(alloc, "explain")
+        .long("explain")
+        .action(ArgAction::SetTrue)
+        .help(
+            "Where the source is refused, shows the line of the place too, and says what the rule is, what usually violates \
+             it and what to do",
         )
 }
 

@@ -14,10 +14,16 @@ pub enum Request<'a> {
     Check {
         file: &'a str,
         profile: Profile,
+        explain: bool,
     },
     Build {
         file: &'a str,
         image: &'a str,
+        profile: Profile,
+        explain: bool,
+    },
+    Stat {
+        file: &'a str,
         profile: Profile,
     },
     Function {
@@ -107,11 +113,17 @@ fn asked<'a>(alloc: Global, words: &'a [&'a str]) -> Result<Request<'a>, Error>
         Some(("check", check)) => Ok(Request::Check {
             file: text_of(check, "FILE"),
             profile: profile_of(check),
+            explain: check.get_flag("explain"),
         }),
         Some(("build", build)) => Ok(Request::Build {
             file: text_of(build, "FILE"),
             image: text_of(build, "IMAGE"),
             profile: profile_of(build),
+            explain: build.get_flag("explain"),
+        }),
+        Some(("stat", stat)) => Ok(Request::Stat {
+            file: text_of(stat, "FILE"),
+            profile: profile_of(stat),
         }),
         Some(("function", function)) => Ok(Request::Function {
             file: text_of(function, "FILE"),

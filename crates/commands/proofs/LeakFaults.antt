@@ -10,7 +10,7 @@ use Rattle.commands.specs.Unread as unread_specs
 use Rattle.commands.specs.Unread.{IsOutOfMemory, IsUnread, IsUnwritten, NotRead, unread}
 use Rattle.commands.specs.Words.{AreSpelled}
 use Rattle.commands.specs.declared.fault.Fault.{Fault}
-use Rattle.commands.specs.declared.fault.Fault.TheVariants.{Text, Image, Run, Eval, Plan, Harts, Code, Name, File}
+use Rattle.commands.specs.declared.fault.Fault.TheVariants.{Text, Explained, Image, Run, Eval, Plan, Harts, Code, Name, File}
 use Rattle.commands.specs.declared.fault.FileFault.{FileFault}
 use Rattle.commands.specs.declared.fault.FileFault.TheVariants.{CannotRead, CannotWrite, NotUtf8}
 use Rattle.image_fields.specs.Fields.{Fields}
@@ -25,6 +25,7 @@ use Rattle.streams.specs.Streams.{Writes, WritesPart}
 
 not_memory : (fault : Fault) → IsOutOfMemory fault → IsOutputFault fault → ⊥
 not_memory (Text refusal) memory output = let is = output.2 in cc
+not_memory (Explained refusal lines) memory output = memory
 not_memory (Image why) memory output = let is = output.2 in cc
 not_memory (Run why) memory output = let is = output.2 in cc
 not_memory (Eval why) memory output = let is = output.2 in cc

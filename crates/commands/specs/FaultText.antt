@@ -1,9 +1,10 @@
 -- The line and the exit status of each fault.
 use Rattle.std.specs.Prelude.{ℕ, List, ◌++◌, codes}
 use Rattle.std.specs.Fmt.{decimal}
+use Rattle.std.specs.String.{string_bytes}
 use Rattle.arguments.specs.Text as arguments
 use Rattle.commands.specs.declared.fault.Fault.{Fault}
-use Rattle.commands.specs.declared.fault.Fault.TheVariants.{Text, Image, Run, Eval, Plan, Harts, Code, Name, File}
+use Rattle.commands.specs.declared.fault.Fault.TheVariants.{Text, Explained, Image, Run, Eval, Plan, Harts, Code, Name, File}
 use Rattle.commands.specs.declared.fault.FileFault.{FileFault}
 use Rattle.commands.specs.declared.fault.FileFault.TheVariants.{CannotRead, CannotWrite, NotUtf8}
 use Rattle.function_text.specs.FaultText as functions
@@ -47,9 +48,10 @@ run_line (runs.Argument rule index) = codes "refused: " ++ run_fault_text (runs.
 run_line runs.Memory = codes "refused: " ++ run_fault_text runs.Memory
 run_line (runs.Stopped stop) = codes "stopped: " ++ stop_name stop
 
--- a fault's line, without its end
+-- a fault's line, and those that explain it, without the last one's end
 abbrev pub fault_line : Fault → List ℕ
 fault_line (Text refusal) = codes "refused: " ++ refusal_text refusal.rule refusal.place
+fault_line (Explained refusal lines) = codes "refused: " ++ (refusal_text refusal.rule refusal.place ++ (codes "\n" ++ string_bytes lines))
 fault_line (Image fault) = codes "refused: " ++ images.fault_text fault
 fault_line (Run fault) = run_line fault
 fault_line (Eval fault) = codes "refused: " ++ eval_fault_text fault
@@ -92,6 +94,7 @@ harts_status harts.Memory = 4
 -- the exit status; 3 is that of a file that failed
 abbrev pub fault_status : Fault → ℕ
 fault_status (Text refusal) = rule_status refusal.rule
+fault_status (Explained refusal lines) = rule_status refusal.rule
 fault_status (Image fault) = image_status fault
 fault_status (Run fault) = run_status fault
 fault_status (Eval fault) = eval_status fault

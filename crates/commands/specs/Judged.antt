@@ -1,12 +1,16 @@
 -- What is said of the text of a file, for an observer: it is accepted, or it is not.
-use Rattle.std.specs.Prelude.{ℕ, List}
+use Rattle.std.specs.Prelude.{◌≡◌, ◌⊎◌, Bool, true, false, ℕ, List}
+use Rattle.std.specs.String.{string_bytes}
 use Rattle.commands.specs.Contents.{Contents}
 use Rattle.commands.specs.FileTexts.{HoldsText, NoText}
 use Rattle.commands.specs.declared.fault.Fault.{Fault}
-use Rattle.commands.specs.declared.fault.Fault.TheVariants.{Text}
+use Rattle.commands.specs.declared.fault.Fault.TheVariants.{Text, Explained}
+use Rattle.commands.specs.Unread.{IsOutOfMemory}
+use Rattle.explained_refusals.specs.Explained.{Explains}
 use Rattle.hepurita.specs.Built.{Judges, IsRefusal, IsBuilt, accepts}
 use Rattle.language.specs.Tree.{ProcedureTree, ProgramTree}
 use Rattle.language.specs.declared.refusal.Refusal.{Refusal}
+use Rattle.source_statistics.specs.SourceText.{SaysCosts}
 use Rattle.word.specs.declared.profile.Profile.{Profile}
 
 -- the file's bytes are a text that is accepted
@@ -18,13 +22,34 @@ pub record IsAccepted (profile : Profile) (files : Contents) (path : List ℕ) :
   pub held : HoldsText files path text
   pub judged : Judges profile text (accepts program before export)
 
--- why it is not accepted: there is no text, or its first refusal
-pub data IsRefused (profile : Profile) (files : Contents) (path : List ℕ) : Fault → Type 0 where
-  no_text : {fault : Fault} → NoText files path fault → IsRefused profile files path fault
-  not_accepted : {text : List ℕ} {refusal : Refusal} → HoldsText files path text → IsRefusal (Judges profile text) refusal → IsRefused profile files path (Text refusal)
+-- the refusal, with lines that explain it
+abbrev pub IsExplained : List ℕ → Refusal → Fault → Type 0
+IsExplained source refusal (Explained told lines) = (told ≡ refusal) × Explains source refusal (string_bytes lines)
+IsExplained source refusal other = ⊥
+
+-- how a refusal of a source is told: as it is; or where it is to be explained, with lines that explain it, or there was no memory for these
+abbrev pub Tells : Bool → List ℕ → Refusal → Fault → Type 0
+Tells false source refusal fault = fault ≡ Text refusal
+Tells true source refusal fault = IsOutOfMemory fault ⊎ IsExplained source refusal fault
+
+-- why it is not accepted: there is no text, or its first refusal, explained or not
+pub data IsRefusedSo (explain : Bool) (profile : Profile) (files : Contents) (path : List ℕ) : Fault → Type 0 where
+  no_text : {fault : Fault} → NoText files path fault → IsRefusedSo explain profile files path fault
+  not_accepted : {text : List ℕ} (refusal : Refusal) {fault : Fault} → HoldsText files path text → IsRefusal (Judges profile text) refusal
+      → Tells explain text refusal fault → IsRefusedSo explain profile files path fault
+
+-- the same, not explained
+abbrev pub IsRefused : Profile → Contents → List ℕ → Fault → Type 0
+IsRefused = IsRefusedSo false
 
 -- the bytes are the image of the file's text
 pub record IsImageOf (profile : Profile) (files : Contents) (path : List ℕ) (bytes : List ℕ) : Type 0 where
   pub text : List ℕ
   pub held : HoldsText files path text
   pub built : IsBuilt profile text bytes
+
+-- the text is what the file's source costs
+pub record SaysStatistics (profile : Profile) (files : Contents) (path : List ℕ) (text : List ℕ) : Type 0 where
+  pub source : List ℕ
+  pub held : HoldsText files path source
+  pub said : SaysCosts profile source text

@@ -8,7 +8,7 @@ use Rattle.commands.specs.FaultText.{fault_line, fault_status}
 use Rattle.commands.specs.FunctionFiles.{AreFunctionTexts, RefusesFunction}
 use Rattle.commands.specs.Harts.{SaysHarts}
 use Rattle.commands.specs.Images.{NoImage}
-use Rattle.commands.specs.Judged.{IsAccepted, IsRefused, IsImageOf}
+use Rattle.commands.specs.Judged.{IsAccepted, IsRefused, IsRefusedSo, IsImageOf, SaysStatistics}
 use Rattle.commands.specs.Leaks.{SaysLeak, RefusesLeak, IsOutputFault}
 use Rattle.commands.specs.Meanings.{SaysMeaning, RefusesMeaning}
 use Rattle.commands.specs.Pairs.{SaysPair, RefusesPair, SaysList}
@@ -24,8 +24,9 @@ use Rattle.wrapping.specs.declared.asked.Asked.{Asked}
 
 -- the text that answers a request, and the exit status, by what files hold
 abbrev pub Answers : Request → Contents → List ℕ → ℕ → Type 0
-Answers (requests.Check file profile) files text status = IsAccepted profile files file.now × (text ≡ codes "accepted\n") × (status ≡ 0)
-Answers (requests.Build file image profile) files text status = (text ≡ []) × (status ≡ 0)
+Answers (requests.Check file profile explain) files text status = IsAccepted profile files file.now × (text ≡ codes "accepted\n") × (status ≡ 0)
+Answers (requests.Build file image profile explain) files text status = (text ≡ []) × (status ≡ 0)
+Answers (requests.Stat file profile) files text status = SaysStatistics profile files file.now text × (status ≡ 0)
 Answers (requests.Function file assembler header profile) files text status = (text ≡ []) × (status ≡ 0)
 Answers (requests.Eval file arguments) files text status = SaysMeaning files file.now (map (λ word. word.now) arguments.now) text × (status ≡ 0)
 Answers (requests.Run image arguments) files text status = SaysRun files image.now (map (λ word. word.now) arguments.now) text × (status ≡ 0)
@@ -39,8 +40,9 @@ Answers (requests.Explain explanation) files text status = (text ≡ explanation
 
 -- what files hold once a request is done: an image or a function's texts that were written, and else what they held
 abbrev pub Leaves : Request → Contents → Contents → Type 0
-Leaves (requests.Check file profile) before after = after ≡ before
-Leaves (requests.Build file image profile) before after = WritesFile image.now (IsImageOf profile before file.now) before after
+Leaves (requests.Check file profile explain) before after = after ≡ before
+Leaves (requests.Build file image profile explain) before after = WritesFile image.now (IsImageOf profile before file.now) before after
+Leaves (requests.Stat file profile) before after = after ≡ before
 Leaves (requests.Function file assembler header profile) before after =
     WritesTwo assembler.now header.now (AreFunctionTexts profile before file.now) before after
 Leaves (requests.Eval file arguments) before after = after ≡ before
@@ -56,9 +58,10 @@ Leaves (requests.Explain explanation) before after = after ≡ before
 
 -- why a request is not done, and what files hold then
 abbrev pub Refuses : Request → Contents → Contents → Fault → Type 0
-Refuses (requests.Check file profile) before after fault = IsRefused profile before file.now fault × (after ≡ before)
-Refuses (requests.Build file image profile) before after fault =
-    FailsToWrite image.now (IsImageOf profile before file.now) (IsRefused profile before file.now) before after fault
+Refuses (requests.Check file profile explain) before after fault = IsRefusedSo explain profile before file.now fault × (after ≡ before)
+Refuses (requests.Build file image profile explain) before after fault =
+    FailsToWrite image.now (IsImageOf profile before file.now) (IsRefusedSo explain profile before file.now) before after fault
+Refuses (requests.Stat file profile) before after fault = IsRefused profile before file.now fault × (after ≡ before)
 Refuses (requests.Function file assembler header profile) before after fault =
     FailsToWriteTwo assembler.now header.now (AreFunctionTexts profile before file.now) (RefusesFunction profile before file.now) before after fault
 Refuses (requests.Eval file arguments) before after fault = RefusesMeaning before file.now (map (λ word. word.now) arguments.now) fault × (after ≡ before)
@@ -78,7 +81,7 @@ Refuses (requests.Explain explanation) before after fault = IsOutOfMemory fault 
 abbrev pub IsPut : List ℕ → List ℕ → List ℕ → Type 0
 IsPut bytes before after = (after ≡ before ++ bytes) ⊎ GainsPart before after bytes
 
--- how a fault is reported on standard error, with which exit status: by its line; or, where there is no memory for that, as out of memory
+-- how a fault is reported on standard error, with which exit status: by its lines; or, where there is no memory for that, as out of memory
 pub data Reports (fault : Fault) (before after : List ℕ) : ℕ → Type 0 where
   by_line : IsPut (fault_line fault ++ codes "\n") before after → Reports fault before after (fault_status fault)
   no_memory : IsPut (codes "refused: M1: memory\n") before after → Reports fault before after 4

@@ -1,7 +1,7 @@
 -- Faults of a command: a file was not read, or memory was refused.
 use Rattle.std.specs.Prelude.{◌≡◌, ℕ, List}
 use Rattle.commands.specs.declared.fault.Fault.{Fault}
-use Rattle.commands.specs.declared.fault.Fault.TheVariants.{Text, Image, Run, Eval, Plan, Harts, Code, Name, File}
+use Rattle.commands.specs.declared.fault.Fault.TheVariants.{Text, Explained, Image, Run, Eval, Plan, Harts, Code, Name, File}
 use Rattle.commands.specs.declared.fault.FileFault.{FileFault}
 use Rattle.commands.specs.declared.fault.FileFault.TheVariants.{CannotRead, CannotWrite, NotUtf8}
 use Rattle.harts.specs.declared.fault.HartsFault.TheVariants as harts
@@ -14,6 +14,7 @@ use Rattle.source_eval.specs.declared.fault.EvalFault.TheVariants as evaluations
 -- memory was refused
 abbrev pub IsOutOfMemory : Fault → Type 0
 IsOutOfMemory (Text refusal) = IsWantOfMemory refusal.rule refusal.place
+IsOutOfMemory (Explained refusal lines) = ⊥
 IsOutOfMemory (Image fault) = fault ≡ images.Memory
 IsOutOfMemory (Run fault) = fault ≡ runs.Memory
 IsOutOfMemory (Eval fault) = fault ≡ evaluations.Memory

@@ -42,6 +42,8 @@ impl fmt::Display for FileFault<'_> {
 #[derive(Debug, Drop)]
 pub enum Fault<'a> {
     Text(Refusal),
+    /// A refusal with the lines that explain it, without the last one's end.
+    Explained(Refusal, String),
     Image(ImageFault),
     Run(RunFault),
     Eval(EvalFault),
@@ -65,7 +67,7 @@ impl Fault<'_> {
         ensures high { result ≤ 5 }
     {
         match self {
-            Fault::Text(refusal) => {
+            Fault::Text(refusal) | Fault::Explained(refusal, _) => {
                 if refusal.rule == Rule::OutOfMemory {
                     4
                 } else {
@@ -93,7 +95,7 @@ impl Fault<'_> {
     }
 }
 
-/// Its line for standard error, without the line's end.
+/// Its lines for standard error, without the last one's end.
 impl fmt::Display for Fault<'_> {
     ghost use Rattle.std.specs.Prelude.{Some};
     ghost use Rattle.commands.specs.FaultText.{fault_line};
@@ -103,6 +105,7 @@ impl fmt::Display for Fault<'_> {
     fn fmt<W: fmt::Write>(&self, f: &mut fmt::Formatter<W>) -> fmt::Result {
         match self {
             Fault::Text(refusal) => write!(f, "refused: {refusal}"),
+            Fault::Explained(refusal, lines) => write!(f, "refused: {refusal}\n{lines}"),
             Fault::Image(fault) => write!(f, "refused: {fault}"),
             Fault::Run(RunFault::Stopped(stop)) => write!(f, "stopped: {stop}"),
             Fault::Run(fault) => write!(f, "refused: {fault}"),

@@ -13,7 +13,7 @@ use crate::foreign_code::wrap_code;
 use crate::functions::write_function;
 use crate::images::{leak_image, list_image, pair_image, run_image};
 use crate::side_by_side::{run_side_by_side, whole_text};
-use crate::texts::{build_image, check_text};
+use crate::texts::{build_image, check_text, measure_text};
 use command_line::{NoRequest, Request, parse};
 use language::Refusal;
 use std::alloc::Global;
@@ -127,17 +127,26 @@ fn answer<'a, F: Files, O: Sink>(
     ensures calm { OnOk result (O.failures out.new ≡ O.failures out.old) }
 {
     match request {
-        Request::Check { file, profile } => {
-            check_text(alloc, file, profile, files)?;
+        Request::Check {
+            file,
+            profile,
+            explain,
+        } => {
+            check_text(alloc, file, profile, explain, files)?;
             print(out, b"accepted\n", DONE)
         }
         Request::Build {
             file,
             image,
             profile,
+            explain,
         } => {
-            build_image(alloc, file, image, profile, files)?;
+            build_image(alloc, file, image, profile, explain, files)?;
             Ok(DONE)
+        }
+        Request::Stat { file, profile } => {
+            let text = measure_text(alloc, file, profile, files)?;
+            print(out, text.as_bytes(), DONE)
         }
         Request::Function {
             file,

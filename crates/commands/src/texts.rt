@@ -1,18 +1,20 @@
-// What is done with a text: it is judged, compiled, or worked out on arguments.
+// What is done with a source alone: it is judged, compiled, or measured.
 
 ghost use Rattle.std.specs.Prelude.{◌≡◌, ℕ, List, Some, IsTrue, IfOk, IfErr, OnOk, OnErr};
 ghost use Rattle.std.specs.String.{string_bytes};
 ghost use Rattle.commands.specs.Contents.{Contents, IsWritten, IsCutOff};
 ghost use Rattle.commands.specs.FileTexts.{HoldsText, NoText};
-ghost use Rattle.commands.specs.Judged.{IsAccepted, IsRefused, IsImageOf};
+ghost use Rattle.commands.specs.Judged.{Tells, IsAccepted, IsRefused, IsRefusedSo, IsImageOf, SaysStatistics};
 ghost use Rattle.commands.specs.Unread.{NotRead};
 ghost use Rattle.commands.specs.Written.{IsWriteFault, WritesFile, FailsToWrite};
 ghost use Rattle.stream_build.specs.Faults as texts;
 
 use crate::fault::{Fault, FileFault};
 use crate::files::Files;
+use explained_refusals::explain_refusal;
 use hepurita::{build_as, judge_as};
 use language::{Profile, Refusal};
+use source_statistics::source_statistics;
 use std::alloc::Global;
 use stream_build::{BuildFault, text_of};
 use streams::ReadFault;
@@ -72,36 +74,70 @@ pub fn write_file<'a, F: Files>(path: &'a str, bytes: &[u8], files: &mut F) -> R
     }
 }
 
-/// Judges the text of a file, for an observer.
+/// The fault of a refused source, with the lines that explain it where they are asked for.
+fn refused(alloc: Global, source: &str, refusal: Refusal, explain: bool) -> Fault<'static>
+    ensures { Tells explain source.now refusal result }
+{
+    if !explain {
+        return Fault::Text(refusal);
+    }
+    match explain_refusal(alloc, source, refusal) {
+        Ok(lines) => Fault::Explained(refusal, lines),
+        Err(fault) => Fault::from(fault),
+    }
+}
+
+/// Judges the source of a file, for an observer, and explains a refusal where that is asked for.
 pub fn check_text<'a, F: Files>(
     alloc: Global,
     file: &'a str,
     profile: Profile,
+    explain: bool,
     files: &F,
 ) -> Result<(), Fault<'a>>
     ensures said { IsTrue F.TELLS → OnOk result (IsAccepted profile (F.contents files.now) file.now) }
-    ensures refused { IsTrue F.TELLS → IfErr result (IsRefused profile (F.contents files.now) file.now) }
+    ensures refused { IsTrue F.TELLS → IfErr result (IsRefusedSo explain profile (F.contents files.now) file.now) }
 {
     let text = text_of_file(alloc, file, files)?;
-    let _accepted = judge_as(alloc, text.as_str(), profile)?;
-    Ok(())
+    match judge_as(alloc, text.as_str(), profile) {
+        Ok(_accepted) => Ok(()),
+        Err(refusal) => Err(refused(alloc, text.as_str(), refusal, explain)),
+    }
 }
 
-/// Compiles the text of one file, for an observer, to the image of another, which is written only once the
-/// text was accepted.
+/// Compiles the source of one file, for an observer, to the image of another, which is written only once the
+/// source was accepted. A refusal is explained where that is asked for.
 pub fn build_image<'a, F: Files>(
     alloc: Global,
     file: &'a str,
     image: &'a str,
     profile: Profile,
+    explain: bool,
     files: &mut F,
 ) -> Result<(), Fault<'a>>
     ensures said { IsTrue F.TELLS → OnOk result (WritesFile image.now (IsImageOf profile (F.contents files.old) file.now) (F.contents files.old) (F.contents files.new)) }
     ensures refused { IsTrue F.TELLS → IfErr result (FailsToWrite image.now (IsImageOf profile (F.contents files.old) file.now)
-        (IsRefused profile (F.contents files.old) file.now) (F.contents files.old) (F.contents files.new)) }
+        (IsRefusedSo explain profile (F.contents files.old) file.now) (F.contents files.old) (F.contents files.new)) }
     ensures untouched { IfErr result (λ fault. (IsWriteFault image.now fault → ⊥) → files.new ≡ files.old) }
 {
     let text = text_of_file(alloc, file, files)?;
-    let built = build_as(alloc, text.as_str(), profile)?;
-    write_file(image, built.as_slice(), files)
+    match build_as(alloc, text.as_str(), profile) {
+        Ok(built) => write_file(image, built.as_slice(), files),
+        Err(refusal) => Err(refused(alloc, text.as_str(), refusal, explain)),
+    }
+}
+
+/// What the source of a file costs, for an observer, as lines.
+pub fn measure_text<'a, F: Files>(
+    alloc: Global,
+    file: &'a str,
+    profile: Profile,
+    files: &F,
+) -> Result<String, Fault<'a>>
+    ensures said { IsTrue F.TELLS → IfOk result (λ text. SaysStatistics profile (F.contents files.now) file.now (string_bytes text)) }
+    ensures refused { IsTrue F.TELLS → IfErr result (IsRefused profile (F.contents files.now) file.now) }
+{
+    let text = text_of_file(alloc, file, files)?;
+    let lines = source_statistics(alloc, text.as_str(), profile)?;
+    Ok(lines)
 }

@@ -64,7 +64,7 @@ returns-in-Err-Text-clause-refused g c = λ tells.
     let why : IsRefusal (Judges c.args.asked.profile (string_bytes c.in_ok-text.text)) refusal =
     subst (λ (t : List ℕ). IsRefusal (Judges c.args.asked.profile t) refusal) c.as_str.ensures.value
     (subst (IsFaultOf c.as_str.result.now c.as_slice.result.now c.args.asked) c.in-Err-Text.field-0-is c.in-Err-Text.ensures.fault) in
-    refused (not_accepted (judged.not_accepted {refusal = refusal} (c.in_ok-text.ensures.said tells) why)) refl
+    refused (not_accepted (judged.not_accepted refusal (c.in_ok-text.ensures.said tells) why refl)) refl
 
 pub returns-clause-refused : goal.returns-clause-refused
 returns-clause-refused g c = λ tells.

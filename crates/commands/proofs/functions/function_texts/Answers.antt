@@ -1,4 +1,4 @@
-use Rattle.std.proofs.Common.{ℕ, List, subst}
+use Rattle.std.proofs.Common.{ℕ, List, refl, subst}
 use Rattle.std.proofs.lemmas.Result.{err_from_is_err_and}
 use Rattle.std.specs.String.{string_bytes}
 use Rattle.function_text.specs.Functions.{IsFaultOf, HasTakenName}
@@ -30,7 +30,7 @@ returns-in-Err-Text-clause-refused g c = λ tells.
     let why : IsRefusal (Judges c.args.profile (string_bytes c.in_ok-text.text)) refusal =
     subst (λ (t : List ℕ). IsRefusal (Judges c.args.profile t) refusal) c.as_str.ensures.value
     (subst (IsFaultOf c.args.profile c.as_str.result.now) c.in-Err-Text.field-0-is c.in-Err-Text.ensures.fault) in
-    not_accepted (judged.not_accepted {refusal = refusal} (c.in_ok-text.ensures.said tells) why)
+    not_accepted (judged.not_accepted refusal (c.in_ok-text.ensures.said tells) why refl)
 
 pub returns-clause-refused : goal.returns-clause-refused
 returns-clause-refused g c = λ tells.

@@ -1,6 +1,7 @@
 use Rattle.std.proofs.Common.{ℕ, List, map, refl, sym, ◌∙◌, subst}
 use Rattle.std.proofs.lemmas.Result.{err_from_is_err_and}
 use Rattle.commands.specs.Certificates.{SaysCertificate}
+use Rattle.commands.specs.Judged.{SaysStatistics}
 use Rattle.commands.specs.Meanings.{SaysMeaning}
 use Rattle.commands.specs.Pairs.{SaysPair, SaysList}
 use Rattle.commands.specs.Runs.{SaysRun}
@@ -16,6 +17,11 @@ pub returns-in_err-build_image-in-Build-clause-failed : goal.returns-in_err-buil
 returns-in_err-build_image-in-Build-clause-failed g c = λ files out.
     let p = err_from_is_err_and c.from_residual-in_err-build_image-in-Build.result c.from_residual-in_err-build_image-in-Build.ensures.1 in
     refuses _ _ c.in-Build.is _ _ _ c.from_residual-in_err-build_image-in-Build.result p.0 c.in_err-build_image-in-Build.field-0.0 p.1 p.2 (c.in_err-build_image-in-Build.ensures.refused files)
+
+pub returns-in_err-text-in-Stat-clause-failed : goal.returns-in_err-text-in-Stat-clause-failed
+returns-in_err-text-in-Stat-clause-failed g c = λ files out.
+    let p = err_from_is_err_and c.from_residual-in_err-text-in-Stat.result c.from_residual-in_err-text-in-Stat.ensures.1 in
+    refuses _ _ c.in-Stat.is _ _ _ c.from_residual-in_err-text-in-Stat.result p.0 c.in_err-text-in-Stat.field-0.0 p.1 p.2 (c.in_err-text-in-Stat.ensures.refused files, refl)
 
 pub returns-in_err-write_function-in-Function-clause-failed : goal.returns-in_err-write_function-in-Function-clause-failed
 returns-in_err-write_function-in-Function-clause-failed g c = λ files out.
@@ -61,10 +67,15 @@ pub returns-in_ok-check_text-in-Check-clause-failed : goal.returns-in_ok-check_t
 returns-in_ok-check_text-in-Check-clause-failed g c = λ files out.
     fails_to_print _ _ c.in-Check.is _ _ _ _ _ 0 c.print.result (c.in_ok-check_text-in-Check.ensures.said files, refl, refl) refl (c.print.ensures.beginning out) c.print.ensures.fault
 
+pub returns-in_ok-text-in-Stat-clause-failed : goal.returns-in_ok-text-in-Stat-clause-failed
+returns-in_ok-text-in-Stat-clause-failed g c = λ files out.
+    let said = subst (λ (bytes : List ℕ). SaysStatistics c.in-Stat.profile (g.F.Files.contents c.args.files.now) c.in-Stat.file.now bytes) (sym c.as_bytes.ensures.value) (c.in_ok-text-in-Stat.ensures.said files) in
+    fails_to_print _ _ c.in-Stat.is _ _ _ _ c.as_bytes.result.now 0 c.print-in-Stat.result (said, refl) refl (c.print-in-Stat.ensures.beginning out) c.print-in-Stat.ensures.fault
+
 pub returns-in_ok-text-in-Eval-clause-failed : goal.returns-in_ok-text-in-Eval-clause-failed
 returns-in_ok-text-in-Eval-clause-failed g c = λ files out.
-    let said = subst (λ (bytes : List ℕ). SaysMeaning (g.F.Files.contents c.args.files.now) c.in-Eval.file.now (map (λ word. word.now) c.in-Eval.arguments.now) bytes) (sym c.as_bytes.ensures.value) (c.in_ok-text-in-Eval.ensures.said files) in
-    fails_to_print _ _ c.in-Eval.is _ _ _ _ c.as_bytes.result.now 0 c.print-in-Eval.result (said, refl) refl (c.print-in-Eval.ensures.beginning out) c.print-in-Eval.ensures.fault
+    let said = subst (λ (bytes : List ℕ). SaysMeaning (g.F.Files.contents c.args.files.now) c.in-Eval.file.now (map (λ word. word.now) c.in-Eval.arguments.now) bytes) (sym c.as_bytes-in-Eval.ensures.value) (c.in_ok-text-in-Eval.ensures.said files) in
+    fails_to_print _ _ c.in-Eval.is _ _ _ _ c.as_bytes-in-Eval.result.now 0 c.print-in-Eval.result (said, refl) refl (c.print-in-Eval.ensures.beginning out) c.print-in-Eval.ensures.fault
 
 pub returns-in_ok-text-in-Run-clause-failed : goal.returns-in_ok-text-in-Run-clause-failed
 returns-in_ok-text-in-Run-clause-failed g c = λ files out.

@@ -1,0 +1,46 @@
+// What is printed below the line of a source's refusal where an author asks why: the line of the source with the place
+// marked, and the violated rule with its usual cause and its cure.
+//
+// It promises that the lines are those of this place and of this rule (`specs/Explained.antt`). It stands on
+// `source_excerpts` for the line and on `explanations` for the rules, of which each has a row there.
+#![tactic(auto)]
+
+ghost use Rattle.std.specs.Prelude.{◌≡◌, IfOk};
+ghost use Rattle.std.specs.String.{string_bytes};
+ghost use Rattle.explained_refusals.specs.Explained.{place_lines, Explains};
+ghost use Rattle.language.specs.Rules.{code_of};
+
+use explanations::{Explanation, explanation};
+use language::{Place, Refusal, Rule};
+use source_excerpts::excerpt;
+use std::alloc::{AllocError, Global};
+
+/// The lines that explain a refusal of a source, without the last one's end: the marked place, where the refusal has one,
+/// and the rule.
+pub fn explain_refusal(alloc: Global, source: &str, refusal: Refusal) -> Result<String, AllocError>
+    ensures { IfOk result (λ lines. Explains source.now refusal (string_bytes lines)) }
+{
+    let lines = place_lines(alloc, source, refusal.place)?;
+    let rule = row_of(refusal.rule).rule;
+    format!(in alloc; "{lines}{rule}")
+}
+
+/// The line of a source at a place, marked; nothing where there is no place.
+fn place_lines(alloc: Global, source: &str, place: Option<Place>) -> Result<String, AllocError>
+    ensures { IfOk result (λ lines. string_bytes lines ≡ place_lines source.now place) }
+{
+    match place {
+        Some(place) => excerpt(alloc, source, place),
+        None => Ok(String::new(alloc)),
+    }
+}
+
+/// What the code of a rule means.
+fn row_of(rule: Rule) -> Explanation
+    ensures { result.code.now ≡ code_of rule }
+{
+    match explanation(rule.code()) {
+        Some(row) => row,
+        None => unreachable!(),
+    }
+}

@@ -1,0 +1,2 @@
+pub mod FieldsText
+pub mod TypeText
