@@ -122,7 +122,7 @@ fn push_removed_all<'f>(
 }
 
 /// A body's straight code: its outcome is that of the body, it meets no fault, and what a run of it shows is
-/// decided by what is public. The body alone decides which code it is. Want of memory alone refuses it.
+/// decided by what is public. The body alone decides which code it is. Running out of memory alone refuses it.
 pub fn remove<'r>(alloc: Global, ranged: &'r Ranged<'_>) -> Result<Straight<'r>, Refusal>
     ensures removed { IfOk result (IsRemoved ranged.now) }
     ensures exact { IfOk result (λ straight. straight ≡ straight_of ranged.now) }

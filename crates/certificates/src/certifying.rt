@@ -21,5 +21,5 @@ pub fn certify(alloc: Global, image: &Image, given: &[Option<Arg>]) -> Result<Ce
     }
     let code = code(alloc, image)?;
     let mut loaded = load(alloc, image, given)?;
-    Ok(certify_run(alloc, &code, &mut loaded.run, &mut loaded.known))
+    Ok(certify_run(&code, &mut loaded.run, &mut loaded.known))
 }

@@ -1,5 +1,5 @@
 -- The turn of the machine that the engine makes is the turn of what is known.
-use Rattle.std.specs.Prelude.{nat_eq, is_some, slice_get}
+use Rattle.std.specs.Prelude.{nat_eq, is_some}
 use Rattle.std.proofs.Common.{◌≡◌, ◌≢◌, ℕ, ◌%◌, ◌≤◌, Bool, true, false, cond, List, [], ◌∷◌, length, Option, Some, None, refl, sym, ap, ◌∙◌, subst, arith}
 use Rattle.std.proofs.lemmas.Option.{same_Some}
 use Rattle.rv_code.specs.declared.instructions.Instr.{Instr}
@@ -88,12 +88,6 @@ extent_kept turn went_on = led_extent turn
 extent_kept turn stopped = λ a. refl
 extent_kept turn (refused shows) = λ a. refl
 
--- a turn shows one observation at most
-pub few_shown : {code : Code} {s t : State} {ending : Ending} {answer : Option Stop} {seen : List Observation} → Turn code s ending → Done s ending answer t seen → length seen ≤ 1
-few_shown turn went_on = omega arith
-few_shown {code} {s} turn (stopped {seen = seen} {stop = stop}) = (turn_stops code s seen stop turn).1
-few_shown turn (refused shows) = omega arith
-
 -- a turn that goes on leads where its state is
 pub led_to : {code : Code} {s t : State} {ending : Ending} {seen : List Observation} → Turn code s ending → Done s ending None t seen → (o : Observation) × Turn code s (goes_on o t)
 led_to turn (went_on {o = o}) = (o, turn)
@@ -116,17 +110,6 @@ module _ (code : Code) (k : Known) (change : Change) (sure : IsDecided code k ch
       → Some stop ≢ Some RecorderRefused → length (entries_of seen) ≡ entries → HasTurned code k (Ends entries stop) next
   has_stopped t next ending stop seen entries turn stopped calm many = (seen, certified.stopped sure.known turn, many)
   has_stopped t next ending stop seen entries turn (refused shows) calm many = absurd (calm refl)
-
--- What a recorder of one turn holds.
-
-pub only_one : (list : List Observation) (o : Observation) → length list ≤ 1 → Some o ≡ slice_get list 0 → o ∷ [] ≡ list
-only_one [] o few is = cc
-only_one (p ∷ []) o few is = ap (λ x. x ∷ []) (same_Some o p is)
-only_one (p ∷ q ∷ list) o few is = absurd (omega arith)
-
-pub not_any : (list : List Observation) → None ≡ slice_get list 0 → [] ≡ list
-not_any [] is = refl
-not_any (p ∷ list) is = cc
 
 -- Changes, and what they show.
 

@@ -11,7 +11,6 @@ ghost use Rattle.certified_runs.specs.Parts.{known_of};
 use crate::known_parts::KnownParts;
 use crate::turns::{TurnEnd, turn};
 use rv_machine::{CodeRegion, Memory, Running, Stop};
-use std::alloc::Global;
 
 /// How a certified run ends. Entries are what an observer sees, one by one: each program counter, and
 /// after it what that turn loads, stores, divides or multiplies.
@@ -27,8 +26,9 @@ pub enum CertifiedEnd {
 /// Makes turns of a run of which these parts are known, until one stops, or until what it shows may
 /// depend on what is unknown. It makes no more turns than the run may still make, and takes no memory.
 /// It uses up the run and what is known of it: nothing is said of them afterwards.
+// It is never compiled in line: beside a caller's own values, those of the turns do not fit the registers.
+#[inline(never)]
 pub fn certify<M: Memory>(
-    alloc: Global,
     code: &CodeRegion,
     run: &mut Running<M>,
     known: &mut KnownParts<M>,
@@ -42,7 +42,7 @@ pub fn certify<M: Memory>(
 {
     let mut entries = 0;
     while run.turns_left > 0 {
-        match turn(alloc, code, &mut run.hart, &mut run.memory, known) {
+        match turn(code, &mut run.hart, &mut run.memory, known) {
             TurnEnd::LeadsOn(more) => entries += more,
             TurnEnd::Ends(more, stop) => {
                 return CertifiedEnd::Same {

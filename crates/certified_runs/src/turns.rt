@@ -1,10 +1,10 @@
 // One turn of what is known: it is asked what decides it, and then made by the machine.
 
-ghost use Rattle.std.specs.Prelude.{◌≡◌, ◌≤◌, None, IfSome, length};
+ghost use Rattle.std.specs.Prelude.{◌≡◌, [], None, IfSome, length};
 ghost use Rattle.rv_machine.specs.Bytes.{ByteMap};
 ghost use Rattle.rv_machine.specs.Entries.{entries_of};
 ghost use Rattle.rv_machine.specs.Harts.{state_of};
-ghost use Rattle.rv_machine.specs.ListRecording.{recorded};
+ghost use Rattle.rv_machine.specs.Leakage.{followed_by};
 ghost use Rattle.rv_machine.specs.Regions.{code_of};
 ghost use Rattle.certified_runs.specs.Certified.{KnownTurn, KnownEnding};
 ghost use Rattle.certified_runs.specs.Parts.{known_registers, known_bytes, known_of};
@@ -13,8 +13,7 @@ ghost use Rattle.certified_runs.specs.private.Turned.{HaveOneExtent, IsDecided, 
 
 use crate::changes::{Change, change_of, decides};
 use crate::known_parts::KnownParts;
-use rv_machine::{CodeRegion, Hart, Memory, Stop, TurnRecorder, entry_count, step};
-use std::alloc::Global;
+use rv_machine::{CodeRegion, Hart, Memory, Observation, Stop, entry_count, step_unrecorded};
 
 /// How a turn of what is known ends.
 #[derive(Clone, Copy, Debug, PartialEq, Eq)]
@@ -64,13 +63,12 @@ fn make<M: Memory>(known: &mut KnownParts<M>, change: Change)
     }
 }
 
-// How many entries the recorder of one turn holds.
+// How many entries a turn shows.
 #[inline(always)]
-fn entries_in(recorder: &TurnRecorder) -> u64
-    requires { length (recorded recorder.now) ≤ 1 }
-    ensures { result ≡ length (entries_of (recorded recorder.now)) }
+fn entries_in(seen: Option<Observation>) -> u64
+    ensures { result ≡ length (entries_of (followed_by seen [])) }
 {
-    match recorder.first() {
+    match seen {
         Some(observation) => entry_count(&observation),
         None => 0,
     }
@@ -79,7 +77,6 @@ fn entries_in(recorder: &TurnRecorder) -> u64
 /// Makes the next turn of what is known, unless what it shows may depend on what is unknown.
 #[inline(always)]
 pub(crate) fn turn<M: Memory>(
-    alloc: Global,
     code: &CodeRegion,
     hart: &mut Hart,
     memory: &mut M,
@@ -94,9 +91,8 @@ pub(crate) fn turn<M: Memory>(
     let Some(change) = outlook(code, hart, known) else {
         return TurnEnd::Depends;
     };
-    let mut recorder = TurnRecorder::new(alloc);
-    let stop = step(hart, code, memory, &mut recorder);
-    let entries = entries_in(&recorder);
+    let (seen, stop) = step_unrecorded(hart, code, memory);
+    let entries = entries_in(seen);
     if let Some(stop) = stop {
         return TurnEnd::Ends(entries, stop);
     }

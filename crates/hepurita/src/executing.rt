@@ -41,6 +41,8 @@ fn answer(
 
 /// Runs an image on arguments, and answers the outcome. The recorder takes what an observer sees of
 /// the run. Arguments are refused by their first fault, before memory is asked for.
+// It is never compiled in line: beside a caller's own values, those of the turns do not fit the registers.
+#[inline(never)]
 pub fn execute<R: Recorder>(
     alloc: Global,
     image: &Image,

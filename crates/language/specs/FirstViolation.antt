@@ -16,7 +16,7 @@ pub record IsFirst (all : List Violation) (first : Violation) : Type 0 where
   pub there : Contains all first
   pub least : All (IsNoLaterThan first) all
 
--- the refusal is want of memory, which has no place, or its rule and place are those of the first of the violations
+-- the refusal says out of memory, and has no place, or its rule and place are those of the first of the violations
 abbrev pub IsRefusedFor : List Violation → Rule → Option Place → Type 0
 IsRefusedFor all rule place =
     IsWantOfMemory rule place ⊎ ((first : Violation) × IsFirst all first × (rule ≡ first.rule) × (place ≡ Some first.place))

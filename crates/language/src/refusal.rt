@@ -10,7 +10,7 @@ use std::fmt;
 #[derive(Clone, Copy, Debug)]
 pub struct Refusal {
     pub rule: Rule,
-    /// Where the rule is violated. Want of memory alone has no place.
+    /// Where the rule is violated. Out of memory alone has no place.
     pub place: Option<Place>,
     /// The rule in a few words.
     pub name: &'static str,

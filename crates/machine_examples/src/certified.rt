@@ -37,7 +37,7 @@ fn end_of(
     };
     let mut known = KnownParts::new(FlatMemory::new(alloc, DATA, 4)?);
     known.set_bytes(DATA, Size::Word, false);
-    Ok(certify(alloc, &code, &mut run, &mut known))
+    Ok(certify(&code, &mut run, &mut known))
 }
 
 const SAME: CertifiedEnd = CertifiedEnd::Same {

@@ -15,7 +15,7 @@ pub struct HartObservation {
     pub observation: Observation,
 }
 
-/// Takes observations of harts one at a time, and refuses one only for want of memory.
+/// Takes observations of harts one at a time, and refuses one only where it is out of memory.
 pub trait HartRecorder {
     // Whether what is taken is kept.
     ghost KEEPS: { Bool };

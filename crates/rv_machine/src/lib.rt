@@ -35,7 +35,7 @@ pub use flat::FlatMemory;
 pub use hart::Hart;
 pub use hart_recorders::ListHartRecorder;
 pub use hart_recording::{HartObservation, HartRecorder};
-pub use machine::{run, step};
+pub use machine::{run, step, step_unrecorded};
 pub use memory::{Memory, Size};
 pub use observation::{Event, Observation};
 pub use paged::{AddressRange, PagedMemory};

@@ -8,7 +8,7 @@ ghost use Rattle.rv_machine.specs.declared.observation.Observation.{Observation}
 use crate::observation::Observation;
 use std::alloc::AllocError;
 
-/// Takes observations one at a time, and refuses one only for want of memory.
+/// Takes observations one at a time, and refuses one only where it is out of memory.
 pub trait Recorder {
     // Whether what is taken is kept.
     ghost KEEPS: { Bool };

@@ -48,6 +48,6 @@ OneAnswer = (text : List ℕ) (one two : Answer) → Reads text one → Reads te
 abbrev pub OneProgram : Type 0
 OneProgram = (tokens : List Lexeme) (one two : ProgramTree) → IsProgram tokens one → IsProgram tokens two → one ≡ two
 
--- the refusal is want of memory, which has no place, or it has a place and is an answer
+-- the refusal says out of memory, and has no place, or it has a place and is an answer
 abbrev pub IsRefusedAs : (Answer → Type 0) → Refusal → Type 0
 IsRefusedAs P refusal = IsWantOfMemory refusal.rule refusal.place ⊎ ((place : Place) × (refusal.place ≡ Some place) × P (refused refusal.rule place))

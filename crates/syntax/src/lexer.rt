@@ -36,7 +36,7 @@ pub struct Lexed<'a> {
     pub end: ListEnd,
 }
 
-/// The tokens that a text spells. Refused are texts that are too long, and want of memory.
+/// The tokens that a text spells. Refused are sources that are too long, and all where memory is out.
 pub fn lex(alloc: Global, text: &str) -> Result<Lexed<'_>, Refusal>
     ensures tokens { IfOk result (λ l. Lexes text.now (lexemes l.tokens.items) (ending l.end)) }
 

@@ -22,7 +22,7 @@ nest n = record { count = n.count; bases = n.bases.items; after_block = n.after_
 abbrev pub ahead : State → Parser → Answer
 ahead s p = verdict s (nest p.nesting) (lexemes p.rest.now) (ending p.end)
 
--- the fault is this answer, or want of memory
+-- the fault is this answer, or out of memory
 abbrev pub FaultIs : Fault → Answer → Type 0
 FaultIs (Refused rule place) answer = answer ≡ refused rule place
 FaultIs Memory answer = Unit {0}

@@ -1,14 +1,12 @@
 -- What is shown after a turn follows what the turn shows.
-use Rattle.std.proofs.Common.{◌≡◌, ◌-◌, suc, [], ◌∷◌, Option, Some, None, is_some, cond, refl, sym, ap, subst, ◌∙◌, arith}
+use Rattle.std.proofs.Common.{◌≡◌, ◌-◌, suc, [], Option, Some, None, refl, subst, arith}
 use Rattle.rv_machine.specs.declared.stops.Stop.TheVariants.{RecorderRefused}
 use Rattle.rv_machine.specs.Harts.{state_of}
 use Rattle.rv_machine.specs.Leakage.{IsShown, stopped}
-use Rattle.rv_machine.specs.Machine.{observed}
 use Rattle.rv_machine.specs.Regions.{code_of}
 use Rattle.rv_machine.specs.Progress.{Makes, finishes}
-use Rattle.rv_machine.proofs.Progressing.{turn_makes, no_turn_makes}
+use Rattle.rv_machine.proofs.Progressing.{no_turn_makes}
 use Rattle.rv_machine.proofs.Shown.{turn_shows}
-use Rattle.rv_machine.proofs.running.Running.turn.Goals.{then-is_some, else-is_some}
 use Rattle.rv_machine.proofs.running.Running.turn.Goals as goal
 
 pub returns-in_default-clause-shown : goal.returns-in_default-clause-shown
@@ -30,43 +28,10 @@ returns-in_default-clause-made g c =
     subst (λ n. Makes (code_of c.args.code.now) n s None 0 s) more (finishes c.in_default.ensures.nowhere)
 
 pub returns-clause-shown : goal.returns-clause-shown
-returns-clause-shown g c = λ rest shown.
-    let code = code_of c.args.code.now in
-    let begun = c.args.self.now in
-    let s = state_of begun.hart (g.M.Memory.bytes begun.memory) in
-    let t = state_of c.apply-stop.new.hart (g.M.Memory.bytes c.apply-stop.new.memory) in
-    let left = begun.turns_left - 1 in
-    let more : suc left ≡ begun.turns_left = omega arith in
-    let event = c.in-Ok.plan.event in
-    let calm = λ (e : c.apply-stop.result ≡ Some RecorderRefused). c.in-Ok.ensures.calm (sym c.apply-stop.ensures.answer ∙ e) in
-    let is : c.if-is_some.self ≡ cond (is_some c.apply-stop.result) 0 left =
-    elim c.if-is_some.branch [
-      | then-is_some w ↦ w.self-is ∙ sym (ap (λ b. cond b 0 left) (sym c.is_some.ensures ∙ w.if-is_some.true))
-      | else-is_some w ↦ w.self-is ∙ sym (ap (λ b. cond b 0 left) (sym c.is_some.ensures ∙ w.if-is_some.false))
-    ] in
-    subst (λ n. IsShown code n s (record { pc = c.pc.result; event = event } ∷ rest)) more
-    (subst (λ p. IsShown code (suc left) s (record { pc = p; event = event } ∷ rest)) (sym c.pc.ensures)
-    (turn_shows code left c.if-is_some.self s t _ c.apply-stop.result (observed s event ∷ []) c.in-Ok.ensures.turn (c.apply-stop.ensures.done event) calm is rest shown))
+returns-clause-shown g c = λ rest shown. c.make.ensures.shown (code_of c.args.code.now) rest c.in-Ok.ensures.turn shown
 
 pub returns-clause-made : goal.returns-clause-made
-returns-clause-made g c =
-    let code = code_of c.args.code.now in
-    let begun = c.args.self.now in
-    let s = state_of begun.hart (g.M.Memory.bytes begun.memory) in
-    let t = state_of c.apply-stop.new.hart (g.M.Memory.bytes c.apply-stop.new.memory) in
-    let left = begun.turns_left - 1 in
-    let more : suc left ≡ begun.turns_left = omega arith in
-    let event = c.in-Ok.plan.event in
-    let calm = λ (e : c.apply-stop.result ≡ Some RecorderRefused). c.in-Ok.ensures.calm (sym c.apply-stop.ensures.answer ∙ e) in
-    let left' = c.if-is_some.self in
-    let is : left' ≡ cond (is_some c.apply-stop.result) 0 left =
-    elim c.if-is_some.branch [
-      | then-is_some w ↦ w.self-is ∙ sym (ap (λ b. cond b 0 left) (sym c.is_some.ensures ∙ w.if-is_some.true))
-      | else-is_some w ↦ w.self-is ∙ sym (ap (λ b. cond b 0 left) (sym c.is_some.ensures ∙ w.if-is_some.false))
-    ] in
-    subst (λ n. Makes code n s (Some (record { pc = c.pc.result; event = event })) left' t) more
-    (subst (λ p. Makes code (suc left) s (Some (record { pc = p; event = event })) left' t) (sym c.pc.ensures)
-    (turn_makes code left left' s t _ c.apply-stop.result (observed s event ∷ []) c.in-Ok.ensures.turn (c.apply-stop.ensures.done event) calm is))
+returns-clause-made g c = c.make.ensures.made (code_of c.args.code.now) c.in-Ok.ensures.turn
 
 pub returns-then-self-eq0-clause-made : goal.returns-then-self-eq0-clause-made
 returns-then-self-eq0-clause-made g c =
