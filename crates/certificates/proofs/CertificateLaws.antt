@@ -10,9 +10,7 @@ use Rattle.certified_runs.specs.End.{end_of}
 use Rattle.certified_runs.specs.Known.{Covers}
 use Rattle.certified_runs.specs.declared.certifying.CertifiedEnd.{CertifiedEnd}
 use Rattle.certified_runs.specs.declared.certifying.CertifiedEnd.TheVariants.{Same, MayDiffer}
-use Rattle.certified_runs.proofs.FirstEntry.{entries_in_common}
-use Rattle.certified_runs.proofs.OneEnd.{one_end}
-use Rattle.certified_runs.proofs.Runs.{every_run}
+use Rattle.certificates.proofs.Below.{entries_in_common, one_end, every_run, differ-apart}
 use Rattle.codegen.specs.Loaded.{params_of, code_at, loaded_at}
 use Rattle.hepurita.specs.Bases.{code_base, frame_base}
 use Rattle.hepurita.specs.Paired.{Observed, Paired, compared}
@@ -28,7 +26,6 @@ use Rattle.rv_machine.specs.declared.observation.Observation.{Observation}
 use Rattle.rv_machine.specs.declared.pairing.Pairing.{Pairing}
 use Rattle.rv_machine.specs.declared.pairing.Pairing.TheVariants as pairings
 use Rattle.rv_machine.specs.declared.stops.Stop.{Stop}
-use Rattle.rv_machine.proofs.EntryLaws.{differ-apart}
 use Rattle.certificates.specs.Certified.{Certified, refused, out_of_memory, certified}
 use Rattle.certificates.specs.Given.{Completes}
 use Rattle.certificates.specs.KnownImage.{known_at}

@@ -8,8 +8,7 @@ use Rattle.arguments.specs.Within.{HasShape, AreWithin}
 use Rattle.certified_runs.specs.Known.{with_bytes_known, Covers}
 use Rattle.codegen.specs.Loaded.{params_of, with_numbers, with_argument, with_arguments, loaded_at}
 use Rattle.hepurita.specs.Frames.{HoldsSlot}
-use Rattle.hepurita.proofs.DataLemmas.{HoldsSlot-same, is_some-with_argument}
-use Rattle.hepurita.proofs.LoadLemmas.{slots_hold}
+use Rattle.certificates.proofs.Below.{HoldsSlot-same, is_some-with_argument, slots_hold, with_number-zero, with_number-suc, with_byte_same, with_byte_other, with_number_below, with_number_above}
 use Rattle.image_fields.specs.Fields.{Fields, IsImage}
 use Rattle.image_fields.specs.declared.slot.Slot.{Slot}
 use Rattle.language.specs.Size.{element_bytes}
@@ -19,7 +18,6 @@ use Rattle.language.specs.declared.signature.Kind.{Kind}
 use Rattle.language.specs.declared.values.Arg.{Arg}
 use Rattle.language.specs.declared.values.Arg.TheVariants.{Word, Array}
 use Rattle.rv_machine.specs.Bytes.{ByteMap, with_number, zeros}
-use Rattle.rv_machine.proofs.ByteLaws.{with_number-zero, with_number-suc, with_byte_same, with_byte_other, with_number_below, with_number_above}
 use Rattle.certificates.specs.Given.{Fits, no_more, as_given, any_value, Completes}
 use Rattle.certificates.specs.KnownImage.{argument_bytes, known_with_one, with_given, known_with_given, known_at}
 

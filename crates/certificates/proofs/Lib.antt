@@ -1,3 +1,4 @@
+mod Below
 pub mod AnswerLemmas
 pub mod CertificateLaws
 pub mod Covered

@@ -5,14 +5,12 @@ use Rattle.std.proofs.Common.{◌≡◌, ◌≢◌, ℕ, suc, ◌+◌, ◌<◌, 
 use Rattle.std.proofs.lemmas.Bool.{cases_eq, cases_lt, le-leb, lt-leb, lt-ltb, le-ltb, false≢true}
 use Rattle.std.proofs.lemmas.List.{length-map}
 use Rattle.std.proofs.Math.ListN.{get_or-map}
-use Rattle.arguments.proofs.FaultLemmas.{fault_from-left, fault_by-None, IsWithin-from_rule_of}
+use Rattle.certificates.proofs.Below.{fault_from-left, fault_by-None, IsWithin-from_rule_of, bytes_within, is_some-with_argument, no_slot}
 use Rattle.arguments.specs.Faults.{fault_from}
 use Rattle.arguments.specs.Within.{HasShape}
 use Rattle.certified_runs.specs.Known.{Known, with_bytes_known}
 use Rattle.certified_runs.specs.Parts.{is_known_mark, known_bytes}
 use Rattle.hepurita.specs.Frames.{HoldsSlot}
-use Rattle.hepurita.proofs.DataLemmas.{bytes_within, is_some-with_argument}
-use Rattle.hepurita.proofs.LoadLemmas.{no_slot}
 use Rattle.image_fields.specs.Fields.{slot_bytes}
 use Rattle.image_fields.specs.declared.slot.Slot.{Slot}
 use Rattle.language.specs.declared.signature.Form.{Form}

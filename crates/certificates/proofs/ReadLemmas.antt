@@ -1,7 +1,7 @@
 -- What texts give, one after another, and what an answer says of their first fault.
 use Rattle.std.proofs.Common.{◌≡◌, ◌↔◌, ℕ, ◌+◌, ◌<◌, List, [], ◌∷◌, ◌++◌, length, get_or, take, Option, None, Some, Result, Ok, Err, refl, sym, ap, subst, ◌∙◌, length-append, arith}
 use Rattle.std.proofs.lemmas.List.{take_more}
-use Rattle.arguments.proofs.FaultLemmas.{fault_at-None, fault_by-None, fault_by-same}
+use Rattle.certificates.proofs.Below.{fault_at-None, fault_by-None, fault_by-same}
 use Rattle.arguments.specs.Faults.{fault_at, fault_from}
 use Rattle.arguments.specs.declared.fault.ArgumentFault.{ArgumentFault}
 use Rattle.arguments.specs.declared.fault.ArgumentRule.{ArgumentRule}

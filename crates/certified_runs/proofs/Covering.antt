@@ -13,7 +13,7 @@ use Rattle.rv_machine.specs.Effects.{effect_of, holds, load_size, loaded_value, 
 use Rattle.rv_machine.specs.Machine.{State, Ending, goes_on, stops, observed, loaded, stored, with_value, with_stored, with_link, moved_to, ending_of, next, product_shown}
 use Rattle.rv_machine.specs.Registers.{register}
 use Rattle.rv_machine.specs.Sizes.{byte_count}
-use Rattle.rv_machine.proofs.ByteLaws.{number_at-zero, number_at-suc, with_number-suc, with_byte_same, with_byte_other, with_number_below, with_number_above, is_some-with_number}
+use Rattle.certified_runs.proofs.Below.{number_at-zero, number_at-suc, with_number-suc, with_byte_same, with_byte_other, with_number_below, with_number_above, is_some-with_number}
 use Rattle.word.specs.declared.profile.Profile.{Profile}
 use Rattle.word.specs.declared.profile.Profile.TheVariants.{P1, P2}
 use Rattle.certified_runs.specs.Known.{Known, knows, knows_both, knows_bytes, with_register_known, with_bytes_known, Covers}

@@ -5,7 +5,7 @@ use Rattle.rv_machine.specs.declared.stops.Stop.{Stop}
 use Rattle.rv_machine.specs.declared.stops.Stop.TheVariants.{Budget}
 use Rattle.rv_machine.specs.Entries.{entries_of}
 use Rattle.rv_machine.specs.Machine.{Code}
-use Rattle.rv_machine.proofs.Shown.{entries_of-append}
+use Rattle.certified_runs.proofs.Below.{entries_of-append}
 use Rattle.certified_runs.specs.Certified.{KnownTurn, leads_on, ends, depends, RunEnding, same, may_differ, CertifiedRun, spent, halts, cut, turns}
 use Rattle.certified_runs.specs.End.{end_of}
 use Rattle.certified_runs.specs.Known.{Known}

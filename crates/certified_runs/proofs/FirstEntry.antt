@@ -12,9 +12,7 @@ use Rattle.rv_machine.specs.Entries.{Entry, program_counter, events_of, entries_
 use Rattle.rv_machine.specs.Leakage.{stays, halts, Runs, halted}
 use Rattle.rv_machine.specs.Machine.{State, Code, Ending, goes_on, stops, observed, loaded, stored, ending_of, Turn}
 use Rattle.rv_machine.specs.Sizes.{byte_count}
-use Rattle.rv_machine.proofs.RunLaws.{Runs-determined}
-use Rattle.rv_machine.proofs.Shown.{entries_of-append}
-use Rattle.rv_machine.proofs.TotalLaws.{turn_stops, Runs-more, run_of_state}
+use Rattle.certified_runs.proofs.Below.{Runs-determined, entries_of-append, turn_stops, Runs-more, run_of_state}
 use Rattle.word.specs.declared.profile.Profile.{Profile}
 use Rattle.certified_runs.specs.Known.{Known, Covers}
 use Rattle.certified_runs.specs.Certified.{KnownTurn, undecided, depends, may_differ, CertifiedRun, cut, turns}

@@ -16,10 +16,7 @@ use Rattle.rv_machine.specs.Entries.{entries_of}
 use Rattle.rv_machine.specs.Leakage.{Done, went_on, stopped, refused}
 use Rattle.rv_machine.specs.Machine.{State, Code, IsAt, Ending, goes_on, stops, stored, ending_of, Turn, executes}
 use Rattle.rv_machine.specs.Sizes.{byte_count}
-use Rattle.rv_machine.proofs.Locality.{IsSameTurn, turn_same}
-use Rattle.rv_machine.proofs.Pairs.{count-few}
-use Rattle.rv_machine.proofs.RunLaws.{Turn-determined}
-use Rattle.rv_machine.proofs.TotalLaws.{turn_stops}
+use Rattle.certified_runs.proofs.Below.{IsSameTurn, turn_same, count-few, Turn-determined, turn_stops}
 use Rattle.word.specs.declared.profile.Profile.{Profile}
 use Rattle.certified_runs.specs.Certified as certified
 use Rattle.certified_runs.specs.Certified.{decides, registers_after, bytes_after, known_after, KnownTurn, decided, leads_on, ends}

@@ -1,3 +1,4 @@
+mod Below
 pub mod Covering
 pub mod Ends
 pub mod FirstEntry

@@ -8,7 +8,7 @@ use Rattle.rv_machine.specs.declared.memory.Size.{Size}
 use Rattle.rv_machine.specs.declared.memory.Size.TheVariants.{Byte, Half, Word}
 use Rattle.rv_machine.specs.Bytes.{ByteMap, joined, number_at, with_number}
 use Rattle.rv_machine.specs.Sizes.{byte_count}
-use Rattle.rv_machine.proofs.ByteLaws.{number_at-zero, number_at-suc, with_number-suc, with_byte_same, with_byte_other, with_number_below, with_number_above, is_some-with_number}
+use Rattle.certified_runs.proofs.Below.{number_at-zero, number_at-suc, with_number-suc, with_byte_same, with_byte_other, with_number_below, with_number_above, is_some-with_number}
 use Rattle.certified_runs.specs.Known.{knows_bytes, with_register_known, with_bytes_known}
 use Rattle.certified_runs.specs.Parts.{known_registers, all_registers, is_known_mark, known_bytes}
 use Rattle.certified_runs.specs.private.Changes.{mark_of}

@@ -7,8 +7,7 @@ use Rattle.rv_code.specs.Words.{word_of}
 use Rattle.rv_machine.specs.declared.observation.Observation.{Observation}
 use Rattle.rv_machine.specs.declared.stops.Stop.TheVariants.{Budget}
 use Rattle.rv_machine.specs.Machine.{Code, IsAt, Ending, goes_on, stops, Turn, pc_misaligned, not_code, no_instruction, executes}
-use Rattle.rv_machine.proofs.RunLaws.{Turn-determined, goes_on≢stops}
-use Rattle.rv_machine.proofs.TotalLaws.{turn_of_state}
+use Rattle.certified_runs.proofs.Below.{Turn-determined, goes_on≢stops, turn_of_state}
 use Rattle.certified_runs.specs.Known.{Known}
 use Rattle.certified_runs.specs.Certified.{decides, known_after, KnownEnding, leads_on, ends, depends, KnownTurn, decided, stopped, undecided, RunEnding, same, may_differ, CertifiedRun, spent, halts, cut, turns}
 use Rattle.certified_runs.proofs.KnownTurns.{one_instruction}

@@ -7,8 +7,7 @@ use Rattle.rv_machine.specs.declared.stops.Stop.TheVariants.{Illegal, RecorderRe
 use Rattle.rv_machine.specs.Effects.{effect_of}
 use Rattle.rv_machine.specs.Leakage.{Leads, stays, turns, halts, Runs, halted, spent}
 use Rattle.rv_machine.specs.Machine.{State, Code, IsAt, Ending, goes_on, stops, here, word_at, ending_of, Turn, pc_misaligned, not_code, no_instruction, executes}
-use Rattle.rv_machine.proofs.RunLaws.{Turn-determined, Runs-determined}
-use Rattle.rv_machine.proofs.TotalLaws.{turn_stops, Runs-more}
+use Rattle.certified_runs.proofs.Below.{Turn-determined, Runs-determined, turn_stops, Runs-more}
 use Rattle.certified_runs.specs.Known.{Known, Covers}
 use Rattle.certified_runs.specs.Certified as certified
 use Rattle.certified_runs.specs.Certified.{decides, known_after, KnownTurn, CertifiedRun, decided, leads_on, ends, depends, same, may_differ}

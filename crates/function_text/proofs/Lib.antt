@@ -1,3 +1,4 @@
+mod Below
 pub mod AssembledLemmas
 pub mod FunctionLemmas
 pub mod TextLaws

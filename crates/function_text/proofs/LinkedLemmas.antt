@@ -1,6 +1,6 @@
 -- The image of a text's function is the one that the text is compiled to, so it is called as that one is.
 use Rattle.function_text.specs.Linked.{FunctionsAreLinked}
-use Rattle.hepurita.proofs.AnswerLemmas.{fits}
+use Rattle.function_text.proofs.Below.{fits}
 use Rattle.linked_calls.specs.Callable.{CallsAreLinked}
 use Rattle.syntax.specs.Reading.{OneAnswer}
 

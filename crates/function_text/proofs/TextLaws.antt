@@ -5,8 +5,7 @@ use Rattle.function_text.specs.AssemblerText.{ListsWords, nothing, line, IsAssem
 use Rattle.function_text.specs.Functions.{Named, Parts, IsFunctionOf, written_parameter}
 use Rattle.function_text.specs.HeaderText.{header_text}
 use Rattle.function_text.specs.Texts.{AreTextsOf}
-use Rattle.hepurita.proofs.JudgementLemmas.{one_export}
-use Rattle.hepurita.proofs.OneImage.{one_build}
+use Rattle.function_text.proofs.Below.{one_export, one_build}
 use Rattle.image.specs.Reading.{Spells}
 use Rattle.image_fields.specs.Fields.{Fields}
 use Rattle.language.specs.Tree.{ProcedureTree}

@@ -16,11 +16,7 @@ use Rattle.syntax.specs.Spelling.{is_blank, is_line_feed, is_word_byte, sign_tex
 use Rattle.syntax.specs.private.Splitting.{is_no_word_byte}
 use Rattle.syntax.specs.Tokens.{BeginsWith, BeginsWithNone, Ending, ends_at, stops, Lexes, LexesFrom, at_end, past_space, past_token, at_bad_number, at_unknown_character, place_after}
 use Rattle.syntax.specs.private.Machine.{program, verdict}
-use Rattle.syntax.proofs.MachineAnswers.{answers}
-use Rattle.syntax.proofs.TokenPieces.{OnlySigns, blank_piece, comment_piece, signs, word_piece, word_some}
-use Rattle.syntax.proofs.TokenRuns.{run_at}
-use Rattle.syntax.proofs.TokenShapes.{none_from_all}
-use Rattle.syntax.proofs.TokenSteps.{rest_shorter}
+use Rattle.grammar_laws.proofs.Below.{answers, OnlySigns, blank_piece, comment_piece, signs, word_piece, word_some, run_at, none_from_all, rest_shorter}
 use Rattle.grammar_laws.proofs.Words.{below, word_spelled}
 
 -- the piece that a text begins with, if there is one

@@ -1,3 +1,4 @@
+mod Below
 pub mod BeginningLaws
 pub mod BeginningEnds
 pub mod CasesOfTrees

@@ -10,7 +10,7 @@ use Rattle.syntax.specs.Grammar.{ExprAt, MoreExprs, SomeExprs, Arguments, Call, 
 use Rattle.syntax.specs.Lexeme.{Lexeme}
 use Rattle.syntax.specs.Reading.{Reads, accepted, by_tokens, Answers, a_program as program_answer}
 use Rattle.syntax.specs.Tokens.{Ending, LexesFrom, at_end, past_space, past_token, at_bad_number, at_unknown_character}
-use Rattle.syntax.proofs.TokenLaws.{spelled_some}
+use Rattle.grammar_laws.proofs.Below.{spelled_some}
 use Rattle.grammar_laws.proofs.TokenPlaces.{offset_after}
 use Rattle.grammar_laws.specs.Heads.{here, in_expr, in_exprs, in_values, in_call, in_right, in_statement, in_block, in_parameters, in_return, in_export, in_procedure, in_procedures, in_program}
 

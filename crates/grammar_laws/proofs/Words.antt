@@ -17,9 +17,7 @@ use Rattle.syntax.specs.declared.token.Suffix.TheVariants.{U8, U16, U32}
 use Rattle.syntax.specs.declared.token.TokenKind.TheVariants.{Keyword as KeywordToken, Name as NameToken, Number as NumberToken}
 use Rattle.syntax.specs.Spelling.{IsNumber, Spells, WritesValue, bad_number, keyword, keyword_text, is_word_byte, name, number, suffix_text}
 use Rattle.syntax.specs.private.Splitting.{SplitsAtFirst, is_suffix_letter}
-use Rattle.syntax.proofs.MachineAnswers.{lt-true, lt-false}
-use Rattle.syntax.proofs.TokenNumbers.{name_word, number_cut, number_word, value_unique}
-use Rattle.syntax.proofs.TokenRuns.{run_at}
+use Rattle.grammar_laws.proofs.Below.{lt-true, lt-false, name_word, number_cut, number_word, value_unique, run_at}
 
 -- what a test decides, holds or does not
 by_test : {P : Type 0} (b : Bool) → Decides b P → P ⊎ (P → ⊥)

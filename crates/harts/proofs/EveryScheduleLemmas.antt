@@ -16,9 +16,7 @@ use Rattle.hepurita.specs.Bases.{most_images}
 use Rattle.hepurita.specs.Compiled.{IsCompiled, Means}
 use Rattle.image_fields.specs.Fields.{Fields, IsImage}
 use Rattle.language.specs.Results.{Results}
-use Rattle.rv_machine.proofs.Alone.{alone, shown_the_same}
-use Rattle.rv_machine.proofs.Halting.{shown_alone, stopped_alone}
-use Rattle.rv_machine.proofs.SystemLaws.{MemberTurn-determined}
+use Rattle.harts.proofs.Below.{alone, shown_the_same, shown_alone, stopped_alone, MemberTurn-determined}
 use Rattle.rv_machine.specs.Apart.{IsAsAlone, ShowTheSame}
 use Rattle.rv_machine.specs.Bytes.{ByteMap}
 use Rattle.rv_machine.specs.Leakage.{Halts}

@@ -18,7 +18,7 @@ use Rattle.language.specs.declared.signature.Kind.TheVariants.{Boolean, Uint8, U
 use Rattle.language.specs.declared.values.Arg.{Arg}
 use Rattle.language.specs.declared.values.Arg.TheVariants.{Word, Array}
 use Rattle.rv_machine.specs.Bytes.{ByteMap, joined, number_at, with_number, zeros}
-use Rattle.rv_machine.proofs.ByteLaws.{number_at-zero, number_at-suc, number_at_same, is_some-with_number}
+use Rattle.harts.proofs.Below.{number_at-zero, number_at-suc, number_at_same, is_some-with_number}
 
 -- Numbers.
 

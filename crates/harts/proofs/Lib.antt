@@ -1,3 +1,4 @@
+mod Below
 mod EndLemmas
 mod EndSpaceLemmas
 mod EveryScheduleLemmas

@@ -10,8 +10,7 @@ use Rattle.std.proofs.lemmas.Option.{none-some, same_Some, slice_get_within, get
 use Rattle.arguments.specs.Within.{AreWithin}
 use Rattle.codegen.specs.Loaded.{with_numbers, with_argument, with_arguments}
 use Rattle.hepurita.specs.Frames.{HoldsSlot}
-use Rattle.hepurita.proofs.DataLemmas.{zeros_there, HoldsSlot-same, is_some-with_argument}
-use Rattle.hepurita.proofs.LoadLemmas.{slots_hold}
+use Rattle.harts.proofs.Below.{zeros_there, HoldsSlot-same, is_some-with_argument, slots_hold, with_byte_same, with_byte_other, with_number-zero, with_number-suc}
 use Rattle.image_fields.specs.Fields.{slot_end, IsImage}
 use Rattle.image_fields.specs.declared.slot.Slot.{Slot}
 use Rattle.language.specs.Size.{element_bytes}
@@ -19,7 +18,6 @@ use Rattle.language.specs.declared.values.Arg.{Arg}
 use Rattle.language.specs.declared.values.Arg.TheVariants.{Word, Array}
 use Rattle.rv_machine.specs.Bytes.{ByteMap, with_byte, with_number, zeros}
 use Rattle.rv_machine.specs.Paged.{lies_in, zeros_in, first_of}
-use Rattle.rv_machine.proofs.ByteLaws.{with_byte_same, with_byte_other, with_number-zero, with_number-suc}
 use Rattle.rv_machine.specs.declared.paged.AddressRange.{AddressRange}
 use Rattle.harts.specs.Frames.{each_from, IsRunnable, HasImage, frame_of, with_all_arguments, HoldFrames}
 use Rattle.harts.specs.SideBySide.{Job, frame_base_of, loaded_alone, bytes_from}

@@ -15,7 +15,7 @@ use Rattle.hepurita.specs.Compiled.{IsCompiled, RunsTo}
 use Rattle.image.specs.Reading.{Spells}
 use Rattle.image_fields.specs.Fields.{Fields, IsImage}
 use Rattle.language.specs.Tree.{ProcedureTree, ProgramTree}
-use Rattle.rv_machine.proofs.Halting.{keeps_inside}
+use Rattle.harts.proofs.Below.{keeps_inside}
 use Rattle.rv_machine.specs.Apart.{Covers, KeepsInside, AreApart}
 use Rattle.rv_machine.specs.Bytes.{ByteMap}
 use Rattle.rv_machine.specs.Paged.{first_of}

@@ -13,7 +13,7 @@ use Rattle.rv_machine.specs.declared.pairing.Pairing.TheVariants.{Same, Differ}
 use Rattle.rv_machine.specs.Leakage.{Ran}
 use Rattle.rv_machine.specs.Machine.{State}
 use Rattle.rv_machine.specs.Recording.{kept}
-use Rattle.rv_machine.proofs.RunLaws.{Ran-halts}
+use Rattle.hepurita.proofs.Below.{Ran-halts}
 use Rattle.rv_machine.specs.declared.observation.Observation.{Observation}
 use Rattle.rv_machine.specs.declared.stops.Stop.{Stop}
 use Rattle.rv_machine.specs.declared.stops.Stop.TheVariants.{Ecall, Break, Illegal, AccessFault, Misaligned, Budget, RecorderRefused}

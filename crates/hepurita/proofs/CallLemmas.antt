@@ -20,8 +20,7 @@ use Rattle.rv_machine.specs.declared.pairing.Pairing.{Pairing}
 use Rattle.rv_machine.specs.declared.pairing.Pairing.TheVariants.{Same, Differ}
 use Rattle.rv_machine.specs.declared.stops.Stop.{Stop}
 use Rattle.rv_machine.specs.declared.stops.Stop.TheVariants.{Ecall, Break, Illegal, AccessFault, Misaligned, Budget, RecorderRefused}
-use Rattle.rv_machine.proofs.EntryLaws.{differ-apart, first-unique}
-use Rattle.rv_machine.proofs.RunLaws.{Runs-determined, Ran-determined, Ran-beginning}
+use Rattle.hepurita.proofs.Below.{differ-apart, first-unique, Runs-determined, Ran-determined, Ran-beginning}
 use Rattle.hepurita.specs.Bases.{frame_base}
 use Rattle.hepurita.specs.Executed.{Executed, refused, out_of_memory, ran, answer_at, WantsMemory}
 use Rattle.hepurita.specs.Paired.{Paired, Observed, pair_fault}

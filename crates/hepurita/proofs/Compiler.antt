@@ -16,7 +16,7 @@ use Rattle.inline.specs.Numbering.{flattened, param_of}
 use Rattle.inline.specs.Path.{seen as seen_of}
 use Rattle.intervals.specs.Work.{ranged, work_of}
 use Rattle.rv_machine.specs.Machine.{State, Code}
-use Rattle.rv_machine.proofs.RunLaws.{Halts-determined}
+use Rattle.hepurita.proofs.Below.{Halts-determined}
 use Rattle.language.specs.declared.signature.Param.{Param}
 use Rattle.language.specs.declared.typing.WordType.{WordType}
 use Rattle.language.specs.declared.values.Arg.{Arg}

@@ -13,8 +13,7 @@ use Rattle.hepurita.specs.Uncut.{RunsFor}
 use Rattle.image_fields.specs.Fields.{Fields}
 use Rattle.language.specs.Tree.{ProcedureTree, ProgramTree}
 use Rattle.language.specs.declared.values.Arg.{Arg}
-use Rattle.rv_machine.proofs.RunLaws.{Turn-determined, goes_on≢stops, Halts-determined}
-use Rattle.rv_machine.proofs.TotalLaws.{turn_stops}
+use Rattle.hepurita.proofs.Below.{Turn-determined, goes_on≢stops, Halts-determined, turn_stops}
 use Rattle.rv_machine.specs.Leakage.{Leads, stays, turns, Halts, halts, Runs, halted, cut_short, spent}
 use Rattle.rv_machine.specs.Machine.{State, Code, stops, Turn}
 use Rattle.rv_machine.specs.declared.observation.Observation.{Observation}

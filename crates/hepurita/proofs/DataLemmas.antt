@@ -5,7 +5,7 @@ use Rattle.arguments.specs.Within.{HasShape}
 use Rattle.image_fields.specs.Fields.{slot_end, slot_bytes}
 use Rattle.image_fields.specs.declared.slot.Slot.{Slot}
 use Rattle.rv_machine.specs.Bytes.{ByteMap, number_at, zeros}
-use Rattle.rv_machine.proofs.ByteLaws.{is_some-with_number}
+use Rattle.hepurita.proofs.Below.{is_some-with_number}
 use Rattle.language.specs.Size.{element_bytes, array_words}
 use Rattle.language.specs.declared.signature.Form.{Form}
 use Rattle.language.specs.declared.signature.Form.TheVariants.{SingleWord, FixedArray, MutableArray}

@@ -2,7 +2,7 @@
 use Rattle.std.proofs.Common.{◌≡◌, ℕ, zero, suc, ◌+◌, ◌*◌, ◌<◌, ◌≤◌, true, ◌&&◌, Option, Some, None, List, [], ◌∷◌, ◌++◌, length, drop, slice_index_or, is_some, unwrap_or, refl, sym, ap, ◌∙◌, arith, drop-cons, add-one}
 use Rattle.std.proofs.Math.Nat.{mul-suc}
 use Rattle.rv_machine.specs.Bytes.{ByteMap, joined, number_at, with_number}
-use Rattle.rv_machine.proofs.ByteLaws.{number_at-suc, number_at-zero, is_some-with_number}
+use Rattle.hepurita.proofs.Below.{number_at-suc, number_at-zero, is_some-with_number}
 use Rattle.rv_machine.specs.Sizes.{byte_count}
 use Rattle.rv_machine.specs.declared.memory.Size.{Size}
 use Rattle.rv_machine.specs.declared.memory.Size.TheVariants.{Byte, Half, Word}

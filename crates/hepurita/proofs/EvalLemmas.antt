@@ -6,7 +6,7 @@ use Rattle.arguments.specs.Within.{AreWithin}
 use Rattle.arguments.specs.declared.fault.ArgumentFault.{ArgumentFault}
 use Rattle.inline.specs.FlatMeaning.{outcome_of}
 use Rattle.inline.specs.Numbering.{flattened, param_of}
-use Rattle.intervals.proofs.Safe.{accepted_is_safe}
+use Rattle.hepurita.proofs.Below.{accepted_is_safe}
 use Rattle.intervals.specs.Limits.{most_work}
 use Rattle.language.specs.Evaluation.{program_run}
 use Rattle.language.specs.Results.{Results}

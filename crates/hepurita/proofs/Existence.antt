@@ -1,11 +1,9 @@
 -- Each text has a judgement.
 use Rattle.std.proofs.Common.{◌≡◌, ℕ, List, [], length, None, Some, ⊎_elim, refl}
-use Rattle.grammar_laws.proofs.Existence.{answer_to}
+use Rattle.hepurita.proofs.Below.{answer_to, Export, has_export, first_of}
 use Rattle.inline.specs.Numbering.{flattened}
 use Rattle.intervals.specs.Ranges.{range_violations}
 use Rattle.source_work.specs.SourceWork.{work_violations}
-use Rattle.labels.proofs.ExportLemmas.{Export, has_export}
-use Rattle.labels.proofs.SoonerLemmas.{first_of}
 use Rattle.language.specs.Meaning.{exported}
 use Rattle.language.specs.Size.{size_violations}
 use Rattle.language.specs.Tree.{ProcedureTree, ProgramTree}

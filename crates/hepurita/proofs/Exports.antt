@@ -3,7 +3,7 @@ use Rattle.std.proofs.Common.{◌≡◌, List, [], length, Option, None, Some, a
 use Rattle.std.proofs.ByRecursion.{All-get_or, All-take}
 use Rattle.std.proofs.lemmas.Option.{get_or_from_slice_get, same_Some, slice_get_within}
 use Rattle.std.specs.List.{AllByRecursion}
-use Rattle.labels.proofs.ExportLemmas.{export_at}
+use Rattle.hepurita.proofs.Below.{export_at}
 use Rattle.labels.specs.Exports.{export_index}
 use Rattle.language.specs.Meaning.{exported}
 use Rattle.language.specs.Tree.{ProcedureTree}

@@ -1,3 +1,4 @@
+mod Below
 pub mod ElementLemmas
 pub mod DataLemmas
 pub mod SpaceLemmas

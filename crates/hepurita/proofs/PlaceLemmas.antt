@@ -7,9 +7,7 @@ use Rattle.language.specs.Meaning.{exported}
 use Rattle.language.specs.Tree.{ProcedureTree, ProgramTree}
 use Rattle.syntax.specs.Reading.{Reads, accepted}
 use Rattle.grammar_laws.specs.Heads.{astray, in_procedure, in_procedures, in_program}
-use Rattle.grammar_laws.proofs.HeadPlaces.{heads_in_place}
-use Rattle.grammar_laws.proofs.Light.{light_of}
-use Rattle.grammar_laws.proofs.ViolationPlaces.{sizes_light, violations_light}
+use Rattle.hepurita.proofs.Below.{heads_in_place, light_of, sizes_light, violations_light}
 use Rattle.hepurita.specs.Built.{IsWellFormed, JudgesProgram, refuses, ill_typed, too_large, out_of_range, too_much_work}
 use Rattle.hepurita.proofs.Exports.{Export, export_or, front_or}
 use Rattle.hepurita.proofs.RangePlaces.{ranges_light, work_light}

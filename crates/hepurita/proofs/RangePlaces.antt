@@ -1,8 +1,7 @@
 -- What is said of ranges and of work stands at a head of the tree.
 use Rattle.std.proofs.Common.{◌≡◌, ℕ, ◌==◌, ◌&&◌, nat_lt, nat_le, List, [], ◌∷◌, length, Option, None, Some, arith}
 use Rattle.std.specs.List.{AllByRecursion}
-use Rattle.grammar_laws.proofs.Light.{none, more, both}
-use Rattle.grammar_laws.proofs.ViolationPlaces.{AreAtLight}
+use Rattle.hepurita.proofs.Below.{none, more, both, AreAtLight}
 use Rattle.grammar_laws.specs.Heads.{in_procedure, in_procedures}
 use Rattle.inline.specs.declared.flat.FlatVariable.{FlatVariable}
 use Rattle.inline.specs.Flat.{TermTree, number, truth, variable, prefix, binary, rotate, convert, select, element, FlatTree, declare, array, assign, put, hold, skip, branch, loop, FlatBlock, nothing, first}

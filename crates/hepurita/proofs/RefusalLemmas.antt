@@ -14,7 +14,7 @@ use Rattle.language.specs.Size.{size_violations}
 use Rattle.language.specs.Tree.{ProcedureTree, ProgramTree}
 use Rattle.syntax.specs.Reading.{Reads, accepted, refused, OneAnswer}
 use Rattle.hepurita.specs.Built.{Judges, JudgesProgram, refuses, ill_typed, too_large, out_of_range, too_much_work, unreadable, readable}
-use Rattle.grammar_laws.proofs.HeadPlaces.{one_place}
+use Rattle.hepurita.proofs.Below.{one_place}
 use Rattle.hepurita.proofs.PlaceLemmas.{refused_in_place}
 use Rattle.hepurita.proofs.JudgementLemmas.{none, of_same, HasSize, IsInRange}
 use Rattle.word.specs.declared.profile.Profile.{Profile}

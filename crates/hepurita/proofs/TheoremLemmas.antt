@@ -6,12 +6,10 @@ use Rattle.branch_removal.specs.Removed.{IsRemoved}
 use Rattle.branch_removal.specs.Straight.{StraightProgram}
 use Rattle.codegen.specs.Followed.{IsGenerated}
 use Rattle.image_fields.specs.Fields.{Fields}
-use Rattle.inline.proofs.FlatMeanings.{flat_keeps_meaning}
-use Rattle.inline.proofs.FlatPrograms.{flat_is_typed}
+use Rattle.hepurita.proofs.Below.{flat_keeps_meaning, flat_is_typed, accepted_is_safe, safe_runs_meet_no_fault}
 use Rattle.inline.specs.FlatMeaning.{outcome_of}
 use Rattle.inline.specs.FlatTyping.{IsTypedProgram}
 use Rattle.inline.specs.Numbering.{flattened, param_of}
-use Rattle.intervals.proofs.Safe.{accepted_is_safe, safe_runs_meet_no_fault}
 use Rattle.intervals.specs.Loose.{IsSafe}
 use Rattle.intervals.specs.Ranges.{range_violations, turns_of}
 use Rattle.intervals.specs.Work.{ranged, work_of, work_violations}

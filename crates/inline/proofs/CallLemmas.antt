@@ -4,7 +4,7 @@ use Rattle.std.specs.Result.{OnOk}
 use Rattle.std.proofs.lemmas.List.{append_assoc, append-nil}
 use Rattle.std.specs.Option.{option_map}
 use Rattle.inline.proofs.BlockLemmas.{behind, behind_both, chain_nothing}
-use Rattle.language.proofs.KnownLemmas.{known_by_name, made}
+use Rattle.inline.proofs.Below.{known_by_name, made}
 use Rattle.inline.proofs.NumberingLemmas.{next_number}
 use Rattle.inline.specs.declared.flat.FlatVariable.{FlatVariable}
 use Rattle.inline.specs.Callees.{called_by}

@@ -18,7 +18,7 @@ use Rattle.language.specs.Types.{Scope}
 use Rattle.language.specs.Typing.{is_mutable, result_value}
 use Rattle.language.specs.WellTyped.{labelled, ArePassed, none_passed, one_passed, IsCall, of_procedure}
 use Rattle.inline.proofs.ChainTypes.{chain-nodes}
-use Rattle.language.proofs.KnownLemmas.{known-named}
+use Rattle.inline.proofs.Below.{known-named}
 use Rattle.inline.proofs.Procedures.{Stand, IsWithin}
 
 -- Nodes.

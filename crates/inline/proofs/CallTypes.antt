@@ -23,7 +23,7 @@ use Rattle.language.specs.WellTyped as rules
 use Rattle.language.specs.WellTyped.{labelled, AreNew, ArePassed, none_passed, one_passed, IsCall, of_procedure}
 use Rattle.inline.proofs.Begun.{word_given, enters, distinct_none}
 use Rattle.inline.proofs.ChainTypes.{chain-types, chain-typed}
-use Rattle.language.proofs.KnownLemmas.{known-named}
+use Rattle.inline.proofs.Below.{known-named}
 use Rattle.inline.proofs.Linked.{Linked, linked_beside}
 use Rattle.inline.proofs.Listed.{Lists, lists_first, lists_left, lists_right}
 use Rattle.inline.proofs.Parameters.{NoVariables, typed_with}

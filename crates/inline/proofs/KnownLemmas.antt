@@ -5,7 +5,7 @@ use Rattle.std.specs.Str.{bytes_eq}
 use Rattle.language.specs.Known.{Known, known_of, known_from, nothing_known, first_known, with_known}
 use Rattle.language.specs.Meaning.{named}
 use Rattle.language.specs.Tree.{ProcedureTree}
-use Rattle.language.proofs.KnownLemmas.{Found}
+use Rattle.inline.proofs.Below.{Found}
 
 -- What is true of all that is made, where each is made from such as it is true of.
 

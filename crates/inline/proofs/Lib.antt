@@ -1,3 +1,4 @@
+mod Below
 pub mod Lookup
 pub mod Linked
 pub mod Comes
@@ -36,3 +37,4 @@ pub mod CallLemmas
 mod SizeLemmas
 mod CountLemmas
 mod LimitLemmas
+pub mod Face

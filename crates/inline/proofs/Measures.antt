@@ -1,7 +1,7 @@
 -- How large statements are where calls are bodies: what the recursion of the numbering goes down by.
 use Rattle.std.proofs.Common.{◌≡◌, ◌<◌, ◌≤◌, ℕ, ◌+◌, ◌*◌, List, [], ◌∷◌, Some, Vec, Global, map, arith, sym, ap, ◌∙◌}
 use Rattle.std.specs.Option.{option_map}
-use Rattle.language.proofs.KnownLemmas.{known_by_name, made}
+use Rattle.inline.proofs.Below.{known_by_name, made}
 use Rattle.inline.proofs.NumberingLemmas.{conditional_whole, loop_whole}
 use Rattle.word.specs.declared.place.Place.{Place}
 use Rattle.language.specs.declared.tree.Counter.{Counter}

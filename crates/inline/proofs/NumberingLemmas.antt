@@ -2,7 +2,7 @@
 use Rattle.std.proofs.Common.{◌≡◌, ℕ, ◌+◌, true, false, Bool, List, [], ◌∷◌, ◌++◌, Vec, Global, length, take, is_some, Option, Some, refl, sym, ap, ap₂, ◌∙◌, length-append}
 use Rattle.std.proofs.lemmas.List.{append_assoc, append-nil}
 use Rattle.std.proofs.Math.Seq.{take-append_seam}
-use Rattle.language.proofs.BlockLemmas.{conditional_tree, loop_tree}
+use Rattle.inline.proofs.Below.{conditional_tree, loop_tree}
 use Rattle.inline.proofs.BlockLemmas.{behind}
 use Rattle.inline.specs.declared.numbering.Numbered.{Numbered}
 use Rattle.inline.specs.declared.flat.FlatVariable.{FlatVariable}

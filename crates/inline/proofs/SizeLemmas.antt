@@ -10,7 +10,7 @@ use Rattle.language.specs.declared.tree.Statement.{Statement, If, For}
 use Rattle.language.specs.Meaning.{word_arguments}
 use Rattle.language.specs.Size.{Extent, Extents, nodes_in, nodes_passed, called_nodes, statement_nodes, block_nodes, statement_words, block_words, statement_bodies, block_bodies}
 use Rattle.language.specs.Tree.{ExprTree, number, truth, name, prefix, binary, rotate, convert, select, element, CallTree, StatementTree, declaration, array, assignment, element_assignment, call, conditional, loop, ParameterTree, expr_tree, statement_tree, block_tree}
-use Rattle.language.proofs.BlockLemmas.{conditional_tree, loop_tree}
+use Rattle.inline.proofs.Below.{conditional_tree, loop_tree}
 
 -- an expression has a node
 pub nodes_some : (e : ExprTree) → 1 ≤ nodes_in e

@@ -1,3 +1,4 @@
+mod Below
 pub mod UndoingLemmas
 pub mod TreeLemmas
 pub mod WalkLemmas

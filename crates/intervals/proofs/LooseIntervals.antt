@@ -8,7 +8,7 @@ use Rattle.intervals.specs.Intervals.{between, either_truth, greatest, full, ful
 use Rattle.language.specs.Operators.{operated, prefix_value, truth_of, width_of}
 use Rattle.language.specs.declared.tree.BinaryOperator.{BinaryOperator}
 use Rattle.language.specs.declared.tree.BinaryOperator.TheVariants.{Either, Both, Equal, Unequal, Less, LessOrEqual, Greater, GreaterOrEqual, BitOr, BitXor, BitAnd, ShiftLeft, ShiftRight, Add, Subtract, Multiply, Divide, Remainder}
-use Rattle.inline.proofs.Fitting.{complement_fits, number_fits, wrapped_fits}
+use Rattle.intervals.proofs.Below.{complement_fits, number_fits, wrapped_fits}
 use Rattle.inline.specs.Fitting.{IsWithinKind}
 use Rattle.language.specs.Grammatical.{IsNumberKind}
 use Rattle.language.specs.Types.{bits_of}

@@ -11,10 +11,7 @@ use Rattle.inline.specs.Flat.{TermTree, FlatTree, declare, array, assign, put, h
 use Rattle.inline.specs.FlatMeaning.{Values, with_value}
 use Rattle.inline.specs.FlatTyping.{Types, types_of, with_type, Suits, AllSuit, HasCount, IsNew, IsTyped, AreTyped, counter_type, types_after, types_after_all}
 use Rattle.inline.specs.Path.{Path, AreFine, bounded, indexed}
-use Rattle.inline.proofs.Fitting.{some_bit}
-use Rattle.inline.proofs.FittingBodies.{fits_assigned, fits_declared, one_held}
-use Rattle.inline.proofs.Linked.{with_type-same, with_type-other}
-use Rattle.inline.proofs.TypesKept.{new_number, type_kept, types_kept}
+use Rattle.intervals.proofs.Below.{some_bit, fits_assigned, fits_declared, one_held, with_type-same, with_type-other, new_number, type_kept, types_kept}
 use Rattle.intervals.specs.declared.interval.Interval.{Interval}
 use Rattle.intervals.specs.Intervals.{Bounds, known, with_bound, between, interval}
 use Rattle.intervals.specs.Loose.{Comes, ComeAll, none_left, one_more, made, Leads, declares, declares_array, assigns, puts, holds as holding, skips, chooses, repeats, Turns, no_turn, a_turn, LeadAll, ends, goes_on}

@@ -8,7 +8,7 @@ use Rattle.inline.specs.Flat.{TermTree, word_as, array_as}
 use Rattle.inline.specs.FlatMeaning.{Values, marks_of}
 use Rattle.inline.specs.FlatTyping.{Types, types_of, HasType, of_number, of_truth, of_variable, of_prefix, of_binary, of_rotation, of_conversion, of_selection, of_element, counter_type}
 use Rattle.inline.specs.Path.{Path, AreFine, divided, indexed, multiplied}
-use Rattle.inline.proofs.Fitting.{bit_fits, element_fits, either_fits, number_fits, operated_fits, prefix_fits, wrapped_fits}
+use Rattle.intervals.proofs.Below.{bit_fits, element_fits, either_fits, number_fits, operated_fits, prefix_fits, wrapped_fits}
 use Rattle.intervals.specs.declared.interval.Interval.{Interval}
 use Rattle.intervals.specs.Intervals.{Bounds, known, full_at, full_of, interval}
 use Rattle.intervals.specs.Loose.{Comes, to_number, to_truth, to_variable, to_prefix, to_binary, to_rotation, to_conversion, to_selection, to_element, to_anything}

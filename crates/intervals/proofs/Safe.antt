@@ -10,8 +10,7 @@ use Rattle.inline.specs.Flat.{FlatProgram, TermTree, declaration_of, elements_by
 use Rattle.inline.specs.FlatMeaning.{Values, ending_by, ending_of, given, outcome_of, path_of}
 use Rattle.inline.specs.FlatTyping.{Types, types_of, IsResult, IsTypedProgram, end_types, parameter_types}
 use Rattle.inline.specs.Path.{Mark, decided, bounded, indexed, divided, multiplied, Path, fault_at, either, first_fault, IsFine, AreFine}
-use Rattle.inline.proofs.Fitting.{element_fits}
-use Rattle.inline.proofs.FittingBodies.{parameters_fit}
+use Rattle.intervals.proofs.Below.{element_fits, parameters_fit}
 use Rattle.intervals.specs.declared.interval.Interval.{Interval}
 use Rattle.intervals.specs.Intervals.{Bounds, full_of, known}
 use Rattle.intervals.specs.Loose.{IsSafe, Returns, nothing_returned, returned}

@@ -13,7 +13,7 @@ use Rattle.language.specs.declared.signature.Form.TheVariants.{SingleWord, Fixed
 use Rattle.rv_machine.specs.declared.observation.Event.TheVariants as event
 use Rattle.rv_machine.specs.declared.memory.Size.TheVariants.{Word}
 use Rattle.rv_machine.specs.Bytes.{ByteMap, number_at, with_number}
-use Rattle.rv_machine.proofs.ByteLaws.{number_at_same, with_number_below, with_number_above}
+use Rattle.linked_calls.proofs.Below.{number_at_same, with_number_below, with_number_above}
 use Rattle.linked_calls.specs.Meant.{meant}
 use Rattle.linked_calls.proofs.Bytes.{AreData, number_there, stays_data, numbers_below, numbers_above, numbers_count}
 use Rattle.linked_calls.proofs.Copying.{CanCopy, MayLoad, MayStore, copied_into, element_size, in_turns}

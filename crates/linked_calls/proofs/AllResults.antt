@@ -10,7 +10,7 @@ use Rattle.language.specs.declared.signature.Form.{Form}
 use Rattle.language.specs.declared.signature.Form.TheVariants.{SingleWord, FixedArray, MutableArray}
 use Rattle.rv_machine.specs.declared.observation.Event.{Event}
 use Rattle.rv_machine.specs.Bytes.{ByteMap, number_at, with_number}
-use Rattle.rv_machine.proofs.ByteLaws.{number_at_same}
+use Rattle.linked_calls.proofs.Below.{number_at_same}
 use Rattle.linked_calls.specs.Called.{with_array, with_arrays, arrays_behind}
 use Rattle.linked_calls.specs.Calls.{Site, IsBesides}
 use Rattle.linked_calls.specs.Copies.{Pointed, place_of, slot_of, CanBeCopied, HasArray, IsCopying, IsHandedBack}

@@ -6,7 +6,7 @@ use Rattle.std.proofs.Math.Nat.{pow-suc}
 use Rattle.std.proofs.lemmas.Bool.{cases_eq, cases_lt, false≢true}
 use Rattle.std.proofs.lemmas.Bool.Decides.{nat_tests}
 use Rattle.rv_machine.specs.Bytes.{ByteMap, joined, number_at, with_byte, with_number, zeros}
-use Rattle.rv_machine.proofs.ByteLaws.{number_at-zero, number_at-suc, number_at_same, with_number-zero, with_number-suc, with_number_below, with_number_above, with_byte_same, with_byte_other, is_some-with_number}
+use Rattle.linked_calls.proofs.Below.{number_at-zero, number_at-suc, number_at_same, with_number-zero, with_number-suc, with_number_below, with_number_above, with_byte_same, with_byte_other, is_some-with_number}
 pub use Rattle.linked_calls.specs.Stretches.{AreData, AreZeroed}
 use Rattle.codegen.specs.Loaded.{with_numbers, numbers_at}
 

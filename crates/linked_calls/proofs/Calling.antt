@@ -24,7 +24,7 @@ use Rattle.linked_calls.proofs.Between.{IsOutsideRoom, body_at, saved_at, enter_
 use Rattle.linked_calls.proofs.Standing.{body_stands}
 use Rattle.linked_calls.proofs.Staying.{AreSameFrom, saved_stay, pointers_stay, arrays_stay, arrays_agree}
 use Rattle.linked_calls.proofs.WithinParameters.{arguments_within}
-use Rattle.rv_machine.proofs.RunLaws.{Leads-append}
+use Rattle.linked_calls.proofs.Below.{Leads-append}
 use Rattle.rv_machine.specs.Machine.{State, Code}
 use Rattle.rv_machine.specs.declared.observation.Event.{Event}
 use Rattle.rv_machine.specs.declared.observation.Event.TheVariants.{Load, Store, Div, Mul}

@@ -16,7 +16,7 @@ use Rattle.rv_machine.specs.declared.memory.Size.{Size}
 use Rattle.rv_machine.specs.declared.memory.Size.TheVariants.{Byte, Half, Word}
 use Rattle.rv_machine.specs.Bytes.{ByteMap, number_at, with_number}
 use Rattle.rv_machine.specs.Registers.{with_register}
-use Rattle.rv_machine.proofs.ByteLaws.{number_at_apart}
+use Rattle.linked_calls.proofs.Below.{number_at_apart}
 use Rattle.word.specs.Operators.{word_of}
 use Rattle.linked_calls.specs.Copies.{AreApart}
 use Rattle.linked_calls.specs.Meant.{meant}

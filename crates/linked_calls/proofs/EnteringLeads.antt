@@ -37,7 +37,7 @@ use Rattle.rv_machine.specs.Machine.{State, Code}
 use Rattle.rv_machine.specs.Registers.{register}
 use Rattle.rv_machine.specs.declared.observation.Event.{Event}
 use Rattle.rv_machine.specs.declared.observation.Event.TheVariants.{Load, Store, Div, Mul}
-use Rattle.rv_machine.proofs.ByteLaws.{number_at_same}
+use Rattle.linked_calls.proofs.Below.{number_at_same}
 
 -- ra, gp and tp are neither sp nor any that entering writes
 untouched_few : (r : ℕ) → IsUntouched r → (r < 5) × (r ≢ 2)

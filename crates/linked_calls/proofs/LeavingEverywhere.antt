@@ -18,7 +18,7 @@ use Rattle.rv_machine.specs.Leakage.{Leads}
 use Rattle.rv_machine.specs.Machine.{State, Code, IsAt}
 use Rattle.rv_machine.specs.declared.observation.Event.{Event}
 use Rattle.rv_machine.specs.declared.observation.Event.TheVariants as event
-use Rattle.rv_machine.proofs.ByteLaws.{number_at_same}
+use Rattle.linked_calls.proofs.Below.{number_at_same}
 use Rattle.linked_calls.specs.Called.{IsOfCall, IsLeft, with_arrays, kept_registers, cleared_registers}
 use Rattle.linked_calls.specs.Calls.{Site, IsSite, room_base, arguments_end}
 use Rattle.linked_calls.specs.Convention.{saved_registers, scratch_registers}

@@ -1,3 +1,4 @@
+mod Below
 pub mod Steps
 pub mod Pieces
 pub mod Registers

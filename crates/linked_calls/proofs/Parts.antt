@@ -17,7 +17,7 @@ use Rattle.rv_machine.specs.declared.memory.Size.TheVariants.{Word}
 use Rattle.rv_machine.specs.Bytes.{number_at, with_number}
 use Rattle.rv_machine.specs.Effects.{sum_of, sign_extended}
 use Rattle.rv_machine.specs.Registers.{register, with_register}
-use Rattle.rv_machine.proofs.RunLaws.{Leads-append}
+use Rattle.linked_calls.proofs.Below.{Leads-append}
 use Rattle.linked_calls.proofs.Registers.{register-at, written, unwritten, parts, far_address, near_address, upper_fits, lower_fits, two_fit, three_fit}
 use Rattle.linked_calls.proofs.Pieces.{Setting, Ends, Piece, Makes, AreAllowed, block, Placed-left, Placed-right}
 use Rattle.linked_calls.proofs.Steps.{Placed, Data, Step, plain, access, instrs}

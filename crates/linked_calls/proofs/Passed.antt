@@ -14,7 +14,7 @@ use Rattle.linked_calls.proofs.Pieces.{Setting}
 use Rattle.linked_calls.proofs.Rooms.{outside_frame}
 use Rattle.rv_machine.specs.Bytes.{ByteMap, number_at}
 use Rattle.rv_machine.specs.Machine.{State, Code}
-use Rattle.rv_machine.proofs.ByteLaws.{number_at_same}
+use Rattle.linked_calls.proofs.Below.{number_at_same}
 
 -- numbers are read the same where maps agree
 pub numbers_same : (old new : ByteMap) (n a k : ℕ) → ((x : ℕ) → a ≤ x → x < a + n * k → new x ≡ old x) → numbers_at new n a k ≡ numbers_at old n a k

@@ -14,8 +14,7 @@ use Rattle.rv_machine.specs.Effects.{holds, branch_target, sign_extended}
 use Rattle.rv_machine.specs.Leakage.{Leads, stays}
 use Rattle.rv_machine.specs.Machine.{Code, IsAt, moved_to}
 use Rattle.rv_machine.specs.Registers.{register}
-use Rattle.rv_machine.proofs.RunLaws.{Leads-append}
-use Rattle.rv_machine.proofs.TurnLaws.{branch_leads, branch_passes}
+use Rattle.linked_calls.proofs.Below.{Leads-append, branch_leads, branch_passes}
 use Rattle.linked_calls.proofs.Steps.{Placed, Data, at, Step, instrs, after, event_of, shown, AreFit, steps_lead}
 
 -- the code, and the accesses that are allowed

@@ -4,7 +4,7 @@ use Rattle.codegen.specs.Loaded.{with_numbers}
 use Rattle.linked_calls.proofs.Between.{AreSaved}
 use Rattle.linked_calls.proofs.Bytes.{numbers_below}
 use Rattle.rv_machine.specs.Bytes.{ByteMap, number_at, with_number}
-use Rattle.rv_machine.proofs.ByteLaws.{number_at_same, number_at-with_number}
+use Rattle.linked_calls.proofs.Below.{number_at_same, number_at-with_number}
 
 word_whole : (v : ℕ) → v < 2 ^ 32 → v % 256 ^ 4 ≡ v
 word_whole v below = omega (arith, below)

@@ -11,7 +11,7 @@ use Rattle.linked_calls.specs.Calls.{Site, IsBesides, LiesWell, LieWell, IsPasse
 use Rattle.linked_calls.specs.FunctionCode.{frame_room, argument_offset, array_bytes}
 use Rattle.linked_calls.proofs.Between.{AreSaved, PointerStands, PointersStand, IsWritableData, AreWritableData, IsOutsideRoom}
 use Rattle.linked_calls.proofs.Bytes.{numbers_agree}
-use Rattle.rv_machine.proofs.ByteLaws.{number_at_same}
+use Rattle.linked_calls.proofs.Below.{number_at_same}
 use Rattle.rv_machine.specs.Bytes.{ByteMap, number_at}
 use Rattle.rv_machine.specs.Machine.{State}
 

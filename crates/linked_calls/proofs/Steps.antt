@@ -18,8 +18,7 @@ use Rattle.rv_machine.specs.Machine.{State, Code, word_at, IsAt, with_value, wit
 use Rattle.rv_machine.specs.Registers.{register, with_register}
 use Rattle.rv_machine.specs.Sizes.{byte_count}
 pub use Rattle.linked_calls.specs.Does.{Data, at}
-use Rattle.rv_machine.proofs.RunLaws.{Leads-append}
-use Rattle.rv_machine.proofs.TurnLaws.{upper_leads, immediate_leads, shift_leads, register_leads, load_leads, store_leads}
+use Rattle.linked_calls.proofs.Below.{Leads-append, upper_leads, immediate_leads, shift_leads, register_leads, load_leads, store_leads}
 
 abbrev pub Placed : Code → ℕ → List Instr → Type 0
 Placed code p [] = Unit {0}

@@ -7,7 +7,7 @@ use Rattle.image_fields.specs.Fields.{Fields}
 use Rattle.language.specs.declared.values.Arg.{Arg}
 use Rattle.rv_machine.specs.declared.observation.Observation.{Observation}
 use Rattle.rv_machine.specs.declared.stops.Stop.{Stop}
-use Rattle.rv_machine.proofs.RunLaws.{Runs-determined}
+use Rattle.listing.proofs.Below.{Runs-determined}
 use Rattle.streams.specs.Streams.{Writes, WritesPart}
 use Rattle.listing.specs.declared.fault.LeakFault.{LeakFault}
 use Rattle.listing.specs.declared.fault.LeakFault.TheVariants.{Argument, Memory, Write}

@@ -1,3 +1,4 @@
+mod Below
 pub mod CodeLines
 pub mod LeakLaws
 pub mod LeakedLemmas

@@ -1,3 +1,4 @@
+mod Below
 pub mod PlacedLaws
 pub mod StraightRuns
 pub mod Pieces

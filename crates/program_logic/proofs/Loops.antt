@@ -11,7 +11,7 @@ use Rattle.program_logic.specs.Placed.{Placed}
 use Rattle.rv_code.specs.declared.instructions.Instr.{Instr}
 use Rattle.rv_code.specs.declared.instructions.Instr.TheVariants as instr
 use Rattle.rv_code.specs.declared.operations.BranchTest.TheVariants.{Bne}
-use Rattle.rv_machine.proofs.TurnLaws.{moved_to-pc, moved_to-regs, moved_to-bytes, branch_leads, branch_passes}
+use Rattle.program_logic.proofs.Below.{moved_to-pc, moved_to-regs, moved_to-bytes, branch_leads, branch_passes}
 use Rattle.rv_machine.specs.Effects.{branch_target, sign_extended, sum_of}
 use Rattle.rv_machine.specs.Machine.{State, moved_to, next}
 use Rattle.rv_machine.specs.Registers.{register}

@@ -4,7 +4,7 @@ use Rattle.std.proofs.lemmas.List.Elements.{All-append}
 use Rattle.program_logic.proofs.PlacedLaws.{Placed-left, Placed-right}
 use Rattle.program_logic.specs.Pieces.{Setting, Before, After, Steps, none, Leak, always, both, Ends, Runs, Then}
 use Rattle.rv_code.specs.declared.instructions.Instr.{Instr}
-use Rattle.rv_machine.proofs.RunLaws.{Leads-append}
+use Rattle.program_logic.proofs.Below.{Leads-append}
 use Rattle.rv_machine.specs.Leakage.{Leads, stays}
 use Rattle.rv_machine.specs.Machine.{State}
 use Rattle.rv_machine.specs.declared.observation.Event.{Event}

@@ -11,8 +11,7 @@ use Rattle.rv_code.specs.declared.instructions.Instr.TheVariants.{Upper, Immedia
 use Rattle.rv_code.specs.declared.operations.LoadOperation.{LoadOperation}
 use Rattle.rv_code.specs.declared.operations.StoreOperation.{StoreOperation}
 use Rattle.rv_code.specs.declared.operations.UpperOperation.TheVariants.{Lui}
-use Rattle.rv_machine.proofs.RunLaws.{Leads-append}
-use Rattle.rv_machine.proofs.TurnLaws.{upper_leads, immediate_leads, shift_leads, register_leads, load_leads, store_leads}
+use Rattle.program_logic.proofs.Below.{Leads-append, upper_leads, immediate_leads, shift_leads, register_leads, load_leads, store_leads}
 use Rattle.rv_machine.specs.Bytes.{number_at, with_number}
 use Rattle.rv_machine.specs.Effects.{load_size, loaded_value, store_size, address_of}
 use Rattle.rv_machine.specs.Leakage.{Leads, stays}

@@ -9,7 +9,7 @@ use Rattle.program_logic.specs.StraightCode.{Contents, contents_of, state_at, is
 use Rattle.rv_code.specs.declared.instructions.Instr.{Instr}
 use Rattle.rv_code.specs.declared.instructions.Instr.TheVariants.{Upper, Immediate, Shift, Register, Load, Store}
 use Rattle.rv_code.specs.declared.operations.UpperOperation.TheVariants.{Lui}
-use Rattle.rv_machine.proofs.ByteLaws.{is_some-with_number}
+use Rattle.program_logic.proofs.Below.{is_some-with_number}
 use Rattle.rv_machine.specs.Effects.{store_size}
 use Rattle.rv_machine.specs.Leakage.{Leads}
 use Rattle.rv_machine.specs.Machine.{State}

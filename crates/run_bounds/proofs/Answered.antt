@@ -6,12 +6,10 @@ use Rattle.arguments.specs.Within.{AreWithin}
 use Rattle.inline.specs.FlatMeaning.{outcome_of}
 use Rattle.inline.specs.FlatTyping.{IsTypedProgram}
 use Rattle.inline.specs.Numbering.{flattened, param_of}
-use Rattle.inline.proofs.FlatMeanings.{flat_keeps_meaning}
+use Rattle.run_bounds.proofs.Below.{flat_keeps_meaning, safe_runs_are_within_work, accepted_is_safe, safe_runs_meet_no_fault, program_opens, worked-out}
 use Rattle.intervals.specs.Limits.{most_work}
 use Rattle.intervals.specs.Ranges.{range_violations, turns_of}
 use Rattle.intervals.specs.Work.{work_of}
-use Rattle.intervals.proofs.EvaluatedLemmas.{safe_runs_are_within_work}
-use Rattle.intervals.proofs.Safe.{accepted_is_safe, safe_runs_meet_no_fault}
 use Rattle.language.specs.Limits.{most_bodies}
 use Rattle.language.specs.declared.values.Arg.{Arg}
 use Rattle.language.specs.Evaluation.{Run, program_run}
@@ -23,8 +21,6 @@ use Rattle.language.specs.Tree.{ProcedureTree, ProgramTree}
 use Rattle.language.specs.Typing.{violations}
 use Rattle.source_eval.specs.Answer.{ending_answer, run_answer}
 use Rattle.source_eval.specs.declared.fault.EvalFault.TheVariants.{Budget}
-use Rattle.source_eval.proofs.Opening.{program_opens}
-use Rattle.source_eval.proofs.WorkedOut.{worked-out}
 use Rattle.word.specs.declared.profile.Profile.{Profile}
 use Rattle.run_bounds.proofs.Programs.{program_spends}
 

@@ -6,15 +6,13 @@ use Rattle.inline.specs.Flat as flat
 use Rattle.inline.specs.FlatMeaning.{Values, after, after_all}
 use Rattle.inline.specs.FlatSize.{term_nodes, value_nodes}
 use Rattle.inline.specs.Numbering.{Numbers, term, passed as passed_block, value_given, value_of}
-use Rattle.inline.proofs.CallSizes.{same_nodes}
-use Rattle.inline.proofs.Comes.{Comes, well, fails}
+use Rattle.run_bounds.proofs.Below.{same_nodes, Comes, well, fails, mismatch}
 use Rattle.intervals.specs.Evaluated.{evaluated_all}
 use Rattle.language.specs.Evaluation.{Run, tick, inside, andthen, continued, value, values, passed, return_run}
 use Rattle.language.specs.Meaning.{Ending, gives, faults, is_word, word_arguments}
 use Rattle.language.specs.Size.{nodes_in, nodes_in_all, nodes_passed}
 use Rattle.language.specs.State.{State}
 use Rattle.language.specs.Tree.{ExprTree, number, truth, name, prefix, binary, rotate, convert, select, element, ParameterTree, ReturnTree}
-use Rattle.source_eval.proofs.RunEnds.{mismatch}
 
 -- Parts.
 

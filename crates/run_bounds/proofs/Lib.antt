@@ -1,3 +1,4 @@
+mod Below
 pub mod Counts
 pub mod Spending
 pub mod Programs

@@ -6,10 +6,7 @@ use Rattle.inline.specs.FlatMeaning.{given}
 use Rattle.inline.specs.FlatSize.{value_nodes}
 use Rattle.inline.specs.FlatTyping.{parameter_types}
 use Rattle.inline.specs.Numbering.{param_of, callables, parameter_names, names_after_all, value_of, flattened, block, declared_in_all}
-use Rattle.inline.proofs.Called.{IsKept}
-use Rattle.inline.proofs.FlatMeanings.{begins, behaves}
-use Rattle.inline.proofs.Parameters.{shows_arguments, all_own, linked_parameters}
-use Rattle.inline.proofs.Procedures.{Stand, IsCallable, callable_parameters, callable_within, own_typing, variables_within}
+use Rattle.run_bounds.proofs.Below.{IsKept, begins, behaves, shows_arguments, all_own, linked_parameters, Stand, IsCallable, callable_parameters, callable_within, own_typing, variables_within}
 use Rattle.intervals.specs.Evaluated.{evaluated_all, evaluated_by}
 use Rattle.language.specs.declared.values.Arg.{Arg}
 use Rattle.language.specs.Evaluation.{inside, run_all, body_run, runnables, export_run, found_run, program_run}

@@ -9,18 +9,7 @@ use Rattle.inline.specs.FlatSize.{term_nodes, value_nodes}
 use Rattle.inline.specs.FlatTyping.{Types, counter_type}
 use Rattle.inline.specs.Numbering as numbering
 use Rattle.inline.specs.Numbering.{Numbers, Callable, callable, callables, single as single_block, begun as begun_names, passed as passed_block, passed_variables, number_of, size_of, term, block, naming, names_after, names_after_all, numbers_taken, numbers_taken_all, right, right_block, right_end, call_block, call_value, call_result, call_variables, value_given, value_of, dropped_block}
-use Rattle.inline.proofs.Begun.{Enters, enters, distinct_none}
-use Rattle.inline.proofs.Called.{Ready, ready_later, ready_declared, ready_after, Behaves}
-use Rattle.inline.proofs.CallEnds.{call_means, no_names}
-use Rattle.inline.proofs.CallSizes.{same_nodes, same_all}
-use Rattle.inline.proofs.FlatEnds.{same_end, same_ends}
-use Rattle.inline.proofs.Linked.{Linked, entry}
-use Rattle.inline.proofs.Lookup.{found-kept}
-use Rattle.inline.proofs.Parameters.{typed_with}
-use Rattle.inline.proofs.Passing.{passed_comes}
-use Rattle.inline.proofs.Procedures.{EachCallable, IsCallable, callable_after, callable_declared}
-use Rattle.inline.proofs.States.{shows_declared, shows_before, shows_kept, with_value-other}
-use Rattle.inline.proofs.Terms.{Shows, word_at, means}
+use Rattle.run_bounds.proofs.Below.{Enters, enters, distinct_none, Ready, ready_later, ready_declared, ready_after, Behaves, call_means, no_names, same_nodes, same_all, same_end, same_ends, Linked, entry, found-kept, typed_with, passed_comes, EachCallable, IsCallable, callable_after, callable_declared, shows_declared, shows_before, shows_kept, with_value-other, Shows, word_at, means, value-worked, passed-worked, statement-worked, block-worked}
 use Rattle.intervals.specs.Evaluated.{evaluated_all, evaluated_in_turns}
 use Rattle.language.specs.declared.signature.Kind.TheVariants.{Uint32}
 use Rattle.language.specs.declared.signature.Label.{Label}
@@ -39,7 +28,6 @@ use Rattle.language.specs.Typing.{with_parameters}
 use Rattle.language.specs.WellTyped as rules
 use Rattle.names.specs.Scope.{found}
 use Rattle.language.proofs.KnownLemmas.{known-named}
-use Rattle.source_eval.proofs.WorkedOut.{value-worked, passed-worked, statement-worked, block-worked}
 use Rattle.word.specs.declared.profile.Profile.{Profile}
 use Rattle.run_bounds.proofs.Counts.{then_within, tick_within, inside_within, reached, value_spends, values_spend, passed_spends, given_nodes, evaluated_chain, passed_evaluated}
 

@@ -19,3 +19,4 @@ pub mod SystemLaws
 pub mod TotalLaws
 pub mod TurnLaws
 pub mod Turns
+pub mod Face

@@ -2,7 +2,7 @@
 use Rattle.std.proofs.Common.{◌≡◌, ℕ, List, [], ◌∷◌, ◌++◌, Some}
 use Rattle.language.specs.Meaning.{named}
 use Rattle.language.specs.Tree.{RightTree, called, computed, StatementTree, declaration, array, assignment, element_assignment, call, conditional, loop, BlockTree, nothing, first, ProcedureTree}
-use Rattle.language.proofs.KnownLemmas.{Found}
+use Rattle.source_eval.proofs.Below.{Found}
 
 -- one of these procedures has the name
 abbrev pub IsNamed : List ProcedureTree → List ℕ → Type 0

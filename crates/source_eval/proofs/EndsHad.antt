@@ -9,7 +9,7 @@ use Rattle.language.specs.Meaning.{gives, element_held, named, Evaluates, by_ope
 use Rattle.language.specs.Operators.{truth_of}
 use Rattle.language.specs.State.{State, Word}
 use Rattle.language.specs.Tree.{ExprTree, element, CallTree, RightTree, called, computed, StatementTree, declaration, array, assignment, element_assignment, call, conditional, loop, BlockTree, nothing, first, ReturnTree, ProcedureTree, ProgramTree}
-use Rattle.language.proofs.KnownLemmas.{Found, known-named}
+use Rattle.source_eval.proofs.Below.{Found, known-named}
 use Rattle.source_eval.proofs.EarlierCalls.{IsNamed, RightKnown, StatementKnown, BlockKnown, CallEarlier}
 use Rattle.source_eval.proofs.RunEnds.{then-either}
 use Rattle.source_eval.proofs.ValuesHad.{value-had, values-had, passed-had}

@@ -1,3 +1,4 @@
+mod Below
 pub mod Rows
 pub mod VariableLemmas
 pub mod RunLemmas

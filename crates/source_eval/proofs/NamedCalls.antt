@@ -16,7 +16,7 @@ use Rattle.language.specs.Tree.{CallTree, RightTree, StatementTree, declaration,
 use Rattle.language.specs.Types.{Scope, found, declared, callee}
 use Rattle.language.specs.Typing.{assigns_public, scope_after, parameter_as, with_parameters, with_procedure, export_place, exports}
 use Rattle.language.specs.WellTyped.{IsCall, of_procedure, Gives, of_call, of_value, IsWellTyped, declares, declares_array, assigns, assigns_element, calls, chooses, repeats, AreWellTyped, no_statement, one_more, AreProcedures, no_procedure, one_procedure, IsTypedProgram}
-use Rattle.language.proofs.KnownLemmas.{Found}
+use Rattle.source_eval.proofs.Below.{Found}
 use Rattle.source_eval.proofs.EarlierCalls.{IsNamed, RightKnown, StatementKnown, BlockKnown, CallEarlier}
 
 -- there is a value

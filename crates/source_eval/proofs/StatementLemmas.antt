@@ -18,8 +18,7 @@ use Rattle.language.specs.Results.{Results}
 use Rattle.language.specs.State.{State, Word}
 use Rattle.language.specs.Tree.{CallTree, ExprTree, BlockTree, block_tree, call_tree, expr_tree, parameter_tree, procedure_tree, statement_tree}
 use Rattle.source_eval.specs.Metering.{Ended, Stopped, known_of}
-use Rattle.language.proofs.BlockLemmas.{conditional_tree, loop_tree}
-use Rattle.language.proofs.KnownLemmas.{known-named}
+use Rattle.source_eval.proofs.Below.{conditional_tree, loop_tree, known-named}
 use Rattle.source_eval.specs.declared.fault.EvalFault.{EvalFault}
 use Rattle.source_eval.specs.declared.fault.EvalFault.TheVariants.{Argument, NoMeaning, Budget, Memory}
 use Rattle.source_eval.proofs.RunLemmas.{Leads, then_ends, then_stops, stops_then, tick_ends, tick_stops, roomy_ends, roomy_stops, passed_open, value_opens, turns_more, turns_stop}

@@ -7,7 +7,7 @@ use Rattle.language.specs.Meaning.{Ending, gives, faults, operands, applied, nam
 use Rattle.language.specs.Results.{Results}
 use Rattle.language.specs.State.{State, Word}
 use Rattle.language.specs.Tree.{ExprTree, element, CallTree, RightTree, called, computed, StatementTree, declaration, array, assignment, element_assignment, call, conditional, loop, BlockTree, nothing, first, ProcedureTree, ProgramTree}
-use Rattle.language.proofs.KnownLemmas.{known-named}
+use Rattle.source_eval.proofs.Below.{known-named}
 use Rattle.source_eval.proofs.RunEnds.{then-gives, then-faults, first-faults, first-gives, value-by-operands}
 
 mutual

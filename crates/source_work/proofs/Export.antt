@@ -5,12 +5,9 @@ use Rattle.std.specs.List.{AllByRecursion}
 use Rattle.inline.specs.Flat.{declaration_of}
 use Rattle.inline.specs.FlatTyping.{parameter_types}
 use Rattle.inline.specs.Numbering.{Callables, block, callables, declared_in_all, flattened, param_of, return_names}
-use Rattle.inline.proofs.CallSizes.{same_result}
-use Rattle.inline.proofs.FlatPrograms.{flat_is_typed}
-use Rattle.inline.proofs.Procedures.{own_typing}
+use Rattle.source_work.proofs.Below.{same_result, flat_is_typed, own_typing, enough_all}
 use Rattle.intervals.specs.Ranges.{bound_of, first_bounds, turns_of}
 use Rattle.intervals.specs.Work.{work_of}
-use Rattle.intervals.proofs.Counting.{enough_all}
 use Rattle.language.specs.declared.signature.Label.TheVariants.{Public}
 use Rattle.language.specs.Grammatical.{IsGrammatical}
 use Rattle.language.specs.Meaning.{exported}

@@ -1,3 +1,4 @@
+mod Below
 mod Walked
 mod Sums
 pub mod Export

@@ -8,8 +8,7 @@ use Rattle.inline.specs.Flat.{TermTree, word_as, counter_type}
 use Rattle.inline.specs.Flat as flat
 use Rattle.inline.specs.FlatSize.{term_nodes, value_nodes}
 use Rattle.inline.specs.Numbering.{Numbers, Callables, callable, callables, passed, call_block, call_variables, call_result, call_value, right_block, right_end, right, value_given, value_of, dropped_block, names_after_all, number_of, size_of, statement, block, single, term}
-use Rattle.inline.proofs.CallSizes.{same_nodes, same_all, same_result, GoTogether, value_there}
-use Rattle.inline.proofs.Procedures.{Stand, IsAt, IsWithin, earlier_within, callable_after, callable_declared, callable_parameters}
+use Rattle.source_work.proofs.Below.{same_nodes, same_all, same_result, GoTogether, value_there, Stand, IsAt, IsWithin, earlier_within, callable_after, callable_declared, callable_parameters}
 use Rattle.intervals.specs.Intervals.{Bounds, interval, with_bound}
 use Rattle.intervals.specs.Ranges.{bounds_after, bounds_after_all}
 use Rattle.language.proofs.KnownLemmas.{known-named}

@@ -7,7 +7,7 @@ use Rattle.intervals.specs.Intervals.{Bounds, interval}
 use Rattle.intervals.specs.Narrowing.{where_true, where_false}
 use Rattle.intervals.specs.Ranges.{bounds_after, bounds_after_all, in_loop, most_turns}
 use Rattle.intervals.specs.Work.{tree_work, body_work}
-use Rattle.intervals.proofs.LooseStatements.{AreCounted, AllCounted}
+use Rattle.source_work.proofs.Below.{AreCounted, AllCounted}
 
 module _ (declared : List FlatVariable) where
   abbrev mutual

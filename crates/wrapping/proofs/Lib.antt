@@ -1,3 +1,4 @@
+mod Below
 pub mod WordLemmas
 pub mod FieldLemmas
 pub mod WrapLaws

@@ -1,8 +1,7 @@
 -- Of a text, code and what is asked besides there is one answer.
 use Rattle.std.proofs.Common.{◌≡◌, ℕ, List, length, map, Option, None, Some, sym, ap, subst, ◌∙◌}
 use Rattle.std.proofs.lemmas.Option.{same_Some}
-use Rattle.hepurita.proofs.GrammaticalExports.{grammatical_export}
-use Rattle.hepurita.proofs.JudgementLemmas.{one_export}
+use Rattle.wrapping.proofs.Below.{grammatical_export, one_export}
 use Rattle.hepurita.specs.Built.{Judges, accepts, fine, readable}
 use Rattle.image.proofs.Spellings.{one_by_fields}
 use Rattle.image.specs.Reading.{Spells}

@@ -2,7 +2,7 @@ use Rattle.std.proofs.Common.{ap, subst}
 use Rattle.std.proofs.lemmas.Result.{err_from_is_err_and, IfOk-weaker, IfErr-weaker}
 use Rattle.language.specs.Tree.{ProgramTree, program_tree}
 use Rattle.word.specs.declared.profile.Profile.{Profile}
-use Rattle.hepurita.proofs.BuiltLemmas.{IsAllowedFlat, IsLargeFor, refusal_of_types, refusal_of_export, small_flat}
+use Rattle.source_statistics.proofs.Below.{IsAllowedFlat, IsLargeFor, refusal_of_types, refusal_of_export, small_flat}
 use Rattle.source_statistics.proofs.flat_of.Goals as goal
 
 pub returns-in_err-checked-clause-refused : goal.returns-in_err-checked-clause-refused

@@ -10,8 +10,7 @@ use Rattle.intervals.specs.Work.{ranged, work_violations}
 use Rattle.language.specs.Tree.{program_tree}
 use Rattle.hepurita.specs.Built.{fine, readable}
 use Rattle.hepurita.specs.Exact.{image_for}
-use Rattle.hepurita.proofs.BuiltLemmas.{refusal_of_text, refusal_of_program, refusal_of_ranges}
-use Rattle.hepurita.proofs.GrammaticalExports.{grammatical_export, same_violations}
+use Rattle.source_statistics.proofs.Below.{refusal_of_text, refusal_of_program, refusal_of_ranges, grammatical_export, same_violations}
 use Rattle.source_statistics.specs.SourceText.{costs_text}
 use Rattle.source_statistics.proofs.source_statistics.Goals as goal
 

@@ -1,7 +1,7 @@
 use Rattle.std.proofs.Common.{ℕ, ◌+◌, Bool, false, sym, ap, ◌∙◌, refl, arith}
 use Rattle.certified_runs.specs.Known.{with_bytes_known}
 use Rattle.certified_runs.specs.Parts.{known_bytes}
-use Rattle.hepurita.proofs.ElementLemmas.{number_there}
+use Rattle.certificates.proofs.Below.{number_there}
 use Rattle.certificates.proofs.LoadedLemmas.{none_unknown, one_more_unknown}
 use Rattle.certificates.proofs.loading.forget_bytes.Goals as goal
 

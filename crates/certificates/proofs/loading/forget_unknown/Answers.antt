@@ -1,7 +1,7 @@
 use Rattle.std.proofs.Common.{◌≡◌, ℕ, ◌+◌, ◌<◌, Bool, false, length, drop, slice_index_or, Option, is_some, ap, sym, ◌∙◌, arith}
 use Rattle.certified_runs.specs.Known.{with_bytes_known}
 use Rattle.certified_runs.specs.Parts.{known_bytes}
-use Rattle.hepurita.proofs.LoadLemmas.{no_slot}
+use Rattle.certificates.proofs.Below.{no_slot}
 use Rattle.language.specs.declared.values.Arg.{Arg}
 use Rattle.certificates.specs.KnownImage.{known_with_one, known_with_given}
 use Rattle.certificates.proofs.LoadedLemmas.{known_with_given-next, forgotten, left_known}

@@ -3,7 +3,7 @@ use Rattle.std.proofs.lemmas.List.Elements.{All-from_recursion}
 use Rattle.certified_runs.specs.Parts.{known_registers, known_bytes}
 use Rattle.hepurita.specs.Bases.{code_base, frame_base}
 use Rattle.hepurita.specs.Frames.{HoldsSlot}
-use Rattle.hepurita.proofs.LoadLemmas.{slots_hold}
+use Rattle.certificates.proofs.Below.{slots_hold}
 use Rattle.image_fields.specs.Fields.{Fields, IsImage}
 use Rattle.image_fields.specs.declared.slot.Slot.{Slot}
 use Rattle.rv_machine.specs.Bytes.{ByteMap, zeros}

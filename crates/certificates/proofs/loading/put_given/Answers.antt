@@ -1,8 +1,6 @@
 use Rattle.std.proofs.Common.{◌≡◌, ◌+◌, ◌<◌, length, drop, slice_index_or, Option, Some, is_some, ap, sym, ◌∙◌, arith}
-use Rattle.arguments.proofs.FaultLemmas.{fault_from-next}
+use Rattle.certificates.proofs.Below.{fault_from-next, HoldsSlot-same, no_slot}
 use Rattle.arguments.specs.Within.{HasShape}
-use Rattle.hepurita.proofs.DataLemmas.{HoldsSlot-same}
-use Rattle.hepurita.proofs.LoadLemmas.{no_slot}
 use Rattle.language.specs.declared.values.Arg.{Arg}
 use Rattle.std.proofs.lemmas.List.{length-map}
 use Rattle.image_fields.specs.declared.slot.Slot.{Slot}

@@ -1,6 +1,6 @@
 use Rattle.std.proofs.Common.{Some, sym, ap, ◌∙◌, arith}
 use Rattle.certificates.specs.Texts.{rule_of_given_text}
-use Rattle.arguments.proofs.FaultLemmas.{fault_from-broken, fault_from-passed, fault_from-end, fault_by-same}
+use Rattle.certificates.proofs.Below.{fault_from-broken, fault_from-passed, fault_from-end, fault_by-same}
 use Rattle.certificates.proofs.reading.first_fault.Goals as goal
 
 pub returns-in-Some : goal.returns-in-Some

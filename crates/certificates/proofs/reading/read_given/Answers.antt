@@ -1,8 +1,7 @@
 use Rattle.std.proofs.Common.{◌≡◌, ◌<◌, length, map, take, None, Ok, Err, refl, ap, ◌∙◌, sym, arith, rules}
 use Rattle.std.proofs.Math.Seq.{take-length}
 use Rattle.std.specs.Option.{option_map}
-use Rattle.arguments.proofs.FaultLemmas.{fault_from-left, fault_from-next, fault_by-None}
-use Rattle.arguments.proofs.ReadLemmas.{map-more, fault_by-map}
+use Rattle.certificates.proofs.Below.{fault_from-left, fault_from-next, fault_by-None, map-more, fault_by-map}
 use Rattle.arguments.specs.Within.{words_of}
 use Rattle.hepurita.specs.declared.fault.RunFault.TheVariants.{Memory}
 use Rattle.certificates.specs.Texts.{numbers_given, rule_of_given_text, fault_of_given_texts}

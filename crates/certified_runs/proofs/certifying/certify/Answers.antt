@@ -1,6 +1,6 @@
 -- A turn more, or the last one.
 use Rattle.std.proofs.Common.{◌≡◌, ◌+◌, ◌-◌, ◌≤◌, suc, sym, subst, ◌∙◌, arith}
-use Rattle.rv_machine.proofs.Pairs.{count-few}
+use Rattle.certified_runs.proofs.Below.{count-few}
 use Rattle.rv_machine.specs.Harts.{state_of}
 use Rattle.rv_machine.specs.Regions.{code_of}
 use Rattle.certified_runs.specs.Parts.{known_of}

@@ -3,7 +3,7 @@ use Rattle.std.proofs.lemmas.Result.{IfOk-weaker, IfErr-weaker, err_from_is_err_
 use Rattle.function_text.specs.Functions.{parts_of}
 use Rattle.function_text.specs.private.OfExport.{IsOfExport}
 use Rattle.function_text.proofs.FunctionLemmas.{export_in, built_export, made, fault_of}
-use Rattle.hepurita.proofs.BuiltLemmas.{refusal_of_text}
+use Rattle.function_text.proofs.Below.{refusal_of_text}
 use Rattle.language.specs.Tree.{procedure_tree, program_tree}
 use Rattle.function_text.proofs.function.function_of.Goals as goal
 

@@ -1,7 +1,7 @@
 use Rattle.std.proofs.Common.{List, ℕ, ◌++◌, codes, ap, ◌∙◌, map}
 use Rattle.std.proofs.lemmas.Result.{on_ok_weaker}
 use Rattle.std.specs.String.{string_bytes}
-use Rattle.listing.proofs.Pieces.{put-more, where_ok}
+use Rattle.function_text.proofs.Below.{put-more, where_ok}
 use Rattle.function_text.specs.Functions.{named}
 use Rattle.function_text.specs.HeaderText.{result_text, parameters_text}
 use Rattle.function_text.specs.declared.function.NamedParam.{NamedParam}

@@ -1,7 +1,7 @@
 use Rattle.std.proofs.Common.{List, ℕ, ◌++◌, codes, ap, ◌∙◌}
 use Rattle.std.proofs.lemmas.Result.{on_ok_weaker}
 use Rattle.std.specs.String.{string_bytes}
-use Rattle.listing.proofs.Pieces.{put-more, where_ok}
+use Rattle.function_text.proofs.Below.{put-more, where_ok}
 use Rattle.std.specs.Fmt.{decimal}
 use Rattle.linked_calls.specs.FunctionCode.{room_of}
 use Rattle.function_text.specs.Names.{stack_name}

@@ -1,7 +1,7 @@
 use Rattle.std.proofs.Common.{◌++◌, codes}
 use Rattle.std.proofs.lemmas.Result.{on_ok_weaker}
 use Rattle.std.specs.String.{string_bytes}
-use Rattle.listing.proofs.Pieces.{put-more, where_ok}
+use Rattle.function_text.proofs.Below.{put-more, where_ok}
 use Rattle.function_text.specs.AssemblerText.{eight_digits}
 use Rattle.function_text.proofs.lines.push_illegal.Goals as goal
 

@@ -4,7 +4,7 @@ use Rattle.std.proofs.lemmas.List.{length-map}
 use Rattle.arguments.specs.Within.{AreWithin}
 use Rattle.codegen.specs.Loaded.{params_of, with_arguments}
 use Rattle.hepurita.specs.Frames.{HoldsSlot}
-use Rattle.hepurita.proofs.LoadLemmas.{length-within}
+use Rattle.harts.proofs.Below.{length-within}
 use Rattle.image_fields.specs.declared.slot.Slot.{Slot}
 use Rattle.language.specs.declared.values.Arg.{Arg}
 use Rattle.rv_machine.specs.Bytes.{ByteMap}

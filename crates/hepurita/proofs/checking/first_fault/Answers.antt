@@ -1,5 +1,5 @@
 use Rattle.std.proofs.Common.{List, map, rules, ap₂, ◌∙◌}
-use Rattle.arguments.proofs.FaultLemmas.{None-from_fault_of}
+use Rattle.hepurita.proofs.Below.{None-from_fault_of}
 use Rattle.arguments.specs.Faults.{rule_of, fault_of}
 use Rattle.codegen.specs.Loaded.{params_of}
 use Rattle.image_fields.specs.declared.slot.Slot.{Slot}

@@ -1,7 +1,7 @@
 use Rattle.std.proofs.Common.{◌≡◌, ℕ, ◌+◌, ◌<◌, List, length, get_or, drop, map, Option, Some, None, sym, ap, ap₂, ◌∙◌, arith}
 use Rattle.std.proofs.lemmas.List.{length-map}
 use Rattle.std.proofs.Math.ListN.{get_or-map}
-use Rattle.arguments.proofs.FaultLemmas.{fault_from-broken, fault_from-passed, fault_by-same}
+use Rattle.hepurita.proofs.Below.{fault_from-broken, fault_from-passed, fault_by-same}
 use Rattle.arguments.specs.Faults.{fault_from}
 use Rattle.arguments.specs.declared.fault.ArgumentRule.{ArgumentRule}
 use Rattle.hepurita.proofs.LoadLemmas.{no_slot}

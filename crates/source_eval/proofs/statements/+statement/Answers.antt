@@ -4,7 +4,7 @@ use Rattle.language.specs.Evaluation.{run_all, runnable}
 use Rattle.language.specs.State.{State}
 use Rattle.language.specs.Meaning.{begun, counting}
 use Rattle.language.specs.Tree.{block_tree, call_tree, expr_tree, parameter_tree, procedure_tree}
-use Rattle.language.proofs.KnownLemmas.{known-none}
+use Rattle.source_eval.proofs.Below.{known-none}
 use Rattle.source_eval.specs.Metering.{known_of}
 use Rattle.source_eval.specs.Views.{held, word_of}
 use Rattle.source_eval.proofs.LoopLemmas.{all_statements, each_statement, passes, statement_halts}

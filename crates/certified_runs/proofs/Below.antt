@@ -1,0 +1,22 @@
+-- What these proofs take from the proofs of the crates below, in one place.
+pub use Rattle.rv_machine.proofs.Face.{
+  IsSameTurn,
+  Runs-determined,
+  Runs-more,
+  Turn-determined,
+  count-few,
+  entries_of-append,
+  goes_on≢stops,
+  is_some-with_number,
+  number_at-suc,
+  number_at-zero,
+  run_of_state,
+  turn_of_state,
+  turn_same,
+  turn_stops,
+  with_byte_other,
+  with_byte_same,
+  with_number-suc,
+  with_number_above,
+  with_number_below,
+}

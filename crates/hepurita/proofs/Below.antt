@@ -1,0 +1,25 @@
+-- What these proofs take from the proofs of the crates below, in one place.
+pub use Rattle.arguments.proofs.FaultLemmas.{None-from_fault_of, fault_by-same, fault_from-broken, fault_from-passed}
+pub use Rattle.grammar_laws.proofs.Existence.{answer_to}
+pub use Rattle.grammar_laws.proofs.HeadPlaces.{heads_in_place, one_place}
+pub use Rattle.grammar_laws.proofs.Light.{both, light_of, more, none}
+pub use Rattle.grammar_laws.proofs.ViolationPlaces.{AreAtLight, sizes_light, violations_light}
+pub use Rattle.inline.proofs.Face.{flat_is_typed, flat_keeps_meaning}
+pub use Rattle.intervals.proofs.Safe.{accepted_is_safe, safe_runs_meet_no_fault}
+pub use Rattle.labels.proofs.ExportLemmas.{Export, export_at, has_export}
+pub use Rattle.labels.proofs.SoonerLemmas.{first_of}
+pub use Rattle.rv_machine.proofs.Face.{
+  Halts-determined,
+  Ran-beginning,
+  Ran-determined,
+  Ran-halts,
+  Runs-determined,
+  Turn-determined,
+  differ-apart,
+  first-unique,
+  goes_on≢stops,
+  is_some-with_number,
+  number_at-suc,
+  number_at-zero,
+  turn_stops,
+}

@@ -1,0 +1,21 @@
+-- What these proofs take from the proofs of the crates below, in one place.
+pub use Rattle.inline.proofs.Face.{
+  bit_fits,
+  complement_fits,
+  either_fits,
+  element_fits,
+  fits_assigned,
+  fits_declared,
+  new_number,
+  number_fits,
+  one_held,
+  operated_fits,
+  parameters_fit,
+  prefix_fits,
+  some_bit,
+  type_kept,
+  types_kept,
+  with_type-other,
+  with_type-same,
+  wrapped_fits,
+}

@@ -1,0 +1,60 @@
+-- What the crates above take from these proofs, in one place.
+pub use Rattle.rv_machine.proofs.Alone.{alone, shown_the_same}
+pub use Rattle.rv_machine.proofs.ByteLaws.{
+  is_some-with_number,
+  number_at-suc,
+  number_at-with_number,
+  number_at-zero,
+  number_at_apart,
+  number_at_same,
+  with_byte_other,
+  with_byte_same,
+  with_number-suc,
+  with_number-zero,
+  with_number_above,
+  with_number_below,
+}
+pub use Rattle.rv_machine.proofs.EndingLaws.{jump_done}
+pub use Rattle.rv_machine.proofs.EntryLaws.{differ-apart, first-unique}
+pub use Rattle.rv_machine.proofs.Halting.{keeps_inside, shown_alone, stopped_alone}
+pub use Rattle.rv_machine.proofs.Locality.{IsSameTurn, turn_same}
+pub use Rattle.rv_machine.proofs.Pairs.{count-few}
+pub use Rattle.rv_machine.proofs.RunLaws.{
+  Halts-after,
+  Halts-determined,
+  Leads-append,
+  Leads-more,
+  Ran-beginning,
+  Ran-determined,
+  Ran-halts,
+  Runs-determined,
+  Turn-determined,
+  goes_on≢stops,
+}
+pub use Rattle.rv_machine.proofs.Shown.{entries_of-append}
+pub use Rattle.rv_machine.proofs.SystemLaws.{MemberTurn-determined}
+pub use Rattle.rv_machine.proofs.TotalLaws.{Runs-more, run_of_state, turn_of_state, turn_stops}
+pub use Rattle.rv_machine.proofs.TurnLaws.{
+  branch_leads,
+  branch_passes,
+  divide_leads,
+  ecall_halts,
+  immediate_leads,
+  jump_leads,
+  load_leads,
+  moved_to-bytes,
+  moved_to-pc,
+  moved_to-regs,
+  multiply_leads,
+  register_leads,
+  shift_leads,
+  store_leads,
+  turn_of,
+  upper_leads,
+  with_link-bytes,
+  with_link-pc,
+  with_link-regs,
+  with_value-bytes,
+  with_value-pc,
+  with_value-regs,
+}
