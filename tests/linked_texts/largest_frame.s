@@ -1,0 +1,127 @@
+# The function of an image with a frame of 65,536 bytes, written by hand: crates/function_examples has its words.
+    .option push
+    .option norvc
+    .option norelax
+    .section .text.largest_frame, "ax", @progbits
+    .p2align 2
+    .globl largest_frame
+    .type largest_frame, @function
+largest_frame:
+    # room above the frame, 80 bytes, and what stands there
+    addi x2, x2, -80
+    sw x8, 0(x2)
+    sw x9, 4(x2)
+    sw x18, 8(x2)
+    sw x19, 12(x2)
+    sw x20, 16(x2)
+    sw x21, 20(x2)
+    sw x22, 24(x2)
+    sw x23, 28(x2)
+    sw x24, 32(x2)
+    sw x25, 36(x2)
+    sw x26, 40(x2)
+    sw x27, 44(x2)
+    sw x10, 48(x2)
+    sw x11, 52(x2)
+    sw x12, 56(x2)
+    sw x13, 60(x2)
+    sw x14, 64(x2)
+    sw x15, 68(x2)
+    sw x16, 72(x2)
+    sw x17, 76(x2)
+    # 65,536 bytes below
+    lui x5, 16
+    addi x5, x5, 0
+    sub x5, x2, x5
+1:  addi x2, x2, -16
+    sw x0, 0(x2)
+    sw x0, 4(x2)
+    sw x0, 8(x2)
+    sw x0, 12(x2)
+    bne x2, x5, 1b
+    # argument 0, at 65,584, to 0
+    lui x5, 16
+    add x5, x5, x2
+    lw x5, 48(x5)
+    sw x5, 0(x2)
+    # argument 1, at 65,588: two words to 65,524
+    lui x5, 16
+    add x5, x5, x2
+    lw x5, 52(x5)
+    lui x6, 16
+    addi x6, x6, -12
+    add x6, x6, x2
+    addi x7, x0, 8
+    add x7, x7, x5
+1:  lw x28, 0(x5)
+    sw x28, 0(x6)
+    addi x5, x5, 4
+    addi x6, x6, 4
+    bne x5, x7, 1b
+    # the body: element 0 becomes the number, the first word of the frame what element 0 was, and the last word their sum
+    lw x5, 0(x2)
+    lui x6, 16
+    add x6, x6, x2
+    lw x7, -12(x6)
+    sw x5, -12(x6)
+    sw x7, 0(x2)
+    add x5, x5, x7
+    sw x5, -4(x6)
+    # the result, at 65,532
+    lui x10, 16
+    add x10, x10, x2
+    lw x10, -4(x10)
+    # the array back
+    lui x5, 16
+    add x5, x5, x2
+    lw x5, 52(x5)
+    lui x6, 16
+    addi x6, x6, -12
+    add x6, x6, x2
+    addi x7, x0, 8
+    add x7, x7, x5
+1:  lw x28, 0(x6)
+    sw x28, 0(x5)
+    addi x5, x5, 4
+    addi x6, x6, 4
+    bne x5, x7, 1b
+    # the frame's end, the caller's registers and stack
+    lui x5, 16
+    addi x5, x5, 0
+    add x5, x5, x2
+    lw x8, 0(x5)
+    lw x9, 4(x5)
+    lw x18, 8(x5)
+    lw x19, 12(x5)
+    lw x20, 16(x5)
+    lw x21, 20(x5)
+    lw x22, 24(x5)
+    lw x23, 28(x5)
+    lw x24, 32(x5)
+    lw x25, 36(x5)
+    lw x26, 40(x5)
+    lw x27, 44(x5)
+    addi x5, x5, 80
+1:  sw x0, 0(x2)
+    sw x0, 4(x2)
+    sw x0, 8(x2)
+    sw x0, 12(x2)
+    addi x2, x2, 16
+    bne x2, x5, 1b
+    addi x5, x0, 0
+    addi x6, x0, 0
+    addi x7, x0, 0
+    addi x11, x0, 0
+    addi x12, x0, 0
+    addi x13, x0, 0
+    addi x14, x0, 0
+    addi x15, x0, 0
+    addi x16, x0, 0
+    addi x17, x0, 0
+    addi x28, x0, 0
+    addi x29, x0, 0
+    addi x30, x0, 0
+    addi x31, x0, 0
+    jalr x0, 0(x1)
+    .size largest_frame, . - largest_frame
+    .option pop
