@@ -19,4 +19,5 @@ pub mod WrappedCode
 pub mod TwoFiles
 pub mod FunctionFiles
 pub mod FaultText
+pub mod Vectors
 pub mod Requests

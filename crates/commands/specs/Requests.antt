@@ -15,6 +15,7 @@ use Rattle.commands.specs.Pairs.{SaysPair, RefusesPair, SaysList}
 use Rattle.commands.specs.Runs.{SaysRun, RefusesRun}
 use Rattle.commands.specs.TwoFiles.{WritesTwo, FailsToWriteTwo}
 use Rattle.commands.specs.Unread.{IsOutOfMemory}
+use Rattle.commands.specs.Vectors.{SaysVerdicts, RefusesVectors}
 use Rattle.commands.specs.WrappedCode.{IsImageOfCode, RefusesCode}
 use Rattle.commands.specs.Written.{WritesFile, FailsToWrite}
 use Rattle.commands.specs.declared.fault.Fault.{Fault}
@@ -36,6 +37,7 @@ Answers (requests.Certify image arguments) files text status = SaysCertificate f
 Answers (requests.List image) files text status = SaysList files image.now text × (status ≡ 0)
 Answers (requests.Wrap file code image frame steps profile) files text status = (text ≡ []) × (status ≡ 0)
 Answers (requests.Harts file) files text status = SaysHarts files file.now text status
+Answers (requests.Vectors file vectors profile) files text status = SaysVerdicts profile files file.now vectors.now text status
 Answers (requests.Explain explanation) files text status = (text ≡ explanation_text explanation ++ codes "\n") × (status ≡ 0)
 
 -- what files hold once a request is done: an image or a function's texts that were written, and else what they held
@@ -54,6 +56,7 @@ Leaves (requests.List image) before after = after ≡ before
 Leaves (requests.Wrap file code image frame steps profile) before after =
     WritesFile image.now (IsImageOfCode (record { frame_bytes = frame; max_steps = steps; profile = profile }) before file.now code.now) before after
 Leaves (requests.Harts file) before after = after ≡ before
+Leaves (requests.Vectors file vectors profile) before after = after ≡ before
 Leaves (requests.Explain explanation) before after = after ≡ before
 
 -- why a request is not done, and what files hold then
@@ -75,6 +78,7 @@ Refuses (requests.Wrap file code image frame steps profile) before after fault =
     let asked : Asked = record { frame_bytes = frame; max_steps = steps; profile = profile } in
     FailsToWrite image.now (IsImageOfCode asked before file.now code.now) (RefusesCode asked before file.now code.now) before after fault
 Refuses (requests.Harts file) before after fault = after ≡ before
+Refuses (requests.Vectors file vectors profile) before after fault = RefusesVectors profile before file.now vectors.now fault × (after ≡ before)
 Refuses (requests.Explain explanation) before after fault = IsOutOfMemory fault × (after ≡ before)
 
 -- bytes went out, all of them, or where a call failed a beginning of them

@@ -16,6 +16,7 @@ mod outcome;
 mod performing;
 mod side_by_side;
 mod texts;
+mod trying;
 
 pub use command_line::Request;
 pub use fault::{Fault, FileFault};

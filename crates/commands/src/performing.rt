@@ -14,6 +14,7 @@ use crate::functions::write_function;
 use crate::images::{leak_image, list_image, pair_image, run_image};
 use crate::side_by_side::{run_side_by_side, whole_text};
 use crate::texts::{build_image, check_text, measure_text};
+use crate::trying::try_file;
 use command_line::{NoRequest, Request, parse};
 use language::Refusal;
 use std::alloc::Global;
@@ -195,6 +196,14 @@ fn answer<'a, F: Files, O: Sink>(
             Ok(DONE)
         }
         Request::Harts { file } => answer_harts(alloc, file, files, text, out),
+        Request::Vectors {
+            file,
+            vectors,
+            profile,
+        } => {
+            let (text, status) = try_file(alloc, file, vectors, profile, files)?;
+            print(out, text.as_bytes(), status)
+        }
         Request::Explain { explanation } => {
             let lines = format!(in alloc; "{explanation}\n")?;
             print(out, lines.as_bytes(), DONE)

@@ -1,0 +1,12 @@
+pub mod Below
+pub mod LineLemmas
+pub mod ReadLemmas
+pub mod WrittenLemmas
+pub mod OutcomeLemmas
+pub mod ObservedLemmas
+pub mod SubjectLemmas
+pub mod VerdictLemmas
+pub mod MeaningLemmas
+pub mod JudgedLemmas
+pub mod TriedLemmas
+pub mod ExactLemmas

@@ -1,0 +1,18 @@
+use Rattle.std.proofs.Common.{◌≡◌, true, if◌then◌else◌, Ok, map, IfOk, None, subst, sym, ap, ◌∙◌, lit<}
+use Rattle.std.specs.Option.{option_map}
+use Rattle.std.proofs.lemmas.Iterator.Consumers.{map_from_collect}
+use Rattle.std.proofs.lemmas.Iterator.Splits.{YieldsList-from_str_split}
+use Rattle.harts_file.specs.Lines.{fields_of, is_joined}
+use Rattle.vectors.specs.Lines.{vector_by, vector_of}
+use Rattle.vectors.specs.Views.{named}
+use Rattle.vectors.proofs.lines.vector_of.Goals as goal
+
+pub returns : goal.returns
+returns c =
+    let line = c.args.line.now in
+    let joined : is_joined line ≡ true = sym c.is_joined.ensures ∙ c.if-not-is_joined.false in
+    let fields : map (λ field. field.now) c.in_ok-fields.fields.items ≡ fields_of line =
+    map_from_collect {E = Unit {0}} (Ok c.in_ok-fields.fields) c.in_ok-fields.ensures.ran (YieldsList-from_str_split 32 line (lit< tt) c.split.ensures.text c.split.ensures.has_more c.split.ensures.pattern) in
+    let said : vector_of line ≡ vector_by (map (λ field. field.now) c.as_slice.result.now) =
+    ap (λ b. if b then vector_by (fields_of line) else None) joined ∙ ap vector_by (sym fields ∙ ap (map (λ field. field.now)) (sym c.as_slice.ensures.value)) in
+    subst (λ o. IfOk c.vector_by.result (λ vector. option_map named vector ≡ o)) (sym said) c.vector_by.ensures
