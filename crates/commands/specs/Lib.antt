@@ -9,6 +9,7 @@ pub mod Runs
 pub mod Leaks
 pub mod Pairs
 pub mod Certificates
+pub mod Pictures
 pub mod FileTexts
 pub mod Meanings
 pub mod HartsText

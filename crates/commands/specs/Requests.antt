@@ -13,6 +13,7 @@ use Rattle.commands.specs.Leaks.{SaysLeak, RefusesLeak, IsOutputFault}
 use Rattle.commands.specs.Meanings.{SaysMeaning, RefusesMeaning}
 use Rattle.commands.specs.Pairs.{SaysPair, RefusesPair, SaysList}
 use Rattle.commands.specs.Runs.{SaysRun, RefusesRun}
+use Rattle.commands.specs.Pictures.{SaysPicture, RefusesPicture}
 use Rattle.commands.specs.TwoFiles.{WritesTwo, FailsToWriteTwo}
 use Rattle.commands.specs.Unread.{IsOutOfMemory}
 use Rattle.commands.specs.WrappedCode.{IsImageOfCode, RefusesCode}
@@ -33,6 +34,7 @@ Answers (requests.Run image arguments) files text status = SaysRun files image.n
 Answers (requests.Leak image arguments) files text status = SaysLeak files image.now (map (λ word. word.now) arguments.now) status text
 Answers (requests.Pair image arguments) files text status = SaysPair files image.now (map (λ word. word.now) arguments.now) text × (status ≡ 0)
 Answers (requests.Certify image arguments) files text status = SaysCertificate files image.now (map (λ word. word.now) arguments.now) text status
+Answers (requests.Picture image arguments) files text status = SaysPicture files image.now (map (λ word. word.now) arguments.now) text × (status ≡ 0)
 Answers (requests.List image) files text status = SaysList files image.now text × (status ≡ 0)
 Answers (requests.Wrap file code image frame steps profile) files text status = (text ≡ []) × (status ≡ 0)
 Answers (requests.Harts file) files text status = SaysHarts files file.now text status
@@ -50,6 +52,7 @@ Leaves (requests.Run image arguments) before after = after ≡ before
 Leaves (requests.Leak image arguments) before after = after ≡ before
 Leaves (requests.Pair image arguments) before after = after ≡ before
 Leaves (requests.Certify image arguments) before after = after ≡ before
+Leaves (requests.Picture image arguments) before after = after ≡ before
 Leaves (requests.List image) before after = after ≡ before
 Leaves (requests.Wrap file code image frame steps profile) before after =
     WritesFile image.now (IsImageOfCode (record { frame_bytes = frame; max_steps = steps; profile = profile }) before file.now code.now) before after
@@ -70,6 +73,7 @@ Refuses (requests.Leak image arguments) before after fault = RefusesLeak before 
 Refuses (requests.Pair image arguments) before after fault = RefusesPair before image.now (map (λ word. word.now) arguments.now) fault × (after ≡ before)
 Refuses (requests.Certify image arguments) before after fault =
     RefusesCertificate before image.now (map (λ word. word.now) arguments.now) fault × (after ≡ before)
+Refuses (requests.Picture image arguments) before after fault = RefusesPicture before image.now (map (λ word. word.now) arguments.now) fault × (after ≡ before)
 Refuses (requests.List image) before after fault = NoImage before image.now fault × (after ≡ before)
 Refuses (requests.Wrap file code image frame steps profile) before after fault =
     let asked : Asked = record { frame_bytes = frame; max_steps = steps; profile = profile } in

@@ -14,6 +14,7 @@ mod functions;
 mod images;
 mod outcome;
 mod performing;
+mod picturing;
 mod side_by_side;
 mod texts;
 

@@ -12,6 +12,7 @@ use crate::files::Files;
 use crate::foreign_code::wrap_code;
 use crate::functions::write_function;
 use crate::images::{leak_image, list_image, pair_image, run_image};
+use crate::picturing::picture_image;
 use crate::side_by_side::{run_side_by_side, whole_text};
 use crate::texts::{build_image, check_text, measure_text};
 use command_line::{NoRequest, Request, parse};
@@ -173,6 +174,10 @@ fn answer<'a, F: Files, O: Sink>(
         Request::Certify { image, arguments } => {
             let (text, status) = certify_image(alloc, image, arguments, files)?;
             print(out, text.as_slice(), status)
+        }
+        Request::Picture { image, arguments } => {
+            let page = picture_image(alloc, image, arguments, files)?;
+            print(out, page.as_slice(), DONE)
         }
         Request::List { image } => {
             let lines = list_image(alloc, image, files)?;

@@ -1,0 +1,4 @@
+pub mod Constants
+pub mod Grid
+pub mod Page
+pub mod Pictured
