@@ -153,12 +153,17 @@ fn answer<'a, F: Files, O: Sink>(
             assembler,
             header,
             profile,
+            explain,
         } => {
-            write_function(alloc, file, assembler, header, profile, files)?;
+            write_function(alloc, file, assembler, header, profile, explain, files)?;
             Ok(DONE)
         }
-        Request::Eval { file, arguments } => {
-            let text = evaluate_text(alloc, file, arguments, files)?;
+        Request::Eval {
+            file,
+            arguments,
+            explain,
+        } => {
+            let text = evaluate_text(alloc, file, arguments, explain, files)?;
             print(out, text.as_bytes(), DONE)
         }
         Request::Run { image, arguments } => {

@@ -75,7 +75,7 @@ pub fn write_file<'a, F: Files>(path: &'a str, bytes: &[u8], files: &mut F) -> R
 }
 
 /// The fault of a refused source, with the lines that explain it where they are asked for.
-fn refused(alloc: Global, source: &str, refusal: Refusal, explain: bool) -> Fault<'static>
+pub fn refused(alloc: Global, source: &str, refusal: Refusal, explain: bool) -> Fault<'static>
     ensures { Tells explain source.now refusal result }
 {
     if !explain {
