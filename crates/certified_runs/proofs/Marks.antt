@@ -11,7 +11,7 @@ use Rattle.rv_machine.specs.Sizes.{byte_count}
 use Rattle.rv_machine.proofs.ByteLaws.{number_at-zero, number_at-suc, with_number-suc, with_byte_same, with_byte_other, with_number_below, with_number_above, is_some-with_number}
 use Rattle.certified_runs.specs.Known.{knows_bytes, with_register_known, with_bytes_known}
 use Rattle.certified_runs.specs.Parts.{known_registers, all_registers, is_known_mark, known_bytes}
-use Rattle.certified_runs.specs.private.Changes.{mark_of}
+use Rattle.certified_runs.specs.private.Marks.{mark_of}
 use Rattle.certified_runs.specs.private.Turned.{HaveOneExtent}
 
 -- Registers.

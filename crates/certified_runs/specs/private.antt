@@ -1,2 +1,2 @@
-pub mod Changes
+pub mod Marks
 pub mod Turned

@@ -5,7 +5,7 @@ ghost use Rattle.rv_machine.specs.Bytes.{number_at};
 ghost use Rattle.rv_machine.specs.Sizes.{byte_count};
 ghost use Rattle.certified_runs.specs.Known.{knows, knows_both, knows_bytes, with_register_known, with_bytes_known};
 ghost use Rattle.certified_runs.specs.Parts.{known_registers, all_registers, known_bytes};
-ghost use Rattle.certified_runs.specs.private.Changes.{mark_of};
+ghost use Rattle.certified_runs.specs.private.Marks.{mark_of};
 
 use rv_code::Reg;
 use rv_machine::{Memory, Size};
@@ -48,12 +48,16 @@ impl<M: Memory> KnownParts<M> {
         self.knows(r1) && self.knows(r2)
     }
 
-    // Whether each of so many bytes from this address on is known.
+    // Whether each of so many bytes from this address on is known. For each size there is code of its own.
     #[inline(always)]
     pub(crate) fn knows_bytes(&self, a: u32, n: Size) -> bool
         ensures { result ≡ knows_bytes (known_bytes (M.bytes self.now.marks)) (byte_count n) a }
     {
-        self.marks.load(a, n) == Some(0)
+        match n {
+            Size::Byte => self.marks.load(a, Size::Byte) == Some(0),
+            Size::Half => self.marks.load(a, Size::Half) == Some(0),
+            Size::Word => self.marks.load(a, Size::Word) == Some(0),
+        }
     }
 
     // Makes a register known or unknown.
@@ -67,7 +71,7 @@ impl<M: Memory> KnownParts<M> {
     }
 
     /// Makes so many bytes from this address on known or unknown; answers false, and changes
-    /// nothing, where one of them is no data.
+    /// nothing, where one of them is no data. For each size there is code of its own.
     #[inline(always)]
     pub fn set_bytes(&mut self, a: u32, n: Size, known: bool) -> bool
         ensures answer { result ≡ is_some (number_at (M.bytes self.old.marks) (byte_count n) a) }
@@ -77,7 +81,12 @@ impl<M: Memory> KnownParts<M> {
         ensures extent { (x : ℕ) → is_some (M.bytes self.new.marks x) ≡ is_some (M.bytes self.old.marks x) }
         ensures registers { self.new.registers ≡ self.old.registers }
     {
-        self.marks.store(a, n, mark_of(known))
+        let mark = mark_of(known);
+        match n {
+            Size::Byte => self.marks.store(a, Size::Byte, mark),
+            Size::Half => self.marks.store(a, Size::Half, mark),
+            Size::Word => self.marks.store(a, Size::Word, mark),
+        }
     }
 }
 

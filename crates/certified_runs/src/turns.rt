@@ -1,19 +1,19 @@
 // One turn of what is known: it is asked what decides it, and then made by the machine.
 
-ghost use Rattle.std.specs.Prelude.{◌≡◌, [], None, IfSome, length};
-ghost use Rattle.rv_machine.specs.Bytes.{ByteMap};
+ghost use Rattle.std.specs.Prelude.{◌≡◌, [], List, length};
+ghost use Rattle.rv_code.specs.declared.instructions.Instr.{Instr};
+ghost use Rattle.rv_machine.specs.declared.observation.Observation.{Observation};
 ghost use Rattle.rv_machine.specs.Entries.{entries_of};
-ghost use Rattle.rv_machine.specs.Harts.{state_of};
+ghost use Rattle.rv_machine.specs.Harts.{pc_of, state_of};
 ghost use Rattle.rv_machine.specs.Leakage.{followed_by};
+ghost use Rattle.rv_machine.specs.Machine.{IsAt, Turn, stops};
 ghost use Rattle.rv_machine.specs.Regions.{code_of};
-ghost use Rattle.certified_runs.specs.Certified.{KnownTurn, KnownEnding};
-ghost use Rattle.certified_runs.specs.Parts.{known_registers, known_bytes, known_of};
-ghost use Rattle.certified_runs.specs.private.Changes.{registers_with, bytes_with, IsPossible};
-ghost use Rattle.certified_runs.specs.private.Turned.{HaveOneExtent, IsDecided, HasTurned};
+ghost use Rattle.certified_runs.specs.Parts.{known_of};
+ghost use Rattle.certified_runs.specs.private.Turned.{HaveOneExtent, HasTurned, event_shown};
 
-use crate::changes::{Change, change_of, decides};
+use crate::changes::{change, decides};
 use crate::known_parts::KnownParts;
-use rv_machine::{CodeRegion, Hart, Memory, Observation, Stop, entry_count, step_unrecorded};
+use rv_machine::{CodeRegion, Event, Hart, Memory, Observation, Stop, entry_count, step_unrecorded};
 
 /// How a turn of what is known ends.
 #[derive(Clone, Copy, Debug, PartialEq, Eq)]
@@ -26,43 +26,6 @@ pub(crate) enum TurnEnd {
     Depends,
 }
 
-// What the turn of the instruction at the program counter, if there is one, changes in what is
-// known. `None` where the turn may depend on what is unknown.
-#[inline(always)]
-fn outlook<M: Memory>(code: &CodeRegion, hart: &Hart, known: &KnownParts<M>) -> Option<Change>
-    ensures decided { IfSome result (λ change. (bytes : ByteMap)
-        → IsDecided (code_of code.now)
-        (known_of (state_of hart.now bytes) known.now.registers (M.bytes known.now.marks)) change) }
-    ensures depends { result ≡ None → (bytes : ByteMap)
-        → KnownTurn (code_of code.now)
-        (known_of (state_of hart.now bytes) known.now.registers (M.bytes known.now.marks)) KnownEnding.depends }
-{
-    match code.instruction_at(hart.pc()) {
-        Some(instr) if decides(code.profile(), instr, known) => {
-            Some(change_of(instr, hart, known))
-        }
-        Some(_) => None,
-        None => Some(Change::Nothing),
-    }
-}
-
-// Makes a change in what is known.
-#[inline(always)]
-fn make<M: Memory>(known: &mut KnownParts<M>, change: Change)
-    requires { IsPossible (M.bytes known.old.marks) change }
-    ensures registers { known_registers known.new.registers ≡ registers_with change (known_registers known.old.registers) }
-    ensures bytes { known_bytes (M.bytes known.new.marks) ≡ bytes_with change (known_bytes (M.bytes known.old.marks)) }
-    ensures extent { HaveOneExtent (M.bytes known.new.marks) (M.bytes known.old.marks) }
-{
-    match change {
-        Change::Register(rd, is_known) => known.set_register(rd, is_known),
-        Change::Bytes(a, n, are_known) => {
-            known.set_bytes(a, n, are_known);
-        }
-        Change::Nothing => {}
-    }
-}
-
 // How many entries a turn shows.
 #[inline(always)]
 fn entries_in(seen: Option<Observation>) -> u64
@@ -71,6 +34,35 @@ fn entries_in(seen: Option<Observation>) -> u64
     match seen {
         Some(observation) => entry_count(&observation),
         None => 0,
+    }
+}
+
+// What a turn shows besides its program counter.
+#[inline(always)]
+fn event_in(seen: Option<Observation>) -> Option<Event>
+    ensures { result ≡ event_shown seen }
+{
+    match seen {
+        Some(observation) => observation.event,
+        None => None,
+    }
+}
+
+// Makes the turn where no instruction stands at the program counter: it stops. It is apart, so that the
+// other turns need not ask again whether one does.
+#[cold]
+#[inline(never)]
+fn halt<M: Memory>(code: &CodeRegion, hart: &mut Hart, memory: &mut M) -> (u64, Stop)
+    requires nowhere { (i : Instr) → ¬ IsAt (code_of code.now) (pc_of hart.old) i }
+    ensures stops { (seen : List Observation)
+        × Turn (code_of code.now) (state_of hart.old (M.bytes memory.old)) (stops seen result.1)
+        × (length (entries_of seen) ≡ result.0) }
+    ensures extent { HaveOneExtent (M.bytes memory.new) (M.bytes memory.old) }
+{
+    let (seen, stop) = step_unrecorded(hart, code, memory);
+    match stop {
+        Some(stop) => (entries_in(seen), stop),
+        None => unreachable!(),
     }
 }
 
@@ -88,14 +80,18 @@ pub(crate) fn turn<M: Memory>(
         (known_of (state_of hart.new (M.bytes memory.new)) known.new.registers (M.bytes known.new.marks)) }
     ensures extent { HaveOneExtent (M.bytes known.new.marks) (M.bytes memory.new) }
 {
-    let Some(change) = outlook(code, hart, known) else {
-        return TurnEnd::Depends;
+    let Some(instr) = code.instruction_at(hart.pc()) else {
+        let (entries, stop) = halt(code, hart, memory);
+        return TurnEnd::Ends(entries, stop);
     };
+    if !decides(code.profile(), instr, known) {
+        return TurnEnd::Depends;
+    }
     let (seen, stop) = step_unrecorded(hart, code, memory);
     let entries = entries_in(seen);
     if let Some(stop) = stop {
         return TurnEnd::Ends(entries, stop);
     }
-    make(known, change);
+    change(instr, event_in(seen), known);
     TurnEnd::LeadsOn(entries)
 }
