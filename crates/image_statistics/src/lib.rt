@@ -49,10 +49,7 @@ pub fn image_statistics(alloc: Global, bytes: &[u8]) -> Result<Option<String>, I
     ensures refused { IfErr result (IsFaultOf bytes.now) }
 {
     match read(alloc, bytes) {
-        Ok(image) => match lines_of(alloc, &image) {
-            Ok(text) => Ok(Some(text)),
-            Err(_) => Err(ImageFault::Memory),
-        },
+        Ok(image) => Ok(Some(lines_of(alloc, &image)?)),
         Err(ImageFault::Memory) => Err(ImageFault::Memory),
         Err(ImageFault::Field { rule, offset }) => {
             if offset == 0 {
