@@ -16,7 +16,8 @@ use Rattle.rv_machine.specs.Bytes.{ByteMap, number_at, with_number}
 use Rattle.linked_calls.proofs.Below.{number_at_same, with_number_below, with_number_above}
 use Rattle.linked_calls.specs.Meant.{meant}
 use Rattle.linked_calls.proofs.Bytes.{AreData, number_there, stays_data, numbers_below, numbers_above, numbers_count}
-use Rattle.linked_calls.proofs.Copying.{CanCopy, MayLoad, MayStore, copied_into, element_size, in_turns}
+use Rattle.linked_calls.proofs.CopySpots.{MayLoad, MayStore, element_size}
+use Rattle.linked_calls.proofs.Copying.{CanCopy, copied_into, in_turns}
 use Rattle.linked_calls.proofs.Entering.{numbers_data}
 use Rattle.linked_calls.proofs.Parts.{Runs, straight_runs, then_runs, weaken_runs}
 use Rattle.linked_calls.proofs.Pieces.{Setting}

@@ -7,7 +7,7 @@ use Rattle.language.specs.declared.signature.Kind.TheVariants.{Boolean, Uint8, U
 use Rattle.linked_calls.specs.Called.{IsOfCall}
 use Rattle.linked_calls.specs.Calls.{Site, room_base, arguments_end}
 use Rattle.linked_calls.specs.Stretches.{LiesIn}
-use Rattle.linked_calls.proofs.Copying.{MayLoad, MayStore, element_size}
+use Rattle.linked_calls.proofs.CopySpots.{MayLoad, MayStore, element_size}
 use Rattle.linked_calls.proofs.Pieces.{Setting}
 use Rattle.rv_machine.specs.Machine.{Code}
 use Rattle.rv_machine.specs.declared.memory.Size.TheVariants.{Word}

@@ -24,7 +24,8 @@ use Rattle.linked_calls.specs.Copies.{Pointed, place_of, slot_of, CanBeCopied, H
 use Rattle.linked_calls.specs.Does.{Data}
 use Rattle.linked_calls.specs.Meant.{meant}
 use Rattle.linked_calls.specs.Stretches.{AreData, LiesIn}
-use Rattle.linked_calls.proofs.Copying.{BeginsCopy, Copies, CanCopy, MayLoad, MayStore, copied_into, copied_back, element_size, copy_in_runs, copy_out_runs}
+use Rattle.linked_calls.proofs.CopySpots.{MayLoad, MayStore, element_size}
+use Rattle.linked_calls.proofs.Copying.{BeginsCopy, Copies, CanCopy, copied_into, copied_back, copy_in_runs, copy_out_runs}
 use Rattle.linked_calls.proofs.Parts.{Runs, Sets, HasWord, load_part, constant_part, straight_runs, then_runs, weaken_runs, part_to}
 use Rattle.linked_calls.proofs.Pieces.{Setting}
 use Rattle.linked_calls.proofs.Placing.{placed, does}

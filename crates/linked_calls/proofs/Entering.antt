@@ -15,7 +15,7 @@ use Rattle.expression_code.specs.TermCode.{constant_code}
 use Rattle.linked_calls.specs.Convention.{saved_registers, argument_registers}
 use Rattle.linked_calls.specs.FunctionCode.{stores_code, entry_code, until_equal, added, zeros_code}
 use Rattle.linked_calls.proofs.Bytes.{AreData, number_there, stays_data, AreZeroed}
-use Rattle.linked_calls.proofs.Copying.{MayStore}
+use Rattle.linked_calls.proofs.CopySpots.{MayStore}
 use Rattle.linked_calls.proofs.Parts.{Part, Runs, straight_runs, then_runs, weaken_runs, part_to, constant_part}
 use Rattle.linked_calls.proofs.Pieces.{Setting, AreAllowed}
 use Rattle.linked_calls.proofs.Registers.{unwritten, near_address, three_fit}

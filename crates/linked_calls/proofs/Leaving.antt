@@ -9,7 +9,7 @@ use Rattle.rv_code.specs.declared.operations.LoadOperation.TheVariants.{Lw}
 use Rattle.rv_machine.specs.declared.observation.Event.TheVariants as event
 use Rattle.rv_machine.specs.declared.memory.Size.TheVariants.{Word}
 use Rattle.rv_machine.specs.Bytes.{ByteMap, number_at}
-use Rattle.linked_calls.proofs.Copying.{MayLoad}
+use Rattle.linked_calls.proofs.CopySpots.{MayLoad}
 use Rattle.linked_calls.proofs.Parts.{Runs, straight_runs}
 use Rattle.linked_calls.proofs.Pieces.{Setting}
 use Rattle.linked_calls.proofs.Registers.{near_address}

@@ -5,6 +5,8 @@ pub mod Registers
 pub mod Bytes
 pub mod Parts
 pub mod Zeroing
+pub mod CopySpots
+pub mod CopyElements
 pub mod Copying
 pub mod Entering
 pub mod Taking

@@ -14,7 +14,7 @@ use Rattle.linked_calls.specs.Sections.{block_turns}
 use Rattle.linked_calls.specs.Zeros.{IsStoreIn, HasRoom, IsWiped}
 use Rattle.linked_calls.proofs.Between.{AreSaved}
 use Rattle.linked_calls.proofs.Bytes.{AreData, AreZeroed, number_there}
-use Rattle.linked_calls.proofs.Copying.{MayLoad}
+use Rattle.linked_calls.proofs.CopySpots.{MayLoad}
 use Rattle.linked_calls.proofs.Leaving.{Restores, restore_runs, clear_runs}
 use Rattle.linked_calls.proofs.Parts.{Runs, Sets, straight_runs, then_runs, weaken_runs}
 use Rattle.linked_calls.proofs.Pieces.{Setting}

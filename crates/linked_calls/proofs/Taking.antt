@@ -20,7 +20,8 @@ use Rattle.rv_machine.specs.Effects.{sum_of, register_value, shift_value}
 use Rattle.rv_machine.specs.Registers.{register, with_register}
 use Rattle.linked_calls.specs.Meant.{meant}
 use Rattle.linked_calls.proofs.Bytes.{AreData, with_number_cut}
-use Rattle.linked_calls.proofs.Copying.{CanCopy, MayLoad, MayStore, BeginsCopy, copied_into, copied_back, element_size, in_turns, copy_in_runs, copy_out_runs, truth_same}
+use Rattle.linked_calls.proofs.CopySpots.{MayLoad, MayStore, element_size, truth_same}
+use Rattle.linked_calls.proofs.Copying.{CanCopy, BeginsCopy, copied_into, copied_back, in_turns, copy_in_runs, copy_out_runs}
 use Rattle.linked_calls.proofs.Parts.{Runs, straight_runs, then_runs, weaken_runs, Sets, constant_part, HasWord, load_part, store_part}
 use Rattle.linked_calls.proofs.Pieces.{Setting}
 use Rattle.linked_calls.proofs.Registers.{register-at, written, unwritten, three_fit}

@@ -23,7 +23,7 @@ use Rattle.image_fields.specs.Fields.{Fields}
 use Rattle.linked_calls.specs.Meant.{meant}
 use Rattle.linked_calls.specs.Words.{HasWordArgument, IsPut, IsPutting, WordIsTaken, HasResult, IsReturned, IsLoadOf, ResultIsHandedBack}
 use Rattle.linked_calls.proofs.Bytes.{number_there, with_number_cut}
-use Rattle.linked_calls.proofs.Copying.{truth_same}
+use Rattle.linked_calls.proofs.CopySpots.{truth_same}
 use Rattle.linked_calls.proofs.Parts.{HasWord, Runs, Sets, load_part, store_part, straight_runs, then_runs, weaken_runs, part_to}
 use Rattle.linked_calls.proofs.Pieces.{Setting}
 use Rattle.linked_calls.proofs.Placing.{placed, does}
