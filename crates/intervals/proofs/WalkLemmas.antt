@@ -9,22 +9,22 @@ use Rattle.intervals.specs.declared.interval.Interval.{Interval}
 use Rattle.intervals.specs.Intervals.{Bounds, interval, with_bound}
 use Rattle.intervals.specs.Narrowing.{met, met_all, where_true, where_false}
 use Rattle.intervals.specs.declared.said.Said.{Said}
-use Rattle.intervals.specs.Ranges.{counted, counted_all, counter_interval, in_loop, most_turns, term_violations, violations, violations_all}
+use Rattle.intervals.specs.Ranges.{counted, counted_all, counter_interval, in_loop, most_turns}
 use Rattle.intervals.proofs.TreeLemmas.{branch_tree, loop_tree}
-use Rattle.labels.specs.Sooner.{sooner}
+use Rattle.intervals.specs.Findings.{findings, findings_all, sooner_finding, term_findings}
+use Rattle.intervals.specs.declared.found.Finding.{Finding}
 use Rattle.language.specs.declared.signature.Label.{Label}
-use Rattle.language.specs.declared.typing.Violation.{Violation}
 
 -- what holds on success follows from what does
 pub on_ok : {T E P Q : Type 0} (result : Result T E) → (P → Q) → OnOk result P → OnOk result Q
 on_ok (Ok value) f p = f p
 on_ok (Err e) f p = tt
 
--- three lists of violations, one after another
-three_parts : (seen one two last : Option Violation) (e f g : List Violation)
-    → one ≡ fold sooner seen e → two ≡ fold sooner one f → last ≡ fold sooner two g → last ≡ fold sooner seen (e ++ f ++ g)
+-- three lists of findings, one after another
+three_parts : (seen one two last : Option Finding) (e f g : List Finding)
+    → one ≡ fold sooner_finding seen e → two ≡ fold sooner_finding one f → last ≡ fold sooner_finding two g → last ≡ fold sooner_finding seen (e ++ f ++ g)
 three_parts seen one two last e f g a b c =
-    c ∙ (ap (λ s. fold sooner s g) (b ∙ (ap (λ s. fold sooner s f) a ∙ sym (fold-append sooner seen e f))) ∙ sym (fold-append sooner seen (e ++ f) g))
+    c ∙ (ap (λ s. fold sooner_finding s g) (b ∙ (ap (λ s. fold sooner_finding s f) a ∙ sym (fold-append sooner_finding seen e f))) ∙ sym (fold-append sooner_finding seen (e ++ f) g))
 
 module _ (declared : List FlatVariable) (bounds : Bounds) (statement : FlatStatement) where
   module _ (label : Label) (condition : Term) (accepted otherwise : Vec FlatStatement Global) (is : statement ≡ Branch label condition accepted otherwise)
@@ -42,18 +42,18 @@ module _ (declared : List FlatVariable) (bounds : Bounds) (statement : FlatState
         ∙ (ap (λ ts. counted_all declared (where_false declared bounds label (term_tree condition)) ts (flat_block otherwise.items)) first_arm
         ∙ sym (ap (counted declared bounds turns) tree)))
 
-    pub branch_seen : (seen of_condition of_accepted last : Option Violation)
-        → of_condition ≡ fold sooner seen (term_violations declared bounds (term_tree condition))
-        → of_accepted ≡ fold sooner of_condition (violations_all declared (where_true declared bounds label (term_tree condition)) (flat_block ones))
-        → last ≡ fold sooner of_accepted (violations_all declared (where_false declared between label (term_tree condition)) (flat_block others))
-        → last ≡ fold sooner seen (violations declared bounds (flat_tree statement))
+    pub branch_seen : (seen of_condition of_accepted last : Option Finding)
+        → of_condition ≡ fold sooner_finding seen (term_findings declared bounds (term_tree condition))
+        → of_accepted ≡ fold sooner_finding of_condition (findings_all declared (where_true declared bounds label (term_tree condition)) (flat_block ones))
+        → last ≡ fold sooner_finding of_accepted (findings_all declared (where_false declared between label (term_tree condition)) (flat_block others))
+        → last ≡ fold sooner_finding seen (findings declared bounds (flat_tree statement))
     branch_seen seen of_condition of_accepted last c a o =
-        three_parts seen of_condition of_accepted last (term_violations declared bounds (term_tree condition))
-        (violations_all declared (where_true declared bounds label (term_tree condition)) (flat_block accepted.items))
-        (violations_all declared (where_false declared bounds label (term_tree condition)) (flat_block otherwise.items)) c
-        (a ∙ ap (λ xs. fold sooner of_condition (violations_all declared (where_true declared bounds label (term_tree condition)) (flat_block xs))) one)
-        (o ∙ ap₂ (λ b xs. fold sooner of_accepted (violations_all declared (where_false declared b label (term_tree condition)) (flat_block xs))) same other)
-        ∙ sym (ap (λ s. fold sooner seen (violations declared bounds s)) tree)
+        three_parts seen of_condition of_accepted last (term_findings declared bounds (term_tree condition))
+        (findings_all declared (where_true declared bounds label (term_tree condition)) (flat_block accepted.items))
+        (findings_all declared (where_false declared bounds label (term_tree condition)) (flat_block otherwise.items)) c
+        (a ∙ ap (λ xs. fold sooner_finding of_condition (findings_all declared (where_true declared bounds label (term_tree condition)) (flat_block xs))) one)
+        (o ∙ ap₂ (λ b xs. fold sooner_finding of_accepted (findings_all declared (where_false declared b label (term_tree condition)) (flat_block xs))) same other)
+        ∙ sym (ap (λ s. fold sooner_finding seen (findings declared bounds s)) tree)
 
   module _ (counter : ℕ) (low high : Term) (body : Vec FlatStatement Global) (is : statement ≡ Loop counter low high body)
       (ones : List FlatStatement) (one : ones ≡ body.items) (a b numbers : Interval)
@@ -75,16 +75,16 @@ module _ (declared : List FlatVariable) (bounds : Bounds) (statement : FlatState
         ∙ (ap (λ ts. counted_all declared (in_loop declared bounds counter (term_tree low) (term_tree high)) ts (flat_block body.items)) counted_here
         ∙ sym (ap (counted declared bounds turns) whole)))
 
-    pub loop_seen : (seen of_low of_high last : Option Violation)
-        → of_low ≡ fold sooner seen (term_violations declared bounds (term_tree low))
-        → of_high ≡ fold sooner of_low (term_violations declared bounds (term_tree high))
-        → last ≡ fold sooner of_high (violations_all declared (with_bound bounds counter numbers) (flat_block ones))
-        → last ≡ fold sooner seen (violations declared bounds (flat_tree statement))
+    pub loop_seen : (seen of_low of_high last : Option Finding)
+        → of_low ≡ fold sooner_finding seen (term_findings declared bounds (term_tree low))
+        → of_high ≡ fold sooner_finding of_low (term_findings declared bounds (term_tree high))
+        → last ≡ fold sooner_finding of_high (findings_all declared (with_bound bounds counter numbers) (flat_block ones))
+        → last ≡ fold sooner_finding seen (findings declared bounds (flat_tree statement))
     loop_seen seen of_low of_high last l h t =
-        three_parts seen of_low of_high last (term_violations declared bounds (term_tree low)) (term_violations declared bounds (term_tree high))
-        (violations_all declared (in_loop declared bounds counter (term_tree low) (term_tree high)) (flat_block body.items)) l h
-        (t ∙ ap₂ (λ bs xs. fold sooner of_high (violations_all declared bs (flat_block xs))) inside one)
-        ∙ sym (ap (λ s. fold sooner seen (violations declared bounds s)) whole)
+        three_parts seen of_low of_high last (term_findings declared bounds (term_tree low)) (term_findings declared bounds (term_tree high))
+        (findings_all declared (in_loop declared bounds counter (term_tree low) (term_tree high)) (flat_block body.items)) l h
+        (t ∙ ap₂ (λ bs xs. fold sooner_finding of_high (findings_all declared bs (flat_block xs))) inside one)
+        ∙ sym (ap (λ s. fold sooner_finding seen (findings declared bounds s)) whole)
 
 -- what is left of the statements, the next one apart
 pub next_statement : (body : List FlatStatement) (i : ℕ) (d : FlatStatement) → i < length body

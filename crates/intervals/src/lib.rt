@@ -2,6 +2,7 @@
 // the body with numbered variables.
 #![tactic(auto)]
 
+mod found;
 mod interval;
 mod known;
 mod laws;
@@ -15,10 +16,12 @@ mod terms;
 mod walk;
 mod work;
 
+pub use found::{Cause, Finding};
 pub use interval::Interval;
 pub use laws::{
-    accepted_is_safe, safe_runs_are_within_work, safe_runs_meet_no_fault, strict_runs_are_loose,
+    accepted_is_safe, findings_are_violations, safe_runs_are_within_work, safe_runs_meet_no_fault,
+    strict_runs_are_loose,
 };
 pub use limits::{MOST_WORK, limits_are_as_stated};
 pub use ranged::Ranged;
-pub use ranges::check_ranges;
+pub use ranges::{check_ranges, first_finding};
