@@ -1,8 +1,9 @@
 // What is printed below the line of a source's refusal where an author asks why: the line of the source with the place
-// marked, and the violated rule with its usual cause and its cure.
+// marked, what there is at the place, and the violated rule with its usual cause and its cure.
 //
 // It promises that the lines are those of this place and of this rule (`specs/Explained.antt`). It stands on
-// `source_excerpts` for the line and on `explanations` for the rules, of which each has a row there.
+// `source_excerpts` for the line, on `refusal_details` for what there is at the place and on `explanations` for the rules,
+// of which each has a row there.
 #![tactic(auto)]
 
 ghost use Rattle.std.specs.Prelude.{◌≡◌, IfOk};
@@ -12,17 +13,19 @@ ghost use Rattle.language.specs.Rules.{code_of};
 
 use explanations::{Explanation, explanation};
 use language::{Place, Refusal, Rule};
+use refusal_details::details;
 use source_excerpts::excerpt;
 use std::alloc::{AllocError, Global};
 
 /// The lines that explain a refusal of a source, without the last one's end: the marked place, where the refusal has one,
-/// and the rule.
+/// what there is at it, and the rule.
 pub fn explain_refusal(alloc: Global, source: &str, refusal: Refusal) -> Result<String, AllocError>
     ensures { IfOk result (λ lines. Explains source.now refusal (string_bytes lines)) }
 {
     let lines = place_lines(alloc, source, refusal.place)?;
+    let details = details(alloc, source, refusal)?;
     let rule = row_of(refusal.rule).rule;
-    format!(in alloc; "{lines}{rule}")
+    format!(in alloc; "{lines}{details}{rule}")
 }
 
 /// The line of a source at a place, marked; nothing where there is no place.

@@ -1,0 +1,3 @@
+pub mod NamesAt
+pub mod Nearest
+pub mod Scopes

@@ -1,0 +1,16 @@
+-- What an answer of the parser says; and what holds where a call succeeds.
+use Rattle.std.proofs.Common.{◌≡◌, Option, None, Some, Result, Ok, Err, IfOk, sym, ◌∙◌, inl, inr}
+use Rattle.std.proofs.lemmas.Option.{none-some}
+use Rattle.language.specs.declared.refusal.Refusal.{Refusal}
+use Rattle.syntax.specs.Reading.{Answer, IsRefusedAs, refused}
+use Rattle.word.specs.declared.place.Place.{Place}
+
+-- a refusal with a place is an answer to the text
+pub placed : (P : Answer → Type 0) (r : Refusal) (p : Place) → r.place ≡ Some p → IsRefusedAs P r → (place : Place) × P (refused r.rule place)
+placed P r p some (inl memory) = absurd (none-some p (sym memory.1 ∙ some))
+placed P r p some (inr answer) = (answer.0, answer.2)
+
+-- what follows for each value follows where there is one
+pub where_ok : {A E : Type 0} {P Q : A → Type 0} (result : Result A E) → ((x : A) → P x → Q x) → IfOk result P → IfOk result Q
+where_ok (Ok x) follows known = follows x known
+where_ok (Err e) follows known = known

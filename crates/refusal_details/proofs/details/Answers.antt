@@ -1,0 +1,17 @@
+-- What is said is said of what the source reads as.
+use Rattle.refusal_details.proofs.DetailLemmas.{placed, where_ok}
+use Rattle.refusal_details.proofs.details.Goals as goal
+use Rattle.refusal_details.specs.Details.{nowhere, of_program, of_text}
+use Rattle.syntax.specs.Reading.{Reads}
+
+pub returns-in_default : goal.returns-in_default
+returns-in_default c = nowhere c.in_default.is c.new.ensures.bytes
+
+pub returns-in-Ok : goal.returns-in-Ok
+returns-in-Ok c =
+    where_ok c.program_lines.result (λ lines is. of_program c.in-Some.is c.in-Ok.ensures.accepted is) c.program_lines.ensures
+
+pub returns-in-Some-place : goal.returns-in-Some-place
+returns-in-Some-place c =
+    let answer = placed (Reads c.args.source.now) c.in-Err.unread c.in-Some-place.field-0 c.in-Some-place.is c.in-Err.ensures.refused in
+    where_ok c.text_lines.result (λ lines is. of_text c.in-Some.is answer.1 is) c.text_lines.ensures

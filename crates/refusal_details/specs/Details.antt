@@ -1,0 +1,59 @@
+-- What is said of a refusal beside its rule: lines, each with its end, or nothing.
+use Rattle.std.specs.Prelude.{◌≡◌, ℕ, ◌==◌, nat_eq, Bool, if◌then◌else◌, List, [], ◌∷◌, ◌++◌, drop, codes, Option, None, Some}
+use Rattle.std.specs.List.{starts_with}
+use Rattle.language.specs.declared.refusal.Refusal.{Refusal}
+use Rattle.language.specs.declared.rule.Rule.{Rule}
+use Rattle.language.specs.declared.rule.Rule.TheVariants.{UnknownCharacter, UndeclaredName}
+use Rattle.language.specs.Tree.{ProgramTree}
+use Rattle.name_uses.specs.Nearest.{nearest}
+use Rattle.name_uses.specs.Scopes.{Seen, Use, use_in_procedures}
+use Rattle.syntax.specs.Reading.{Reads, accepted, refused}
+use Rattle.word.specs.declared.place.Place.{Place}
+use Rattle.word.specs.Places.{place_text}
+
+-- X1: a byte order mark is named, as EF BB BF
+abbrev pub begins_with_mark : List ℕ → Bool
+begins_with_mark bytes = starts_with nat_eq bytes (0xEF ∷ 0xBB ∷ 0xBF ∷ [])
+
+abbrev pub character_line : List ℕ → List ℕ
+character_line bytes =
+    if begins_with_mark bytes then codes "  this is a byte order mark, which cannot be seen: save the file without it\n" else []
+
+-- N1: the nearest variable in scope where the name is used
+abbrev pub variable_line : Seen → List ℕ
+variable_line v = codes "  the nearest name in scope is `" ++ (v.name ++ (codes "`, declared at " ++ (place_text v.place ++ codes "\n")))
+
+abbrev pub nearest_line : Option Seen → List ℕ
+nearest_line None = []
+nearest_line (Some v) = variable_line v
+
+abbrev pub use_line : Use → List ℕ
+use_line u = nearest_line (nearest u.scope u.name)
+
+abbrev pub name_line : Option Use → List ℕ
+name_line None = []
+name_line (Some u) = use_line u
+
+-- of a program that violates a rule behind so many bytes
+abbrev pub program_lines : Rule → ℕ → ProgramTree → List ℕ
+program_lines UndeclaredName at program = name_line (use_in_procedures at program.procedures)
+program_lines rule at program = []
+
+-- of a text that is no program
+abbrev pub text_lines : Rule → ℕ → List ℕ → List ℕ
+text_lines UnknownCharacter at text = character_line (drop at text)
+text_lines rule at text = []
+
+-- what is said of a refusal of a source
+pub data Says (source : List ℕ) (refusal : Refusal) : List ℕ → Type 0 where
+  nowhere : {lines : List ℕ} → refusal.place ≡ None → lines ≡ [] → Says source refusal lines
+  of_program : {place : Place} {program : ProgramTree} {lines : List ℕ}
+      → refusal.place ≡ Some place
+      → Reads source (accepted program)
+      → lines ≡ program_lines refusal.rule place.offset program
+      → Says source refusal lines
+  of_text : {place unread : Place} {rule : Rule} {lines : List ℕ}
+      → refusal.place ≡ Some place
+      → Reads source (refused rule unread)
+      → lines ≡ text_lines refusal.rule place.offset source
+      → Says source refusal lines
