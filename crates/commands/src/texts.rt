@@ -82,7 +82,7 @@ pub fn refused(alloc: Global, source: &str, refusal: Refusal, explain: bool) -> 
     }
     match explain_refusal(alloc, source, refusal) {
         Ok(lines) => Fault::Explained(refusal, lines),
-        Err(fault) => Fault::from(fault),
+        Err(fault) => Fault::Text(fault),
     }
 }
 

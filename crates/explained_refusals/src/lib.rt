@@ -6,10 +6,11 @@
 // of which each has a row there.
 #![tactic(auto)]
 
-ghost use Rattle.std.specs.Prelude.{◌≡◌, IfOk};
+ghost use Rattle.std.specs.Prelude.{◌≡◌, IfOk, IfErr};
 ghost use Rattle.std.specs.String.{string_bytes};
 ghost use Rattle.explained_refusals.specs.Explained.{place_lines, Explains};
 ghost use Rattle.language.specs.Rules.{code_of};
+ghost use Rattle.language.specs.WantOfMemory.{IsWantOfMemory};
 
 use explanations::{Explanation, explanation};
 use language::{Place, Refusal, Rule};
@@ -18,14 +19,16 @@ use source_excerpts::excerpt;
 use std::alloc::{AllocError, Global};
 
 /// The lines that explain a refusal of a source, without the last one's end: the marked place, where the refusal has one,
-/// what there is at it, and the rule.
-pub fn explain_refusal(alloc: Global, source: &str, refusal: Refusal) -> Result<String, AllocError>
-    ensures { IfOk result (λ lines. Explains source.now refusal (string_bytes lines)) }
+/// what there is at it, and the rule. It fails only when out of memory.
+pub fn explain_refusal(alloc: Global, source: &str, refusal: Refusal) -> Result<String, Refusal>
+    ensures said { IfOk result (λ lines. Explains source.now refusal (string_bytes lines)) }
+    ensures memory { IfErr result (λ fault. IsWantOfMemory fault.rule fault.place) }
 {
     let lines = place_lines(alloc, source, refusal.place)?;
     let details = details(alloc, source, refusal)?;
     let rule = row_of(refusal.rule).rule;
-    format!(in alloc; "{lines}{details}{rule}")
+    let text = format!(in alloc; "{lines}{details}{rule}")?;
+    Ok(text)
 }
 
 /// The line of a source at a place, marked; nothing where there is no place.

@@ -1,7 +1,10 @@
 -- What an answer of the parser says; and what holds where a call succeeds.
-use Rattle.std.proofs.Common.{◌≡◌, Option, None, Some, Result, Ok, Err, IfOk, sym, ◌∙◌, inl, inr}
+use Rattle.std.proofs.Common.{◌≡◌, List, Option, None, Some, Result, Ok, Err, IfOk, sym, ◌∙◌, inl, inr}
 use Rattle.std.proofs.lemmas.Option.{none-some}
+use Rattle.language.specs.FirstViolation.{IsFirst, IsRefusedFor}
 use Rattle.language.specs.declared.refusal.Refusal.{Refusal}
+use Rattle.language.specs.declared.rule.Rule.{Rule}
+use Rattle.language.specs.declared.typing.Violation.{Violation}
 use Rattle.syntax.specs.Reading.{Answer, IsRefusedAs, refused}
 use Rattle.word.specs.declared.place.Place.{Place}
 
@@ -14,3 +17,8 @@ placed P r p some (inr answer) = (answer.0, answer.2)
 pub where_ok : {A E : Type 0} {P Q : A → Type 0} (result : Result A E) → ((x : A) → P x → Q x) → IfOk result P → IfOk result Q
 where_ok (Ok x) follows known = follows x known
 where_ok (Err e) follows known = known
+
+-- a refusal with a place is for a violation, of which there is a first
+pub first_at : (all : List Violation) (rule : Rule) (place : Option Place) (p : Place) → place ≡ Some p → IsRefusedFor all rule place → (first : Violation) × IsFirst all first
+first_at all rule place p some (inl memory) = absurd (none-some p (sym memory.1 ∙ some))
+first_at all rule place p some (inr named) = (named.0, named.1)

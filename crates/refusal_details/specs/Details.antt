@@ -1,9 +1,15 @@
 -- What is said of a refusal beside its rule: lines, each with its end, or nothing.
 use Rattle.std.specs.Prelude.{◌≡◌, ℕ, ◌==◌, nat_eq, Bool, if◌then◌else◌, List, [], ◌∷◌, ◌++◌, drop, codes, Option, None, Some}
 use Rattle.std.specs.List.{starts_with}
+use Rattle.std.specs.Fmt.{decimal}
+use Rattle.intervals.specs.declared.found.Cause.{Cause}
+use Rattle.intervals.specs.declared.found.Cause.TheVariants.{Index, Divisor}
+use Rattle.intervals.specs.declared.found.Finding.{Finding}
+use Rattle.intervals.specs.declared.interval.Interval.{Interval}
+use Rattle.refusal_details.specs.Found.{Finds}
 use Rattle.language.specs.declared.refusal.Refusal.{Refusal}
 use Rattle.language.specs.declared.rule.Rule.{Rule}
-use Rattle.language.specs.declared.rule.Rule.TheVariants.{UnknownCharacter, UndeclaredName}
+use Rattle.language.specs.declared.rule.Rule.TheVariants.{UnknownCharacter, UndeclaredName, IndexOutOfRange, DivisorMayBeZero}
 use Rattle.language.specs.Tree.{ProgramTree}
 use Rattle.name_uses.specs.Nearest.{nearest}
 use Rattle.name_uses.specs.Scopes.{Seen, Use, use_in_procedures}
@@ -34,10 +40,29 @@ abbrev pub name_line : Option Use → List ℕ
 name_line None = []
 name_line (Some u) = use_line u
 
+-- I1: which numbers the index may be, and the length of its array; I2: which the divisor may be
+abbrev pub interval_text : Interval → List ℕ
+interval_text i = if i.low == i.high then decimal i.low else decimal i.low ++ (codes " to " ++ decimal i.high)
+
+abbrev pub cause_line : Cause → List ℕ
+cause_line (Index i size) = codes "  the index is " ++ (interval_text i ++ (codes ", and the array's length is " ++ (decimal size ++ codes "\n")))
+cause_line (Divisor i) = codes "  the divisor is " ++ (interval_text i ++ codes "\n")
+
+abbrev pub finding_line : Option Finding → List ℕ
+finding_line None = []
+finding_line (Some found) = cause_line found.cause
+
+pub record SaysRange (program : ProgramTree) (lines : List ℕ) : Type 0 where
+  pub found : Option Finding
+  pub finds : Finds program found
+  pub printed : lines ≡ finding_line found
+
 -- of a program that violates a rule behind so many bytes
-abbrev pub program_lines : Rule → ℕ → ProgramTree → List ℕ
-program_lines UndeclaredName at program = name_line (use_in_procedures at program.procedures)
-program_lines rule at program = []
+abbrev pub SaysOfProgram : Rule → ℕ → ProgramTree → List ℕ → Type 0
+SaysOfProgram UndeclaredName at program lines = lines ≡ name_line (use_in_procedures at program.procedures)
+SaysOfProgram IndexOutOfRange at program lines = SaysRange program lines
+SaysOfProgram DivisorMayBeZero at program lines = SaysRange program lines
+SaysOfProgram rule at program lines = lines ≡ []
 
 -- of a text that is no program
 abbrev pub text_lines : Rule → ℕ → List ℕ → List ℕ
@@ -50,7 +75,7 @@ pub data Says (source : List ℕ) (refusal : Refusal) : List ℕ → Type 0 wher
   of_program : {place : Place} {program : ProgramTree} {lines : List ℕ}
       → refusal.place ≡ Some place
       → Reads source (accepted program)
-      → lines ≡ program_lines refusal.rule place.offset program
+      → SaysOfProgram refusal.rule place.offset program lines
       → Says source refusal lines
   of_text : {place unread : Place} {rule : Rule} {lines : List ℕ}
       → refusal.place ≡ Some place

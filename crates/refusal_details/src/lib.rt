@@ -1,26 +1,32 @@
 // What is said of a refusal beside its rule: lines with what there is at the place, for who wrote the source.
 //
 // It promises which lines these are, by the source's tree or, where it has none, by its bytes (`specs/Details.antt`). It
-// stands on `syntax` for the tree and on `name_uses` for what is near a name.
+// stands on `syntax` for the tree, on `name_uses` for what is near a name, and on `intervals` for the numbers that an index or
+// a divisor may be: those by which it was refused.
 #![tactic(auto)]
 
 mod characters;
 mod names;
+mod ranges;
 
-ghost use Rattle.std.specs.Prelude.{◌≡◌, IfOk};
+ghost use Rattle.std.specs.Prelude.{◌≡◌, IfOk, IfErr};
 ghost use Rattle.std.specs.String.{string_bytes};
 ghost use Rattle.language.specs.Tree.{program_tree};
-ghost use Rattle.refusal_details.specs.Details.{Says, program_lines, text_lines};
+ghost use Rattle.language.specs.WantOfMemory.{IsWantOfMemory};
+ghost use Rattle.refusal_details.specs.Details.{Says, SaysOfProgram, text_lines};
 
 use crate::characters::character_line;
 use crate::names::name_line;
+use crate::ranges::range_line;
 use language::{Place, Program, Refusal, Rule};
-use std::alloc::{AllocError, Global};
+use std::alloc::Global;
 use syntax::parse;
 
-/// What is said of a source's refusal beside its rule: lines, each with its end, or nothing.
-pub fn details(alloc: Global, source: &str, refusal: Refusal) -> Result<String, AllocError>
-    ensures { IfOk result (λ lines. Says source.now refusal (string_bytes lines)) }
+/// What is said of a source's refusal beside its rule: lines, each with its end, or nothing. It fails only when out of
+/// memory.
+pub fn details(alloc: Global, source: &str, refusal: Refusal) -> Result<String, Refusal>
+    ensures said { IfOk result (λ lines. Says source.now refusal (string_bytes lines)) }
+    ensures memory { IfErr result (λ fault. IsWantOfMemory fault.rule fault.place) }
 {
     let Some(place) = refusal.place else {
         return Ok(String::new(alloc));
@@ -29,7 +35,7 @@ pub fn details(alloc: Global, source: &str, refusal: Refusal) -> Result<String, 
         Ok(program) => program_lines(alloc, refusal.rule, place, &program),
         Err(unread) => match unread.place {
             Some(_) => text_lines(alloc, refusal.rule, place, source),
-            None => Err(AllocError),
+            None => Err(unread),
         },
     }
 }
@@ -40,21 +46,24 @@ fn program_lines(
     rule: Rule,
     place: Place,
     program: &Program<'_>,
-) -> Result<String, AllocError>
-    ensures { IfOk result (λ lines. string_bytes lines ≡ program_lines rule place.offset (program_tree program.now)) }
+) -> Result<String, Refusal>
+    ensures said { IfOk result (λ lines. SaysOfProgram rule place.offset (program_tree program.now) (string_bytes lines)) }
+    ensures memory { IfErr result (λ fault. IsWantOfMemory fault.rule fault.place) }
 {
     match rule {
-        Rule::UndeclaredName => name_line(alloc, place.offset, program),
+        Rule::UndeclaredName => Ok(name_line(alloc, place.offset, program)?),
+        Rule::IndexOutOfRange | Rule::DivisorMayBeZero => range_line(alloc, program),
         _ => Ok(String::new(alloc)),
     }
 }
 
 /// What is said of a text that is no program.
-fn text_lines(alloc: Global, rule: Rule, place: Place, text: &str) -> Result<String, AllocError>
-    ensures { IfOk result (λ lines. string_bytes lines ≡ text_lines rule place.offset text.now) }
+fn text_lines(alloc: Global, rule: Rule, place: Place, text: &str) -> Result<String, Refusal>
+    ensures said { IfOk result (λ lines. string_bytes lines ≡ text_lines rule place.offset text.now) }
+    ensures memory { IfErr result (λ fault. IsWantOfMemory fault.rule fault.place) }
 {
     match rule {
-        Rule::UnknownCharacter => character_line(alloc, place.offset, text.as_bytes()),
+        Rule::UnknownCharacter => Ok(character_line(alloc, place.offset, text.as_bytes())?),
         _ => Ok(String::new(alloc)),
     }
 }

@@ -1,0 +1,91 @@
+// An index that may be out of range, or a divisor that may be 0.
+
+ghost use Rattle.std.specs.Prelude.{◌≡◌, None, Some, IfOk, IfErr};
+ghost use Rattle.std.specs.String.{string_bytes};
+ghost use Rattle.language.specs.Tree.{program_tree};
+ghost use Rattle.language.specs.WantOfMemory.{IsWantOfMemory};
+ghost use Rattle.refusal_details.specs.Details.{SaysRange, finding_line, cause_line, interval_text};
+ghost use Rattle.refusal_details.specs.Found.{Finds};
+ghost use Rattle.word.specs.declared.place.Place.{Place};
+
+use inline::inline;
+use intervals::{Cause, Finding, Interval, first_finding};
+use labels::check;
+use language::{Program, Refusal};
+use std::alloc::{AllocError, Global};
+
+/// What is said of a program's first violation of ranges: why it is one.
+pub fn range_line(alloc: Global, program: &Program<'_>) -> Result<String, Refusal>
+    ensures said { IfOk result (λ line. SaysRange (program_tree program.now) (string_bytes line)) }
+    ensures memory { IfErr result (λ refusal. IsWantOfMemory refusal.rule refusal.place) }
+{
+    let found = finding_in(alloc, program)?;
+    let line = finding_line(alloc, found)?;
+    Ok(line)
+}
+
+/// The first violation of ranges, as the passes find it; none where one before them refuses the program.
+fn finding_in(alloc: Global, program: &Program<'_>) -> Result<Option<Finding>, Refusal>
+    ensures found { IfOk result (Finds (program_tree program.now)) }
+    ensures memory { IfErr result (λ refusal. IsWantOfMemory refusal.rule refusal.place) }
+{
+    let checked = match check(alloc, program) {
+        Ok(checked) => checked,
+        Err(refusal) => return none_for(refusal),
+    };
+    let flat = match inline(alloc, &checked) {
+        Ok(flat) => flat,
+        Err(refusal) => return none_for(refusal),
+    };
+    let found = first_finding(alloc, &flat)?;
+    Ok(found)
+}
+
+/// Nothing is found where a pass refuses a program at a place; where it ran out of memory, that is answered.
+fn none_for(refusal: Refusal) -> Result<Option<Finding>, Refusal>
+    ensures none { IfOk result (λ found. (found ≡ None) × ((place : Place) × (refusal.place ≡ Some place))) }
+    ensures memory { IfErr result (λ handed. (handed ≡ refusal) × (refusal.place ≡ None)) }
+{
+    match refusal.place {
+        Some(_) => Ok(None),
+        None => Err(refusal),
+    }
+}
+
+/// What is said of what was found.
+fn finding_line(alloc: Global, found: Option<Finding>) -> Result<String, AllocError>
+    ensures { IfOk result (λ line. string_bytes line ≡ finding_line found) }
+{
+    match found {
+        Some(found) => cause_line(alloc, found.cause),
+        None => Ok(String::new(alloc)),
+    }
+}
+
+fn cause_line(alloc: Global, cause: Cause) -> Result<String, AllocError>
+    ensures { IfOk result (λ line. string_bytes line ≡ cause_line cause) }
+{
+    match cause {
+        Cause::Index(index, size) => {
+            let index = interval_text(alloc, index)?;
+            format!(in alloc; "  the index is {index}, and the array's length is {size}\n")
+        }
+        Cause::Divisor(divisor) => {
+            let divisor = interval_text(alloc, divisor)?;
+            format!(in alloc; "  the divisor is {divisor}\n")
+        }
+    }
+}
+
+/// `LOW to HIGH`, or the one number that both are.
+fn interval_text(alloc: Global, interval: Interval) -> Result<String, AllocError>
+    ensures { IfOk result (λ text. string_bytes text ≡ interval_text interval) }
+{
+    let low = interval.low;
+    let high = interval.high;
+    if low == high {
+        format!(in alloc; "{low}")
+    } else {
+        format!(in alloc; "{low} to {high}")
+    }
+}
