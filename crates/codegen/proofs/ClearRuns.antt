@@ -1,13 +1,11 @@
 -- The code that makes an array of zeros.
 use Rattle.std.proofs.Common.{◌≡◌, ℕ, zero, suc, ◌+◌, ◌*◌, ◌%◌, ◌<◌, ◌≤◌, ◌==◌, ◌⊎◌, inl, inr, Bool, true, false, nat_lt, List, [], ◌∷◌, ◌++◌, length, replicate, Some, refl, sym, ap, ap₂, ◌∙◌, arith, length-append}
-use Rattle.std.proofs.lemmas.Bool.Decides.{nat_tests}
-use Rattle.std.proofs.lemmas.Bool.{eqb-true, eqb-false}
-use Rattle.std.proofs.lemmas.List.{length-replicate}
+use Rattle.codegen.proofs.Machine.{clear_code, statement_code, loop_code, with_numbers, variable_offset, constant_code}
+use Rattle.codegen.proofs.Machine.{Instr, Addi, Add, Sub, Sw, ByteMap, number_at, with_byte, with_number, sum_of}
+use Rattle.codegen.proofs.Machine.{difference_of, with_register}
 use Rattle.codegen.proofs.Language.{FlatVariable, array_as, path_of_turns, Path, clear, StraightState, with_variable}
 use Rattle.codegen.proofs.Language.{after, IsFilled, Kind, Boolean, array_words}
-use Rattle.codegen.proofs.Machine.{clear_code, statement_code, loop_code, with_numbers, variable_offset}
-use Rattle.codegen.proofs.Machine.{constant_code, Instr, Addi, Add, Sub, Sw, ByteMap, number_at, with_byte}
-use Rattle.codegen.proofs.Machine.{with_number, sum_of, difference_of, with_register}
+use Rattle.codegen.proofs.Logic.{nat_tests, eqb-true, eqb-false, length-replicate}
 use Rattle.rv_code.specs.declared.instructions.Instr.TheVariants as instr
 use Rattle.rv_machine.specs.Machine as machine
 use Rattle.codegen.proofs.Logic.{with_number-suc, with_byte_same, with_byte_other, registers_after, only_computes, is_free, computing_within, frame_runs, plain_append, after_append, constant_plain, constant_after, constant_length, kind_known, HeldAt, Held, held_regs, frame_there, bytes_of, place_of, place_within, ends_before_result, Setting, setting, none, Runs, Still, looping, never, quiet, weaken, gives, cheaper, along, as_code, Ready, number_same}
@@ -155,7 +153,6 @@ module _ (z : Setting) (offset words : ℕ) (aligned : offset % 4 ≡ 0) (inside
   turn_below : (left i : ℕ) → i < words → Runs z 2 none turn (Turning (suc left) i) (Turned i)
   turn_below left i below =
       let ends = z.ends in
-      let even = z.even in
       gives
       (λ env s t fine given done. (
         record {
@@ -166,7 +163,7 @@ module _ (z : Setting) (offset words : ℕ) (aligned : offset % 4 ≡ 0) (inside
         done.1.bytes,
       ))
       (frame_runs z {P = Turning (suc left) i} is_free turn ((z.frame + (offset + 4 * i)) ∷ []) refl refl
-      (record { even = omega (arith, even, aligned); allowed = (omega arith, omega (arith, inside, below)) }, tt)
+      (record { even = omega (arith, z.even, aligned); allowed = (omega arith, omega (arith, inside, below)) }, tt)
       (λ env s given. (
         given.0.held,
         (
@@ -274,14 +271,12 @@ module _ (z : Setting) (depth x size : ℕ) (typed : IsFilled z.code.profile z.d
   pub clear_runs : Runs z (32 * (1 + size)) none (statement_code z.declared z.controls z.depths depth (clear x size)) (Ready z) (Shown z depth (λ env. after env (clear x size)))
   clear_runs =
       let first = ends_before_result z.declared x d typed.known in
-      let room = z.room in
-      let few = words_few typed.word.kind size in
       as_code (ap (λ k. clear_code place (array_words k size)) (kind_known z.declared x d typed.known))
-      (cheaper (omega (arith, few))
+      (cheaper (omega (arith, words_few typed.word.kind size))
       (weaken
       (λ env s fine ready. ready.held)
       (λ env s t fine ready done. record {
         ready = ready_cleared env s t ready done.0 done.1;
         hidden = λ o low high. ap (λ (m : ByteMap). m (z.frame + o)) done.1 ∙ zeroed_beside s.bytes (z.frame + place) count (z.frame + o) (inr (omega (arith, first, low)));
       })
-      (clear_bytes z place count (omega arith) (omega (arith, first, room)))))
+      (clear_bytes z place count (omega arith) (omega (arith, first, z.room)))))

@@ -6,3 +6,10 @@ pub use Rattle.inline.proofs.Fitting.{value_fits}
 pub use Rattle.rv_machine.proofs.ByteLaws.{number_at-suc, number_at-with_number, number_at-zero, number_at_apart, number_at_same, with_byte_other, with_byte_same, with_number-suc, with_number-zero, with_number_above, with_number_below}
 pub use Rattle.rv_machine.proofs.RunLaws.{Halts-after}
 pub use Rattle.rv_machine.proofs.TurnLaws.{ecall_halts}
+pub use Rattle.std.proofs.lemmas.Bool.{and_from, eq-eqb, eqb-false, eqb-true, false≢true, le-leb}
+pub use Rattle.std.proofs.lemmas.Bool.Decides.{nat_tests}
+pub use Rattle.std.proofs.lemmas.List.{drop_more, get_or-set_other, get_or-set_same, length-map, length-replicate}
+pub use Rattle.std.proofs.lemmas.List.{length-set, nil_from_length, set-get_or, take-append-drop}
+pub use Rattle.std.proofs.lemmas.List.Elements.{All-append, All-replicate, All-set, recursion_from_All}
+pub use Rattle.std.proofs.lemmas.Option.{none-some, same_Some, slice_get_within}
+pub use Rattle.std.specs.Option.{option_map}

@@ -1,10 +1,8 @@
 -- Numbers that are put one after another.
 use Rattle.std.proofs.Common.{◌≡◌, ◌⊎◌, inl, inr, ℕ, zero, suc, ◌+◌, ◌*◌, ◌/◌, ◌%◌, ◌^◌, ◌<◌, ◌≤◌, ◌==◌, Bool, true, false, ◌&&◌, cond, is_some, nat_le, nat_lt, List, [], ◌∷◌, length, Some, None, slice_index, refl, ap, ap₂, ◌∙◌, arith}
-use Rattle.std.proofs.lemmas.Bool.{eqb-true, eqb-false}
-use Rattle.std.proofs.lemmas.Bool.Decides.{nat_tests}
-use Rattle.rv_machine.specs.Bytes.{ByteMap, joined, number_at, with_number, zeros}
+use Rattle.codegen.proofs.Machine.{ByteMap, joined, number_at, with_number, zeros, with_numbers}
+use Rattle.codegen.proofs.Logic.{eqb-true, eqb-false, nat_tests}
 use Rattle.codegen.proofs.Logic.{number_at_same, number_at-with_number, with_number-zero, with_number-suc, with_byte_same, with_byte_other, number_at-zero, number_at-suc, with_number_below, with_number_above}
-use Rattle.codegen.specs.Loaded.{with_numbers}
 
 -- bytes beside them are as they were
 pub numbers_beside : (bytes : ByteMap) (size at : ℕ) (vs : List ℕ) (x : ℕ) → (x < at) ⊎ (at + size * length vs ≤ x) → with_numbers bytes size at vs x ≡ bytes x

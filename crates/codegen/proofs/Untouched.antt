@@ -1,19 +1,14 @@
 -- What a run leaves alone: a register that none of its instructions writes, and a byte beside the accesses that it shows.
 use Rattle.std.proofs.Common.{◌≡◌, ◌≢◌, ◌⊎◌, ℕ, suc, ◌+◌, ◌%◌, ◌<◌, ◌≤◌, Bool, true, false, cond, nat_eq, List, Option, None, Some, All, refl, sym, ◌∙◌, subst, inl, inr, arith}
-use Rattle.codegen.specs.Bases.{IsInside}
 use Rattle.codegen.proofs.Logic.{unwritten, with_number_below, with_number_above}
-use Rattle.rv_code.specs.declared.instructions.Instr.{Instr}
+use Rattle.codegen.proofs.Machine.{IsInside, Instr, Observation, number_at, with_number, effect_of, load_size}
+use Rattle.codegen.proofs.Machine.{store_size, Leads, stays, turns, byte_count}
 use Rattle.rv_machine.specs.declared.effects.Effect.{Effect}
 use Rattle.rv_machine.specs.declared.effects.Effect.TheVariants.{Computes, Multiplies, Divides, Jumps, Branches, Passes, Loads, Stores, Calls, Breaks}
 use Rattle.rv_machine.specs.declared.memory.Size.{Size}
-use Rattle.rv_machine.specs.declared.observation.Observation.{Observation}
-use Rattle.rv_machine.specs.Bytes.{number_at, with_number}
-use Rattle.rv_machine.specs.Effects.{effect_of, load_size, store_size}
-use Rattle.rv_machine.specs.Leakage.{Leads, stays, turns}
 use Rattle.rv_machine.specs.Machine.{State, Code, IsAt, Ending, goes_on, stops, loaded, stored, with_value, with_stored, with_link, moved_to, next, ending_of, Turn, executes}
-use Rattle.rv_machine.specs.Sizes.{byte_count}
 use Rattle.rv_code.specs.declared.operations.LoadOperation.{LoadOperation}
-use Rattle.word.specs.declared.profile.Profile.{Profile}
+use Rattle.codegen.proofs.Language.{Profile}
 
 -- the register that an effect writes, 0 where it writes none
 abbrev pub written_by : Effect → ℕ

@@ -1,26 +1,20 @@
 -- Code that writes working registers alone, x5 and those after it: so is all that is emitted, for expressions, for statements
 -- and for the result. Whether a list does so is computed, but for the lists that it is put together of.
 use Rattle.std.proofs.Common.{◌≡◌, ◌≢◌, ℕ, zero, suc, ◌+◌, ◌/◌, ◌%◌, ◌<◌, ◌≤◌, ◌==◌, ◌&&◌, Bool, true, false, cond, nat_lt, nat_le, List, [], ◌∷◌, ◌++◌, map, Option, None, Some, slice_get, refl, ◌∙◌, subst, arith}
-use Rattle.std.proofs.lemmas.Bool.{eqb-true, false≢true}
-use Rattle.std.proofs.lemmas.Bool.Decides.{nat_tests}
-use Rattle.std.proofs.lemmas.Option.{none-some, same_Some}
-use Rattle.codegen.proofs.Language.{StraightTree, set, clear, fill, put, take, set_under, put_under, branch, repeats}
-use Rattle.codegen.proofs.Language.{StraightBlock, nothing, first, FlatVariable, TermTree, number, truth, variable}
-use Rattle.codegen.proofs.Language.{prefix, binary, rotate, convert, select, element, Kind, Uint16}
-use Rattle.codegen.proofs.Language.{Uint32, BinaryOperator, PrefixOperator, element_bytes, Width, W8, W16, W32}
-use Rattle.codegen.specs.private.Emitted.{within_code, element_store_code, fill_code, statement_code, block_code}
-use Rattle.codegen.specs.private.Generated.{result_code}
-use Rattle.codegen.specs.private.Jumps.{branch_code, loop_code}
+use Rattle.codegen.proofs.Machine.{within_code, element_store_code, fill_code, statement_code, block_code, result_code}
+use Rattle.codegen.proofs.Machine.{branch_code, loop_code, register_count, has_register, home, slot_of, Instr, IsInstr}
+use Rattle.codegen.proofs.Machine.{store_opcode, branch_opcode, effect_of}
+use Rattle.codegen.proofs.Language.{StraightTree, branch, repeats, StraightBlock, nothing, first, FlatVariable}
+use Rattle.codegen.proofs.Language.{TermTree, prefix, binary, rotate, convert, select, element, Kind, Uint16, Uint32}
+use Rattle.codegen.proofs.Language.{BinaryOperator, PrefixOperator, element_bytes, Width, W8, W16, W32}
+use Rattle.codegen.proofs.Logic.{eqb-true, false≢true, nat_tests, none-some, same_Some}
 use Rattle.codegen.proofs.Untouched.{written_by}
-use Rattle.expression_code.specs.Registers.{register_count, has_register, home, slot_of}
-use Rattle.expression_code.specs.TermCode.{is_near, load_code, store_code, constant_code, fetch_code, keep_code, cut_code, Step, between, turned, product, division, step_code, Finish, alone, gives_zero, gives_more, narrowed, of_truths, finish_code, row_of, operator_code, prefix_code, around_code, scale_code, raise_code, expr_code}
+use Rattle.expression_code.specs.TermCode.{is_near, load_code, store_code, constant_code, fetch_code, keep_code, cut_code, Step, between, step_code, Finish, alone, finish_code, row_of, operator_code, prefix_code, around_code, scale_code, raise_code, expr_code}
 use Rattle.language.specs.declared.tree.PrefixOperator.TheVariants as prefixes
-use Rattle.rv_code.specs.declared.instructions.Instr.{Instr}
-use Rattle.rv_code.specs.declared.instructions.Instr.TheVariants.{Upper, Jump, JumpRegister, Branch, Load, Store, Immediate, Shift, Register, Multiply, Divide}
+use Rattle.rv_code.specs.declared.instructions.Instr.TheVariants.{Upper, Jump, Branch, Load, Store, Immediate, Shift, Register, Multiply, Divide}
 use Rattle.rv_code.specs.declared.operations.UpperOperation.TheVariants.{Lui, Auipc}
-use Rattle.rv_code.specs.Words.{word_of, IsInstr, store_opcode, branch_opcode}
+use Rattle.rv_code.specs.Words.{word_of}
 use Rattle.rv_machine.specs.declared.effects.Effect.TheVariants.{Branches, Passes}
-use Rattle.rv_machine.specs.Effects.{effect_of}
 
 abbrev pub is_working : ℕ → Bool
 is_working r = nat_le 5 r && nat_lt r 32
@@ -80,16 +74,9 @@ module _ (r : ℕ) (some : 0 < r) (low : r < 5) where
   unfolding word_of
   calm_keeps (Upper Lui rd immediate) ok calm pc regs e = calm (λ h. omega (arith, h)) (λ h. omega (arith, h)) (omega (arith, e, ok))
   calm_keeps (Upper Auipc rd immediate) ok calm pc regs e = calm (λ h. omega (arith, h)) (λ h. omega (arith, h)) (omega (arith, e, ok))
-  calm_keeps (Jump rd offset) ok calm pc regs e = calm (λ h. omega (arith, h)) (λ h. omega (arith, h)) (omega (arith, e, ok))
-  calm_keeps (JumpRegister rd rs1 offset) ok calm pc regs e = calm (λ h. omega (arith, h)) (λ h. omega (arith, h)) (omega (arith, e, ok))
   calm_keeps (Branch test rs1 rs2 offset) ok calm pc regs e = let none : written_by (effect_of (Branch test rs1 rs2 offset) pc regs) ≡ 0 = branch_writes _ _ in omega (arith, e ∙ none)
-  calm_keeps (Load operation rd rs1 offset) ok calm pc regs e = calm (λ h. omega (arith, h)) (λ h. omega (arith, h)) (omega (arith, e, ok))
-  calm_keeps (Immediate operation rd rs1 immediate) ok calm pc regs e = calm (λ h. omega (arith, h)) (λ h. omega (arith, h)) (omega (arith, e, ok))
-  calm_keeps (Shift operation rd rs1 amount) ok calm pc regs e = calm (λ h. omega (arith, h)) (λ h. omega (arith, h)) (omega (arith, e, ok))
-  calm_keeps (Register operation rd rs1 rs2) ok calm pc regs e = calm (λ h. omega (arith, h)) (λ h. omega (arith, h)) (omega (arith, e, ok))
-  calm_keeps (Multiply operation rd rs1 rs2) ok calm pc regs e = calm (λ h. omega (arith, h)) (λ h. omega (arith, h)) (omega (arith, e, ok))
-  calm_keeps (Divide operation rd rs1 rs2) ok calm pc regs e = calm (λ h. omega (arith, h)) (λ h. omega (arith, h)) (omega (arith, e, ok))
-  calm_keeps other ok calm pc regs e = omega (arith, e)
+  calm_keeps (Store operation rs2 rs1 offset) ok calm pc regs e = omega (arith, e)
+  calm_keeps other ok calm pc regs e = calm (λ h. omega (arith, h)) (λ h. omega (arith, h)) (omega (arith, e, ok))
 
   pub calm_word : (is : List Instr) → all_work is ≡ true → (k w : ℕ) → slice_get (map word_of is) k ≡ Some w → IsCalm w
   calm_word [] works k w is = absurd (none-some w is)
@@ -141,16 +128,11 @@ cut_works r W32 works = refl
 
 step_works : (l r : ℕ) (step : Step) → is_working l ≡ true → writes_working (step_code l r step) ≡ true
 step_works l r (between operation) works = works
-step_works l r (turned operation) works = works
-step_works l r product works = works
-step_works l r (division operation) works = works
+step_works l r step works = works
 
 finish_works : (l r : ℕ) (w : Width) (f : Finish) (i : Instr) → is_working l ≡ true → is_working r ≡ true → writes_working i ≡ true → all_work (finish_code l r w f i) ≡ true
 finish_works l r w alone i one other works = simp works
-finish_works l r w gives_zero i one other works = simp (works, one)
-finish_works l r w gives_more i one other works = simp (works, one)
-finish_works l r w narrowed i one other works = simp (works, cut_works, one)
-finish_works l r w of_truths i one other works = simp (works, one, other)
+finish_works l r w f i one other works = simp (works, cut_works, one, other)
 
 operator_works : (l r : ℕ) (o : BinaryOperator) (w : Width) → is_working l ≡ true → is_working r ≡ true → all_work (operator_code l r o w) ≡ true
 operator_works l r o w one other = finish_works l r w (row_of o).finish (step_code l r (row_of o).step) one other (step_works l r (row_of o).step one)
@@ -181,9 +163,6 @@ ruleset pieces_work = (work_then, home_works, load_works, store_works, constant_
 -- Expressions.
 
 expr_works : (declared : List FlatVariable) (free place : ℕ) (e : TermTree) → all_work (expr_code declared free place e) ≡ true
-expr_works declared free place (number value kind) = simp pieces_work
-expr_works declared free place (truth value) = simp pieces_work
-expr_works declared free place (variable x) = simp pieces_work
 expr_works declared free place (prefix operator width operand) = simp (pieces_work, expr_works declared free place operand)
 expr_works declared free place (binary source operator width left right) =
     simp (pieces_work, expr_works declared free place left, expr_works declared free (place + 1) right)
@@ -192,6 +171,7 @@ expr_works declared free place (convert kind operand) = simp (pieces_work, expr_
 expr_works declared free place (select condition accepted otherwise) =
     simp (pieces_work, expr_works declared free place condition, expr_works declared free (place + 1) accepted, expr_works declared free (place + 2) otherwise)
 expr_works declared free place (element source x size index) = simp (pieces_work, expr_works declared free place index)
+expr_works declared free place e = simp pieces_work
 
 -- Statements.
 
@@ -214,15 +194,9 @@ ruleset statements_work = (pieces_work, expr_works, within_works, fill_works, br
 module _ (declared : List FlatVariable) (controls depths : ℕ) where
   mutual
     statement_works : (depth : ℕ) (s : StraightTree) → all_work (statement_code declared controls depths depth s) ≡ true
-    statement_works depth (set x value) = simp statements_work
-    statement_works depth (clear x size) = simp statements_work
-    statement_works depth (fill x values) = simp statements_work
-    statement_works depth (put place x size index value) = simp statements_work
-    statement_works depth (take control within condition) = simp statements_work
-    statement_works depth (set_under control x value) = simp statements_work
-    statement_works depth (put_under control place x size index value) = simp statements_work
     statement_works depth (branch condition accepted otherwise) = simp (statements_work, block_works depth accepted, block_works depth otherwise)
     statement_works depth (repeats x low high body) = simp (statements_work, block_works (depth + 1) body)
+    statement_works depth s = simp statements_work
 
     pub block_works : (depth : ℕ) (b : StraightBlock) → all_work (block_code declared controls depths depth b) ≡ true
     block_works depth nothing = refl

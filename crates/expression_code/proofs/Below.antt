@@ -5,8 +5,10 @@ pub use Rattle.branch_removal.specs.StraightMeaning.{StraightState}
 pub use Rattle.expression_code.specs.Computed.{IsComputed, IsSiteOf, Site}
 pub use Rattle.expression_code.specs.Inside.{IsInside}
 pub use Rattle.expression_code.specs.Layout.{control_offset, next_offset, result_offset, temporaries_offset, variable_offset}
+pub use Rattle.expression_code.specs.Layout.{Frame, offsets_from, slots_from}
 pub use Rattle.expression_code.specs.Registers.{home, register_count, slot_of, slots_to}
 pub use Rattle.expression_code.specs.TermCode.{address_code, around_code, between, choice_code, constant_code, cut_code, element_code, expr_code, fetch_code, Finish, finish_code, height_of, IsAmong, keep_code, load_by, load_code, lower_part, narrowed, operator_code, prefix_code, raise_code, rotate_code, row_of, scale_code, Step, step_code, store_code, turned, upper_part}
+pub use Rattle.expression_code.specs.TermCode.{kind_at}
 pub use Rattle.image_fields.specs.declared.slot.Slot.{Slot}
 pub use Rattle.inline.proofs.Fitting.{value_fits}
 pub use Rattle.inline.specs.Fitting.{Fits, IsWithinKind}
@@ -20,6 +22,7 @@ pub use Rattle.language.specs.Operators.{operated, prefix_value, width_of}
 pub use Rattle.language.specs.Size.{element_bytes, held_words}
 pub use Rattle.language.specs.declared.signature.Form.{Form}
 pub use Rattle.language.specs.declared.signature.Kind.{Kind}
+pub use Rattle.language.specs.declared.signature.Kind.TheVariants.{Boolean, Uint16, Uint32}
 pub use Rattle.language.specs.declared.signature.Label.{Label}
 pub use Rattle.language.specs.declared.signature.Param.{Param}
 pub use Rattle.language.specs.declared.tree.BinaryOperator.{BinaryOperator}
@@ -37,6 +40,7 @@ pub use Rattle.rv_machine.proofs.ByteLaws.{number_at-suc, number_at-with_number,
 pub use Rattle.rv_machine.proofs.TurnLaws.{divide_leads, multiply_leads, with_value-bytes, with_value-pc, with_value-regs}
 pub use Rattle.rv_machine.specs.Bytes.{ByteMap, joined, number_at, with_number}
 pub use Rattle.rv_machine.specs.Effects.{address_of, divide_value, immediate_value, load_size, loaded_value, multiply_value, register_value, shift_value, sign_extended, store_size, sum_of}
+pub use Rattle.rv_machine.specs.Effects.{difference_of}
 pub use Rattle.rv_machine.specs.Leakage.{Leads}
 pub use Rattle.rv_machine.specs.Machine.{Code, IsAt, product_shown, State, with_value}
 pub use Rattle.rv_machine.specs.Registers.{register, with_register}
@@ -47,6 +51,7 @@ pub use Rattle.rv_machine.specs.declared.observation.Observation.{Observation}
 pub use Rattle.std.proofs.Math.Path.{fun_ext}
 pub use Rattle.std.proofs.lemmas.Bool.Decides.{nat_tests}
 pub use Rattle.std.proofs.lemmas.Bool.{eqb-true, false≢true, lt-ltb, ltb-false, ltb-true, true≢false}
+pub use Rattle.std.proofs.lemmas.Nat.{and_mask, mod_below, mul-le, pow_pos, xor_of_32}
 pub use Rattle.word.specs.Operators.{converted, rotated_left, word_of}
 pub use Rattle.word.specs.Widths.{bits}
 pub use Rattle.word.specs.declared.place.Place.{Place}

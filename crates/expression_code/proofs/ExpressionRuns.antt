@@ -179,7 +179,6 @@ module _ (z : Setting) (free : ℕ) (aligned : free % 4 ≡ 0) (above : base_of 
       let load = load_by word.kind in
       let bytes = load_bytes word.kind in
       let h = place_ends z x d i known below in
-      let ends = z.ends in
       gives
       (λ env s t fine given done.
       let one = done.first in
@@ -201,7 +200,7 @@ module _ (z : Setting) (free : ℕ) (aligned : free % 4 ≡ 0) (above : base_of 
       })
       (quiet
       (weaken
-      (λ env s fine given. (given.given.0.held, given.given.1 ∙ given.is, omega (arith, h, ends)))
+      (λ env s fine given. (given.given.0.held, given.given.1 ∙ given.is, omega (arith, h, z.ends)))
       (λ env s t fine given done. done)
       (address_runs z r pair.one pair.apart word.kind o (λ env. i)))
       (loading z r (lower_part o) a pair.one.small (lower_fits o) load r pair.one.low pair.one.small (ap (λ n. a % n) bytes ∙ place_even z.declared x d i) (omega (arith, h, bytes)))

@@ -134,13 +134,7 @@ module _ {l r : ℕ} (pair : ArePair l r) where
   operator_plain Multiply w plain = absurd (false≢true plain)
   operator_plain Divide w plain = absurd (false≢true plain)
   operator_plain Remainder w plain = absurd (false≢true plain)
-  operator_plain Either w plain = simp (ll, rl, rr, l32, r32)
-  operator_plain Both w plain = simp (ll, rl, rr, l32, r32)
-  operator_plain ShiftLeft w plain = simp (ll, l32, r32, cut_plain w)
-  operator_plain ShiftRight w plain = simp (ll, l32, r32, cut_plain w)
-  operator_plain Add w plain = simp (ll, l32, r32, cut_plain w)
-  operator_plain Subtract w plain = simp (ll, l32, r32, cut_plain w)
-  operator_plain operator w plain = simp (ll, l32, r32)
+  operator_plain operator w plain = simp (ll, rl, rr, l32, r32, cut_plain w)
 
   pub operator_made : (operator : BinaryOperator) (w : Width) → is_plain (row_of operator).step ≡ true → (regs : ℕ → ℕ) → regs l < 2 ^ 32 → regs r < 2 ^ 32
       → registers_after (operator_code l r operator w) regs l ≡ operated operator w (regs l) (regs r)
