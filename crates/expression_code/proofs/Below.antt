@@ -28,7 +28,7 @@ pub use Rattle.language.specs.declared.signature.Param.{Param}
 pub use Rattle.language.specs.declared.tree.BinaryOperator.{BinaryOperator}
 pub use Rattle.language.specs.declared.tree.PrefixOperator.{PrefixOperator}
 pub use Rattle.language.specs.declared.typing.WordType.{WordType}
-pub use Rattle.program_logic.proofs.Computing.{after_append, computing, only_computes, plain_append, register_left, registers_after}
+pub use Rattle.program_logic.proofs.Computing.{after_append, all_straight, no_access_fit, no_access_met, only_computes, plain_append, register_left, registers_after, registers_of}
 pub use Rattle.program_logic.proofs.Face.{All-one, along, along_fit, always, as_code, beside, both, both_left, both_right, branching_at, by_mark, cheaper, Contents, contents_of, Ends, ends_as, ends_by, ends_on, ends_to, gives, idle, Known, Leak, looping, never, none, number_or_zero, Placed, Placed-below, Placed-left, Placed-right, quiet, quietly, seq, stands, Still, Straight, Then, then_ends, turn_ends, weaken, with_result}
 pub use Rattle.rv_code.specs.Words.{IsInstr}
 pub use Rattle.rv_code.specs.declared.instructions.Instr.{Instr}
@@ -36,7 +36,7 @@ pub use Rattle.rv_code.specs.declared.operations.DivideOperation.{DivideOperatio
 pub use Rattle.rv_code.specs.declared.operations.LoadOperation.{LoadOperation}
 pub use Rattle.rv_code.specs.declared.operations.MultiplyOperation.{MultiplyOperation}
 pub use Rattle.rv_code.specs.declared.operations.StoreOperation.{StoreOperation}
-pub use Rattle.rv_machine.proofs.ByteLaws.{number_at-suc, number_at-with_number, number_at-zero, number_at_same, with_number_below}
+pub use Rattle.rv_machine.proofs.ByteLaws.{number_at-suc, number_at-with_number, number_at-zero, number_at_same, with_number_above, with_number_below}
 pub use Rattle.rv_machine.proofs.TurnLaws.{divide_leads, multiply_leads, with_value-bytes, with_value-pc, with_value-regs}
 pub use Rattle.rv_machine.specs.Bytes.{ByteMap, joined, number_at, with_number}
 pub use Rattle.rv_machine.specs.Effects.{address_of, divide_value, immediate_value, load_size, loaded_value, multiply_value, register_value, shift_value, sign_extended, store_size, sum_of}

@@ -6,7 +6,7 @@ use Rattle.rv_code.specs.declared.operations.RegisterOperation.TheVariants.{Add}
 use Rattle.expression_code.proofs.Below.{address_code, address_of, after_append, byte_count, cheaper, element_bytes, Instr, Kind, load_by, load_size, loaded_value, lower_part, lt-ltb, nat_tests, none, only_computes, plain_append, registers_after, scale_code, sign_extended, State, StraightState, sum_of, upper_part, weaken}
 use Rattle.language.specs.declared.signature.Kind.TheVariants.{Boolean, Uint16, Uint32}
 use Rattle.expression_code.proofs.Arithmetic.{upper_fits}
-use Rattle.expression_code.proofs.OperatorCode.{either_of, ll, lr, rl, l0, l32, base_beside, kept_beside}
+use Rattle.expression_code.proofs.OperatorCode.{either_of, ll, lr, rl, l0, l32, low_beside, kept_beside}
 use Rattle.expression_code.proofs.TermLengths.{address_length}
 use Rattle.expression_code.proofs.Frame.{Setting, Runs, HeldAt, Held}
 use Rattle.expression_code.proofs.Homes.{IsFree, ArePair, free_from}
@@ -81,4 +81,4 @@ module _ (z : Setting) (r : ℕ) (free : IsFree r) (apart : r ≢ 28) where
         others = λ q other another. ap (λ (regs : ℕ → ℕ). regs q) done.registers ∙ kept_beside pair (scale ++ sum_code near o) plain s.regs q other another;
         same = done.same;
       })
-      (computing_within z (either_of r 28) (scale ++ sum_code near o) plain (base_beside pair)))
+      (computing_within z (either_of r 28) (scale ++ sum_code near o) plain (low_beside pair)))

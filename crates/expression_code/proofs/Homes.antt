@@ -5,7 +5,7 @@ use Rattle.expression_code.proofs.Below.{home, nat_tests, register_count}
 -- a register that code may work on
 pub record IsFree (r : ℕ) : Type 0 where
   pub small : r < 32
-  pub low : 2 < r
+  pub low : 4 < r
   pub nonzero : r ≢ 0
   pub not_base : r ≢ 2
 

@@ -109,8 +109,8 @@ module _ {l r : ℕ} (pair : ArePair l r) where
   r32 = lt-ltb r 32 pair.other.small
 
   -- any other register is as it was
-  pub base_beside : either_of l r 2 ≡ false
-  base_beside = simp (ne_eqb 2 l (λ e. pair.one.not_base (sym e)), ne_eqb 2 r (λ e. pair.other.not_base (sym e)))
+  pub low_beside : (q : ℕ) → q < 5 → either_of l r q ≡ false
+  low_beside q below = simp (ne_eqb q l (λ e. omega (arith, pair.one.low, below, e)), ne_eqb q r (λ e. omega (arith, pair.other.low, below, e)))
 
   pub kept_beside : (is : List Instr) → only_computes (either_of l r) is ≡ true → (regs : ℕ → ℕ) (q : ℕ) → q ≢ l → q ≢ r → registers_after is regs q ≡ regs q
   kept_beside is plain regs q first second = register_left (either_of l r) is regs q plain (simp (ne_eqb q l first, ne_eqb q r second))
