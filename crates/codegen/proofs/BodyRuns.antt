@@ -1,9 +1,9 @@
 -- The code of a program, run: its body wherever its words stand, and the loaded image to its end. So the image is the code's.
-use Rattle.std.proofs.Common.{◌≡◌, inr, ℕ, ◌+◌, ◌*◌, ◌<◌, ◌≤◌, List, [], ◌∷◌, ◌++◌, length, map, drop, Some, slice_get, slice_index, is_some, refl, sym, ap, ap₂, ◌∙◌, subst, arith, None, Option}
+use Rattle.std.proofs.Common.{◌≡◌, ℕ, ◌+◌, ◌*◌, ◌≤◌, List, [], ◌∷◌, ◌++◌, length, map, drop, Some, slice_get, slice_index, is_some, refl, sym, ap, ap₂, ◌∙◌, subst, arith, None, Option}
 use Rattle.codegen.proofs.Language.{AreWithin, StraightProgram, StraightState, after_all, path_along, outcome_of}
 use Rattle.codegen.proofs.Language.{path_of, FlatVariable, types_of, Path, AreFine, seen, Arg, Profile, declaration_of}
 use Rattle.codegen.proofs.Language.{Param, WordType}
-use Rattle.codegen.proofs.Logic.{length-map, All-append, option_map}
+use Rattle.codegen.proofs.Logic.{length-map, All-append, option_map, setting as pieces_of}
 use Rattle.branch_removal.specs.StraightMeaning.{start as start_of}
 use Rattle.codegen.proofs.Machine.{body_words, Stand, IsPlaced, IsLoaded, RunsBehind, IsFollowedIn, loaded_at}
 use Rattle.codegen.proofs.Machine.{results_in, code_at, block_code, depth_in_all, program_base, program_code}
@@ -12,11 +12,9 @@ use Rattle.codegen.proofs.Machine.{word_of, Observation, number_at, Leads, Halts
 use Rattle.codegen.proofs.Machine.{IsFollowed, IsGenerated, Ecall, type_in, Slot}
 use Rattle.codegen.proofs.Arguments.{loaded, parameters_first, LiesAt, arrays_are, returned_is}
 use Rattle.codegen.proofs.SetRuns.{steps_of_result, Given, result_runs}
-use Rattle.codegen.proofs.Standing.{words_alone, body_words_before, placed_alone, word_alone, leads_among, stand_placed, placed}
+use Rattle.codegen.proofs.Standing.{words_alone, body_words_before, placed_alone, leads_among, stand_placed, placed}
 use Rattle.codegen.proofs.StatementRuns.{block_runs}
-use Rattle.codegen.proofs.Untouched.{IsFree, leads_leave}
-use Rattle.codegen.proofs.WorkingRegisters.{calm_keeps, calm_word, body_works}
-use Rattle.codegen.proofs.Logic.{setting as pieces_of, bytes_of, place_of, Setting, seen_by, Straight, Steps, Runs, seq, gives, cheaper, beside, Ready, ready_below, All-one, Placed, Placed-left, Placed-right, Halts-after, ecall_halts}
+use Rattle.codegen.proofs.Logic.{bytes_of, place_of, Setting, seen_by, Straight, Steps, Runs, seq, gives, cheaper, beside, Ready, ready_below, All-one, Placed, Placed-left, Placed-right, Halts-after, ecall_halts}
 use Rattle.rv_code.specs.declared.instructions.Instr.TheVariants as instr
 use Rattle.rv_machine.specs.Machine as machine
 use Rattle.codegen.proofs.ImageLemmas.{room_frame}
@@ -41,14 +39,6 @@ body_words-image p = body_words_before (body_code p) instr.Ecall
 
 pub body_length : (p : StraightProgram) → length (body_words (image_of p).words) ≡ length (body_code p)
 body_length p = ap (λ (ws : List ℕ). length ws) (body_words-image p) ∙ length-map {B = ℕ} (body_code p) word_of
-
--- none of its instructions writes one of the first five registers
-body_free : (p : StraightProgram) (profile : Profile) (start r : ℕ) → 0 < r → r < 5 → IsFree (words_alone profile start (map word_of (body_code p))) r
-unfolding body_code
-body_free p profile start r some low q i at regs =
-    let found = word_alone profile start (map word_of (body_code p)) q (word_of i) at.word in
-    let works = body_works p.declared p.controls (depth_in_all p.body) (program_base p) p.body p.value in
-    calm_keeps r some low i at.in_range (calm_word r some low (body_code p) works found.number (word_of i) found.is) q regs
 
 module _ (p : StraightProgram) (room : HasRoom p) (code : Code) (start frame : ℕ) (there : IsPlaced (image_of p) code start frame) where
   -- as if the body's words stood alone
@@ -137,8 +127,8 @@ module _ (p : StraightProgram) (room : HasRoom p) (code : Code) (start frame : �
           within_frame = done.inside;
           behind = done.at ∙ ap (λ n. start + 4 * n) (sym (body_length p));
           base = done.done.ready.held.base;
-          untouched = λ r is. (leads_leave setting.code frame (image_of p).frame_bytes r (frame + (image_of p).frame_bytes) (body_free p p.profile start r (omega (arith, is)) (omega (arith, is))) (inr (omega arith)) done.leads done.inside).0;
-          beside = λ a apart. (leads_leave setting.code frame (image_of p).frame_bytes 1 a (body_free p p.profile start 1 (omega arith) (omega arith)) apart done.leads done.inside).1;
+          untouched = λ r is. done.keeps.regs r (omega (arith, is));
+          beside = done.keeps.beside;
           frame_there = done.done.ready.held.data_there;
         };
         outcome = outcome args s done.end done.done;

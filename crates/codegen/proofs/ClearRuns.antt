@@ -8,7 +8,7 @@ use Rattle.codegen.proofs.Language.{after, IsFilled, Kind, Boolean, array_words}
 use Rattle.codegen.proofs.Logic.{nat_tests, eqb-true, eqb-false, length-replicate}
 use Rattle.rv_code.specs.declared.instructions.Instr.TheVariants as instr
 use Rattle.rv_machine.specs.Machine as machine
-use Rattle.codegen.proofs.Logic.{with_number-suc, with_byte_same, with_byte_other, registers_after, only_computes, is_free, computing_within, frame_runs, plain_append, after_append, constant_plain, constant_after, constant_length, kind_known, HeldAt, Held, held_regs, frame_there, bytes_of, place_of, place_within, ends_before_result, Setting, setting, none, Runs, Still, looping, never, quiet, weaken, gives, cheaper, along, as_code, Ready, number_same}
+use Rattle.codegen.proofs.Logic.{with_number-suc, with_byte_same, with_byte_other, registers_after, only_computes, is_free, computing_within, frame_runs, plain_append, after_append, constant_plain, constant_after, constant_length, kind_known, HeldAt, Held, held_regs, frame_there, bytes_of, place_of, place_within, ends_before_result, Setting, setting, none, none_low, Runs, Still, looping, never, quiet, weaken, gives, cheaper, along, as_code, Ready, number_same}
 use Rattle.codegen.proofs.Arguments.{zero_at, held_zeros}
 use Rattle.codegen.proofs.Numbers.{numbers_beside, zero_number}
 use Rattle.codegen.proofs.Slots.{Shown, ready_changed}
@@ -113,7 +113,7 @@ module _ (z : Setting) (offset words : ℕ) (aligned : offset % 4 ≡ 0) (inside
         },
         done.same,
       ))
-      (computing_within z is_free begin_code begin_plain refl))
+      (computing_within z is_free begin_code begin_plain none_low))
 
   -- The loop.
 
@@ -148,7 +148,7 @@ module _ (z : Setting) (offset words : ℕ) (aligned : offset % 4 ≡ 0) (inside
         ap (λ (regs : ℕ → ℕ). regs 5) done.registers ∙ (ap₂ difference_of given.0.seven given.0.six ∙ omega (arith, ends, inside, count)),
         done.same,
       ))
-      (computing_within z is_free test refl refl)
+      (computing_within z is_free test refl none_low)
 
   turn_below : (left i : ℕ) → i < words → Runs z 2 none turn (Turning (suc left) i) (Turned i)
   turn_below left i below =
@@ -162,7 +162,7 @@ module _ (z : Setting) (offset words : ℕ) (aligned : offset % 4 ≡ 0) (inside
         },
         done.1.bytes,
       ))
-      (frame_runs z {P = Turning (suc left) i} is_free turn ((z.frame + (offset + 4 * i)) ∷ []) refl refl
+      (frame_runs z {P = Turning (suc left) i} is_free turn ((z.frame + (offset + 4 * i)) ∷ []) refl none_low
       (record { even = omega (arith, z.even, aligned); allowed = (omega arith, omega (arith, inside, below)) }, tt)
       (λ env s given. (
         given.0.held,

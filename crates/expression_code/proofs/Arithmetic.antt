@@ -6,10 +6,6 @@ use Rattle.std.specs.Int.{bit_at}
 use Rattle.std.specs.Int.Bits.{and_zero_r, xor_zero_r}
 use Rattle.std.proofs.lemmas.Nat.Bits.{bit_at_xor, bit_at-lt, same_from_bits}
 
--- a field of twelve bits with its sign
-pub near_field : (f : ℕ) → f < 2048 → sign_extended 12 f ≡ f
-near_field f h = grind (arith, nat_tests)
-
 -- the upper and the lower part make the number
 pub parts : (n : ℕ) → n < 2 ^ 32 → sum_of (upper_part n * 2 ^ 12) (sign_extended 12 (lower_part n)) ≡ n
 parts n below = grind (arith, nat_tests)
