@@ -1,5 +1,5 @@
 -- The code of a loop, and of a branch on what is public.
-use Rattle.std.proofs.Common.{◌≡◌, ℕ, zero, suc, ◌+◌, ◌-◌, ◌*◌, ◌%◌, ◌^◌, ◌<◌, ◌≤◌, true, false, nat_lt, List, [], ◌∷◌, ◌++◌, length, Some, slice_get, slice_index, refl, sym, ap, ap₂, ◌∙◌, subst, arith, inr, append_assoc, ◌≢◌, ◌==◌, cond, ne_eqb}
+use Rattle.std.proofs.Common.{◌≡◌, ℕ, suc, ◌+◌, ◌-◌, ◌*◌, ◌%◌, ◌^◌, ◌<◌, ◌≤◌, false, nat_lt, List, [], ◌∷◌, ◌++◌, length, Some, slice_get, slice_index, refl, sym, ap, ap₂, ◌∙◌, subst, arith, inr, append_assoc, ◌≢◌, ◌==◌, cond, ne_eqb}
 use Rattle.std.proofs.lemmas.Bool.Decides.{nat_tests}
 use Rattle.std.proofs.lemmas.Nat.{mul-le}
 use Rattle.codegen.proofs.Language.{TermTree, word_as, value_in, path_in, turns, path_of_turns, Path, bounded}
@@ -37,17 +37,10 @@ pub hidden_below : (z : Setting) (depth free : ℕ) (s t : machine.State) → ne
 hidden_below z depth free s t above kept o low high = kept o (omega (arith, high, above))
 
 is_left : (bound i left : ℕ) → bound - i ≡ left → nat_lt i bound ≡ nat_lt 0 left
-is_left bound i zero e =
-    let no : bound ≤ i = omega (arith, e) in
-    grind (arith, nat_tests)
-is_left bound i (suc left) e =
-    let yes : i < bound = omega (arith, e) in
-    grind (arith, nat_tests)
+is_left bound i left e = grind (arith, nat_tests, e)
 
 some_left : (left : ℕ) → word_of (nat_lt 0 (suc left)) ≡ 1
-some_left left =
-    let more : nat_lt 0 (suc left) ≡ true = grind (arith, nat_tests) in
-    ap word_of more
+some_left left = grind (arith, nat_tests)
 
 module _ (z : Setting) (depth : ℕ) (within : depth < z.depths) where
   abbrev next : ℕ

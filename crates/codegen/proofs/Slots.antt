@@ -6,10 +6,10 @@ use Rattle.codegen.proofs.Machine.{with_number, slots_to, height_of, expr_code, 
 use Rattle.codegen.proofs.Language.{StraightState, with_variable, with_element, with_controls, FlatVariable, numbers_in}
 use Rattle.codegen.proofs.Language.{IsWithinKind, word_as, TermTree, term_nodes, Boolean, WordType, value_in, types_of}
 use Rattle.codegen.proofs.Language.{IsHeld, Fits, Kind, Uint32, bits_of, Values, HasType, Suits, Profile}
-use Rattle.codegen.proofs.Logic.{nat_tests, length-set, get_or-set_same, get_or-set_other, set-get_or, All-set}
+use Rattle.codegen.proofs.Logic.{length-set, get_or-set_same, get_or-set_other, set-get_or, All-set}
 use Rattle.codegen.proofs.Logic.{same_Some, eqb-true, eqb-false}
 use Rattle.inline.specs.FlatSize.{words_of}
-use Rattle.codegen.proofs.Logic.{number_at_apart, number_at-with_number, with_number_above, HeldAt, mask_of, mask_fits, bytes_by, bytes_of, place_of, place_within, ends_before_result, apart_from, elements_apart, Setting, base_of, Kept, Ready, Wrote, wrote_kept, wrote_there, number_same, variables_kept, Before, After, Steps, Then, Still, steps_of, expr_runs, held_regs, is_free, put, then_moves, setting, Runs, gives, cheaper, kept_less, kept_by, ready_below, ready_after, kept_then, value_fits}
+use Rattle.codegen.proofs.Logic.{number_at_apart, number_at-with_number, with_number_above, HeldAt, mask_of, mask_fits, bytes_by, bytes_of, place_of, place_within, ends_before_result, apart, apart_from, elements_apart, Setting, base_of, Kept, Ready, Wrote, wrote_kept, wrote_there, number_same, variables_kept, Before, After, Steps, Then, Still, steps_of, expr_runs, held_regs, is_free, put, then_moves, setting, Runs, gives, cheaper, kept_less, kept_by, ready_below, ready_after, kept_then, value_fits}
 use Rattle.rv_machine.specs.Machine as machine
 
 -- the words of the loops that are around are as they were
@@ -160,15 +160,7 @@ module _ (z : Setting) where
 
   -- two control values lie apart
   controls_apart : (y c : ℕ) → (y == c) ≡ false → (control_offset z.declared y + 4 ≤ control_offset z.declared c) ⊎ (control_offset z.declared c + 4 ≤ control_offset z.declared y)
-  controls_apart y c h = by_order (nat_lt y c) refl
-    where
-      by_order : (b : Bool) → nat_lt y c ≡ b → (control_offset z.declared y + 4 ≤ control_offset z.declared c) ⊎ (control_offset z.declared c + 4 ≤ control_offset z.declared y)
-      by_order true e =
-          let below : y < c = grind (arith, nat_tests) in
-          inl (omega (arith, below))
-      by_order false e =
-          let above : c < y = grind (arith, nat_tests) in
-          inr (omega (arith, above))
+  controls_apart y c h = apart c y _ h (λ below. inl (omega (arith, below))) (λ above. inr (omega (arith, above)))
 
   -- both control values of a condition are set
   module _ (c : ℕ) (f g : Bool) (among : c + 1 < z.controls) (env : StraightState) (s t u : machine.State) (ready : Ready z env s)

@@ -4,8 +4,7 @@ use Rattle.codegen.proofs.Language.{statement_nodes, block_nodes, statement_work
 use Rattle.codegen.proofs.Language.{fill, put, take, set_under, put_under, branch, repeats, StraightBlock, nothing}
 use Rattle.codegen.proofs.Language.{first, after, after_all, path_at, path_along, IsTyped, AreTyped, labelled, Boolean}
 use Rattle.codegen.proofs.Language.{Public}
-use Rattle.codegen.specs.private.Emitted.{statement_code, block_code, height_in, height_in_all, depth_in, depth_in_all}
-use Rattle.expression_code.specs.Registers.{slots_to}
+use Rattle.codegen.proofs.Machine.{statement_code, block_code, height_in, height_in_all, depth_in, depth_in_all, slots_to}
 use Rattle.codegen.proofs.ElementRuns.{put_runs, put_under_runs, fill_runs}
 use Rattle.codegen.proofs.LoopRuns.{branch_runs, repeats_runs}
 use Rattle.codegen.proofs.ClearRuns.{clear_runs}

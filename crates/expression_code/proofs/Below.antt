@@ -49,7 +49,7 @@ pub use Rattle.rv_machine.specs.declared.observation.Event.{Event}
 pub use Rattle.rv_machine.specs.declared.observation.Observation.{Observation}
 pub use Rattle.std.proofs.Math.Path.{fun_ext}
 pub use Rattle.std.proofs.lemmas.Bool.Decides.{nat_tests}
-pub use Rattle.std.proofs.lemmas.Bool.{eqb-true, false≢true, lt-ltb, ltb-false, ltb-true, true≢false}
+pub use Rattle.std.proofs.lemmas.Bool.{cases_lt, eqb-true, false≢true, lt-ltb, ltb-false, ltb-true, true≢false}
 pub use Rattle.std.proofs.lemmas.Nat.{and_mask, mul-le, xor_of_32}
 pub use Rattle.word.specs.Operators.{converted, rotated_left, word_of}
 pub use Rattle.word.specs.Widths.{bits}

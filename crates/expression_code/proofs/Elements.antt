@@ -1,5 +1,5 @@
 -- The address of an element, from its index in a register.
-use Rattle.std.proofs.Common.{◌≡◌, ◌≢◌, ℕ, ◌+◌, ◌*◌, ◌^◌, ◌<◌, Bool, true, false, cond, nat_lt, List, [], ◌∷◌, ◌++◌, refl, sym, ap, ap₂, ◌∙◌, arith}
+use Rattle.std.proofs.Common.{◌≡◌, ◌≢◌, ℕ, ◌+◌, ◌*◌, ◌^◌, ◌<◌, Bool, true, false, cond, nat_lt, List, [], ◌∷◌, ◌++◌, refl, ap, ap₂, ◌∙◌, arith}
 use Rattle.rv_code.specs.declared.instructions.Instr.TheVariants as instr
 use Rattle.rv_code.specs.declared.operations.UpperOperation.TheVariants.{Lui}
 use Rattle.rv_code.specs.declared.operations.RegisterOperation.TheVariants.{Add}
@@ -71,7 +71,7 @@ module _ (z : Setting) (r : ℕ) (free : IsFree r) (apart : r ≢ 28) where
       let i = element_bytes kind * index env in
       let below = fit.2 in
       let is : element_bytes kind * s.regs r ≡ i = ap (λ x. element_bytes kind * x) fit.1 in
-      let base = kept_beside pair scale (scaled kind).0 s.regs 2 (λ e. free.not_base (sym e)) (λ e. omega arith) ∙ fit.0.base in
+      let base = kept_beside pair scale (scaled kind).0 s.regs 2 (λ e. omega (arith, free.low, e)) (λ e. omega arith) ∙ fit.0.base in
       let all : t.regs r ≡ raised near o (sum_of i z.frame) =
       ap (λ (regs : ℕ → ℕ). regs r) (done.registers ∙ after_append scale (sum_code near o) s.regs)
       ∙ ((summed near o).1 (registers_after scale s.regs) ∙ ap₂ (λ x y. raised near o (sum_of x y)) ((scaled kind).1 s.regs (omega (arith, below, is)) ∙ is) base) in

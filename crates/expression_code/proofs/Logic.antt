@@ -8,6 +8,6 @@ pub use Rattle.expression_code.proofs.Frame.{After, Before, Held, HeldAt, Runs, 
 pub use Rattle.expression_code.proofs.Homes.{free_from}
 pub use Rattle.expression_code.proofs.Moves.{computing_within, does, is_free, loading, move_runs, moves_run, none_low, put, storing, take, then_moves}
 pub use Rattle.expression_code.proofs.OperatorCode.{constant_after, constant_plain}
-pub use Rattle.expression_code.proofs.Places.{apart_from, bytes_by, bytes_of, elements_apart, ends_before_result, kind_known, parameter_words, place_even, place_of, place_within}
+pub use Rattle.expression_code.proofs.Places.{apart, apart_from, bytes_by, bytes_of, elements_apart, ends_before_result, kind_known, parameter_words, place_even, place_of, place_within}
 pub use Rattle.expression_code.proofs.TermLengths.{address_length, constant_length, expr_length, height, load_length, one_of, store_length, typed_among, typed_within}
 pub use Rattle.expression_code.proofs.Values.{Kept, Ready, Wrote, kept_by, kept_less, kept_number, kept_then, number_same, place_before, place_ends, ready_after, ready_below, value_word, variables_kept, wrote_kept, wrote_there}

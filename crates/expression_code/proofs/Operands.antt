@@ -136,7 +136,7 @@ module _ (z : Setting) (place : ℕ) where
         (quiet
         (weaken (λ env s fine given. (given.left, given.right)) (λ env s t fine given moves. moves) one)
         (worked {P = λ env s. HeldAt z s × (registers_after rest s.regs l ≡ w env)} (next_beside place) rest plain w (λ env s given. given))
-        (λ env s t given moves. (held_regs z s t (moves.others 2 (λ e. pair.one.not_base (sym e))) moves.same given.held, value env t.regs given.left_fits given.right_fits moves.there)))
+        (λ env s t given moves. (held_regs z s t (moves.others 2 (λ e. omega (arith, pair.one.low, e))) moves.same given.held, value env t.regs given.left_fits given.right_fits moves.there)))
 
     divided_by : (n : ℕ) (some : 0 < n) (x y : ℕ) → cond (n == 0) x y ≡ y
     divided_by n some x y = rw (ne_eqb n 0 (λ e. omega (arith, some, e)))

@@ -1,7 +1,7 @@
 -- Where variables and their elements lie: no two of them overlap, and the offsets that are listed are those that are defined.
-use Rattle.std.proofs.Common.{◌≡◌, ℕ, zero, suc, ◌+◌, ◌*◌, ◌/◌, ◌%◌, ◌<◌, ◌≤◌, ◌==◌, ◌⊎◌, inl, inr, Bool, true, false, nat_lt, List, [], ◌∷◌, length, get_or, take, Option, Some, None, slice_get, refl, sym, ap, ◌∙◌, arith}
+use Rattle.std.proofs.Common.{◌≡◌, ℕ, zero, suc, ◌+◌, ◌*◌, ◌/◌, ◌%◌, ◌<◌, ◌≤◌, ◌==◌, ◌⊎◌, ⊎_elim, inl, inr, false, List, [], ◌∷◌, length, get_or, take, Option, Some, None, slice_get, refl, sym, ap, ◌∙◌, arith}
 use Rattle.std.proofs.Math.Seq.{take-length}
-use Rattle.expression_code.proofs.Below.{nat_tests, mul-le, variable_offset, result_offset, offsets_from, kind_at}
+use Rattle.expression_code.proofs.Below.{nat_tests, cases_lt, mul-le, variable_offset, result_offset, offsets_from, kind_at}
 use Rattle.expression_code.proofs.Below.{Boolean}
 use Rattle.std.proofs.lemmas.Option.{same_Some, slice_get_within, slice_get-get_or}
 pub use Rattle.expression_code.specs.Layout.{bytes_by, bytes_of, place_of}
@@ -45,12 +45,8 @@ ends_before_result declared x d is =
     omega (arith, h, ap declared_words (take-length declared))
 
 -- of two numbers that differ one is less
-apart : (x y : ℕ) (P : Type 0) → (y == x) ≡ false → (y < x → P) → (x < y → P) → P
-apart x y P other one more = by_order (nat_lt y x) refl
-  where
-    by_order : (b : Bool) → nat_lt y x ≡ b → P
-    by_order true o = one (grind (arith, nat_tests))
-    by_order false o = more (grind (arith, nat_tests))
+pub apart : (x y : ℕ) (P : Type 0) → (y == x) ≡ false → (y < x → P) → (x < y → P) → P
+apart x y P other one more = ⊎_elim one (λ (least : x ≤ y). more (grind (arith, nat_tests, other, least))) (cases_lt y x)
 
 -- a number of another variable lies before all of a variable's words, or behind them
 pub apart_from : (declared : List FlatVariable) (x y : ℕ) (d e : FlatVariable) (j : ℕ) → slice_get declared x ≡ Some d → slice_get declared y ≡ Some e → j < numbers_in e.elements → (y == x) ≡ false
