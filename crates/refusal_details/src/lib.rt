@@ -6,7 +6,7 @@
 #![tactic(auto)]
 
 mod characters;
-mod names;
+mod name_lines;
 mod ranges;
 
 ghost use Rattle.std.specs.Prelude.{◌≡◌, IfOk, IfErr};
@@ -16,7 +16,7 @@ ghost use Rattle.language.specs.WantOfMemory.{IsWantOfMemory};
 ghost use Rattle.refusal_details.specs.Details.{Says, SaysOfProgram, text_lines};
 
 use crate::characters::character_line;
-use crate::names::name_line;
+use crate::name_lines::name_line;
 use crate::ranges::range_line;
 use language::{Place, Program, Refusal, Rule};
 use std::alloc::Global;
