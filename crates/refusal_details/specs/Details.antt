@@ -1,5 +1,5 @@
 -- What is said of a refusal beside its rule: lines, each with its end, or nothing.
-use Rattle.std.specs.Prelude.{◌≡◌, ℕ, ◌==◌, nat_eq, Bool, if◌then◌else◌, List, [], ◌∷◌, ◌++◌, drop, codes, Option, None, Some}
+use Rattle.std.specs.Prelude.{◌≡◌, ℕ, ◌==◌, nat_eq, Bool, if◌then◌else◌, List, [], ◌∷◌, ◌++◌, take, drop, length, nat_lt, codes, Option, None, Some}
 use Rattle.std.specs.List.{starts_with}
 use Rattle.std.specs.Fmt.{decimal}
 use Rattle.intervals.specs.declared.found.Cause.{Cause}
@@ -7,10 +7,11 @@ use Rattle.intervals.specs.declared.found.Cause.TheVariants.{Index, Divisor}
 use Rattle.intervals.specs.declared.found.Finding.{Finding}
 use Rattle.intervals.specs.declared.interval.Interval.{Interval}
 use Rattle.refusal_details.specs.Found.{Finds}
+use Rattle.call_places.specs.CallPlaces.{call_places, procedure_at}
 use Rattle.language.specs.declared.refusal.Refusal.{Refusal}
 use Rattle.language.specs.declared.rule.Rule.{Rule}
 use Rattle.language.specs.declared.rule.Rule.TheVariants.{UnknownCharacter, UndeclaredName, IndexOutOfRange, DivisorMayBeZero}
-use Rattle.language.specs.Tree.{ProgramTree}
+use Rattle.language.specs.Tree.{ProcedureTree, ProgramTree}
 use Rattle.name_uses.specs.Nearest.{nearest}
 use Rattle.name_uses.specs.Scopes.{Seen, Use, use_in_procedures}
 use Rattle.syntax.specs.Reading.{Reads, accepted, refused}
@@ -52,16 +53,39 @@ abbrev pub finding_line : Option Finding → List ℕ
 finding_line None = []
 finding_line (Some found) = cause_line found.cause
 
-pub record SaysRange (program : ProgramTree) (lines : List ℕ) : Type 0 where
+-- and where the procedure is called that the place is in; of more than eight places the first eight
+abbrev pub most_others : ℕ
+most_others = 7
+
+abbrev pub places_text : List Place → List ℕ
+places_text [] = []
+places_text (place ∷ places) = codes ", " ++ (place_text place ++ places_text places)
+
+abbrev pub others_text : List Place → List ℕ
+others_text places = places_text (take most_others places) ++ (if nat_lt most_others (length places) then codes ", .." else [])
+
+abbrev pub called_line : List ℕ → List Place → List ℕ
+called_line name [] = []
+called_line name (first ∷ others) =
+    codes "  this is in `" ++ (name ++ (codes "`, which is called at " ++ (place_text first ++ (others_text others ++ codes "\n"))))
+
+abbrev pub procedure_line : List ProcedureTree → Option ProcedureTree → List ℕ
+procedure_line procedures None = []
+procedure_line procedures (Some p) = called_line p.name (call_places p.name procedures)
+
+abbrev pub calls_line : ℕ → List ProcedureTree → List ℕ
+calls_line at procedures = procedure_line procedures (procedure_at at procedures)
+
+pub record SaysRange (at : ℕ) (program : ProgramTree) (lines : List ℕ) : Type 0 where
   pub found : Option Finding
   pub finds : Finds program found
-  pub printed : lines ≡ finding_line found
+  pub printed : lines ≡ finding_line found ++ calls_line at program.procedures
 
 -- of a program that violates a rule behind so many bytes
 abbrev pub SaysOfProgram : Rule → ℕ → ProgramTree → List ℕ → Type 0
 SaysOfProgram UndeclaredName at program lines = lines ≡ name_line (use_in_procedures at program.procedures)
-SaysOfProgram IndexOutOfRange at program lines = SaysRange program lines
-SaysOfProgram DivisorMayBeZero at program lines = SaysRange program lines
+SaysOfProgram IndexOutOfRange at program lines = SaysRange at program lines
+SaysOfProgram DivisorMayBeZero at program lines = SaysRange at program lines
 SaysOfProgram rule at program lines = lines ≡ []
 
 -- of a text that is no program

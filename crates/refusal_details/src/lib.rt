@@ -1,10 +1,11 @@
 // What is said of a refusal beside its rule: lines with what there is at the place, for who wrote the source.
 //
 // It promises which lines these are, by the source's tree or, where it has none, by its bytes (`specs/Details.antt`). It
-// stands on `syntax` for the tree, on `name_uses` for what is near a name, and on `intervals` for the numbers that an index or
-// a divisor may be: those by which it was refused.
+// stands on `syntax` for the tree, on `name_uses` for what is near a name, on `call_places` for calls, and on `intervals` for
+// the numbers that an index or a divisor may be: those by which it was refused.
 #![tactic(auto)]
 
+mod calls;
 mod characters;
 mod name_lines;
 mod ranges;
@@ -17,7 +18,7 @@ ghost use Rattle.refusal_details.specs.Details.{Says, SaysOfProgram, text_lines}
 
 use crate::characters::character_line;
 use crate::name_lines::name_line;
-use crate::ranges::range_line;
+use crate::ranges::range_lines;
 use language::{Place, Program, Refusal, Rule};
 use std::alloc::Global;
 use syntax::parse;
@@ -52,7 +53,7 @@ fn program_lines(
 {
     match rule {
         Rule::UndeclaredName => Ok(name_line(alloc, place.offset, program)?),
-        Rule::IndexOutOfRange | Rule::DivisorMayBeZero => range_line(alloc, program),
+        Rule::IndexOutOfRange | Rule::DivisorMayBeZero => range_lines(alloc, place.offset, program),
         _ => Ok(String::new(alloc)),
     }
 }

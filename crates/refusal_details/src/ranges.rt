@@ -8,20 +8,24 @@ ghost use Rattle.refusal_details.specs.Details.{SaysRange, finding_line, cause_l
 ghost use Rattle.refusal_details.specs.Found.{Finds};
 ghost use Rattle.word.specs.declared.place.Place.{Place};
 
+use crate::calls::calls_line;
 use inline::inline;
 use intervals::{Cause, Finding, Interval, first_finding};
 use labels::check;
 use language::{Program, Refusal};
 use std::alloc::{AllocError, Global};
 
-/// What is said of a program's first violation of ranges: why it is one.
-pub fn range_line(alloc: Global, program: &Program<'_>) -> Result<String, Refusal>
-    ensures said { IfOk result (λ line. SaysRange (program_tree program.now) (string_bytes line)) }
+/// What is said of a program's first violation of ranges: why it is one, and where the procedure is called that the place
+/// behind so many bytes is in.
+pub fn range_lines(alloc: Global, at: u32, program: &Program<'_>) -> Result<String, Refusal>
+    ensures said { IfOk result (λ lines. SaysRange at (program_tree program.now) (string_bytes lines)) }
     ensures memory { IfErr result (λ refusal. IsWantOfMemory refusal.rule refusal.place) }
 {
     let found = finding_in(alloc, program)?;
     let line = finding_line(alloc, found)?;
-    Ok(line)
+    let calls = calls_line(alloc, at, program)?;
+    let lines = format!(in alloc; "{line}{calls}")?;
+    Ok(lines)
 }
 
 /// The first violation of ranges, as the passes find it; none where one before them refuses the program.
