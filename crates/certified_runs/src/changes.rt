@@ -1,31 +1,18 @@
 // What an instruction asks of what is known, and what it changes in it.
 
 ghost use Rattle.std.specs.Prelude.{◌≡◌};
-ghost use Rattle.rv_machine.specs.Bytes.{ByteMap};
-ghost use Rattle.rv_machine.specs.Effects.{effect_of};
-ghost use Rattle.rv_machine.specs.Harts.{state_of};
-ghost use Rattle.rv_machine.specs.Machine.{State, Ending, ending_of};
-ghost use Rattle.rv_machine.specs.declared.observation.Observation.{Observation};
+ghost use Rattle.rv_machine.specs.Harts.{regs_of};
+ghost use Rattle.rv_machine.specs.Machine.{State};
 ghost use Rattle.word.specs.declared.profile.Profile.{Profile};
 ghost use Rattle.certified_runs.specs.Certified.{decides, decides_product, registers_after, bytes_after};
-ghost use Rattle.certified_runs.specs.Parts.{known_registers, known_of};
-ghost use Rattle.certified_runs.specs.private.Changes.{registers_with, bytes_with, IsPossible};
+ghost use Rattle.certified_runs.specs.Parts.{known_registers, known_bytes, known_of};
+ghost use Rattle.certified_runs.specs.private.Changes.{accessed, StoresData};
+ghost use Rattle.certified_runs.specs.private.Turned.{HaveOneExtent};
 
 use crate::known_parts::KnownParts;
-use rv_code::{Instr, Reg};
-use rv_machine::{Hart, Memory, Size, address, load_size, store_size};
+use rv_code::Instr;
+use rv_machine::{Hart, Memory, address, load_size, store_size};
 use word::Profile;
-
-/// What an instruction changes in what is known.
-#[derive(Clone, Copy, Debug, PartialEq, Eq)]
-pub(crate) enum Change {
-    /// The register becomes known or unknown.
-    Register(Reg, bool),
-    /// So many bytes from this address on become known or unknown.
-    Bytes(u32, Size, bool),
-    /// All stays as it is.
-    Nothing,
-}
 
 /// Whether what an instruction shows, and where it leads, is decided by what is known.
 #[inline(always)]
@@ -57,36 +44,47 @@ fn decides_product(profile: Profile, known: bool) -> bool
     }
 }
 
-/// What an instruction changes in what is known, where its turn goes on.
+/// The address that an instruction loads from or stores to, 0 where it does neither.
 #[inline(always)]
-pub(crate) fn change_of<M: Memory>(instr: &Instr, hart: &Hart, known: &KnownParts<M>) -> Change
-    ensures registers { (bytes : ByteMap)
-        → let k = known_of (state_of hart.now bytes) known.now.registers (M.bytes known.now.marks) in
-        registers_with result k.registers ≡ registers_after instr.now k }
-    ensures bytes { (bytes : ByteMap)
-        → let k = known_of (state_of hart.now bytes) known.now.registers (M.bytes known.now.marks) in
-        bytes_with result k.bytes ≡ bytes_after instr.now k }
-    ensures possible { (profile : Profile) (bytes : ByteMap) (o : Observation) (t : State) → let s = state_of hart.now bytes in
-        ending_of profile (effect_of instr.now s.pc s.regs) s ≡ Ending.goes_on o t → IsPossible bytes result }
+pub(crate) fn accessed(instr: &Instr, hart: &Hart) -> u32
+    ensures { result ≡ accessed instr.now (regs_of hart.now) }
+{
+    match *instr {
+        Instr::Load(_, _, rs1, offset) => address(hart, rs1, offset),
+        Instr::Store(_, _, rs1, offset) => address(hart, rs1, offset),
+        Instr::Upper(_, _, _) | Instr::Jump(_, _) | Instr::JumpRegister(_, _, _) => 0,
+        Instr::Branch(_, _, _, _) | Instr::Immediate(_, _, _, _) | Instr::Shift(_, _, _, _) => 0,
+        Instr::Register(_, _, _, _) | Instr::Multiply(_, _, _, _) | Instr::Divide(_, _, _, _) => 0,
+        Instr::Fence(_, _, _, _, _) | Instr::Ecall | Instr::Ebreak => 0,
+    }
+}
+
+/// Changes what is known as an instruction does that accesses this address, and whose turn goes on.
+#[inline(always)]
+pub(crate) fn change<M: Memory>(instr: &Instr, a: u32, known: &mut KnownParts<M>)
+    requires { StoresData (M.bytes known.old.marks) instr.now a }
+    ensures registers { (s : State) → a ≡ accessed instr.now s.regs → known_registers known.new.registers
+        ≡ registers_after instr.now (known_of s known.old.registers (M.bytes known.old.marks)) }
+    ensures bytes { (s : State) → a ≡ accessed instr.now s.regs → known_bytes (M.bytes known.new.marks)
+        ≡ bytes_after instr.now (known_of s known.old.registers (M.bytes known.old.marks)) }
+    ensures extent { HaveOneExtent (M.bytes known.new.marks) (M.bytes known.old.marks) }
 {
     match *instr {
         Instr::Upper(_, rd, _) | Instr::Jump(rd, _) | Instr::JumpRegister(rd, _, _) => {
-            Change::Register(rd, true)
+            known.set_register(rd, true);
         }
-        Instr::Load(operation, rd, rs1, offset) => {
-            let a = address(hart, rs1, offset);
-            Change::Register(rd, known.knows_bytes(a, load_size(operation)))
+        Instr::Load(operation, rd, _, _) => {
+            known.set_register(rd, known.knows_bytes(a, load_size(operation)));
         }
-        Instr::Store(operation, rs2, rs1, offset) => {
-            let a = address(hart, rs1, offset);
-            Change::Bytes(a, store_size(operation), known.knows(rs2))
+        Instr::Store(operation, rs2, _, _) => {
+            known.set_bytes(a, store_size(operation), known.knows(rs2));
         }
-        Instr::Immediate(_, rd, rs1, _) => Change::Register(rd, known.knows(rs1)),
-        Instr::Shift(_, rd, rs1, _) => Change::Register(rd, known.knows(rs1)),
-        Instr::Register(_, rd, rs1, rs2) => Change::Register(rd, known.knows_both(rs1, rs2)),
-        Instr::Multiply(_, rd, rs1, rs2) => Change::Register(rd, known.knows_both(rs1, rs2)),
-        Instr::Divide(_, rd, rs1, rs2) => Change::Register(rd, known.knows_both(rs1, rs2)),
-        Instr::Branch(_, _, _, _) | Instr::Fence(_, _, _, _, _) => Change::Nothing,
-        Instr::Ecall | Instr::Ebreak => Change::Nothing,
+        Instr::Immediate(_, rd, rs1, _) => known.set_register(rd, known.knows(rs1)),
+        Instr::Shift(_, rd, rs1, _) => known.set_register(rd, known.knows(rs1)),
+        Instr::Register(_, rd, rs1, rs2) => known.set_register(rd, known.knows_both(rs1, rs2)),
+        Instr::Multiply(_, rd, rs1, rs2) => known.set_register(rd, known.knows_both(rs1, rs2)),
+        Instr::Divide(_, rd, rs1, rs2) => known.set_register(rd, known.knows_both(rs1, rs2)),
+        Instr::Branch(_, _, _, _) | Instr::Fence(_, _, _, _, _) => {}
+        Instr::Ecall | Instr::Ebreak => {}
     }
 }

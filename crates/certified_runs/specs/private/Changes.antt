@@ -1,28 +1,21 @@
--- What an instruction changes in what is known.
+-- What the change of an instruction in what is known goes by.
 use Rattle.std.specs.Prelude.{◌≡◌, ◌-◌, ◌^◌, ℕ, Bool, true, false, is_some}
+use Rattle.rv_code.specs.declared.instructions.Instr.{Instr}
+use Rattle.rv_code.specs.declared.instructions.Instr.TheVariants.{Load, Store}
 use Rattle.rv_machine.specs.Bytes.{ByteMap, number_at}
+use Rattle.rv_machine.specs.Effects.{address_of, store_size}
 use Rattle.rv_machine.specs.Sizes.{byte_count}
-use Rattle.certified_runs.specs.Known.{with_register_known, with_bytes_known}
-use Rattle.certified_runs.specs.declared.changes.Change.{Change}
-use Rattle.certified_runs.specs.declared.changes.Change.TheVariants.{Register, Bytes, Nothing}
 
--- the known registers after it
-abbrev pub registers_with : Change → (ℕ → Bool) → ℕ → Bool
-registers_with (Register rd known) registers = with_register_known registers rd known
-registers_with (Bytes a n known) registers = registers
-registers_with Nothing registers = registers
+-- the address that an instruction loads from or stores to, 0 where it does neither
+abbrev pub accessed : Instr → (ℕ → ℕ) → ℕ
+accessed (Load operation rd rs1 offset) regs = address_of regs rs1 offset
+accessed (Store operation rs2 rs1 offset) regs = address_of regs rs1 offset
+accessed _ regs = 0
 
--- the known bytes after it
-abbrev pub bytes_with : Change → (ℕ → Bool) → ℕ → Bool
-bytes_with (Register rd known) bytes = bytes
-bytes_with (Bytes a n known) bytes = with_bytes_known bytes (byte_count n) a known
-bytes_with Nothing bytes = bytes
-
--- the bytes that it marks are data
-abbrev pub IsPossible : ByteMap → Change → Type 0
-IsPossible bytes (Register rd known) = Unit {0}
-IsPossible bytes (Bytes a n known) = is_some (number_at bytes (byte_count n) a) ≡ true
-IsPossible bytes Nothing = Unit {0}
+-- the bytes that an instruction stores at this address, if it stores, are data
+abbrev pub StoresData : ByteMap → Instr → ℕ → Type 0
+StoresData bytes (Store operation rs2 rs1 offset) a = is_some (number_at bytes (byte_count (store_size operation)) a) ≡ true
+StoresData bytes _ a = Unit {0}
 
 -- the mark of a byte, and so of each byte of a number
 abbrev pub mark_of : Bool → ℕ
