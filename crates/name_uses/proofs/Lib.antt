@@ -1,1 +1,2 @@
 pub mod ScopeLemmas
+pub mod ScopesAgree

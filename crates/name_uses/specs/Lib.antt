@@ -1,3 +1,4 @@
 pub mod NamesAt
 pub mod Nearest
+pub mod SameScopes
 pub mod Scopes
