@@ -1,0 +1,30 @@
+-- The turns of a run, by the places of the entries that they show.
+use Rattle.std.specs.Prelude.{◌≡◌, ◌≢◌, ◌⊎◌, ℕ, ◌<◌, ◌≤◌, List, [], ◌∷◌, ◌++◌, length}
+use Rattle.rv_machine.specs.declared.observation.Observation.{Observation}
+use Rattle.rv_machine.specs.declared.stops.Stop.{Stop}
+use Rattle.rv_machine.specs.declared.stops.Stop.TheVariants.{RecorderRefused}
+use Rattle.rv_machine.specs.Entries.{entries_of}
+use Rattle.rv_machine.specs.Leakage.{Leads, Runs}
+use Rattle.rv_machine.specs.Machine.{State, Code, goes_on, stops, Turn}
+
+-- a run of at most so many turns, which no recorder cuts short, shows this and stops so
+abbrev pub Ends : Code → ℕ → State → List Observation → Stop → Type 0
+Ends code budget s seen stop = (end : State) × Runs code budget s seen stop end × (stop ≢ RecorderRefused)
+
+-- the turn from a state shows this, and goes on or stops
+abbrev pub ShowsNext : Code → State → Observation → Type 0
+ShowsNext code t o = ((u : State) × Turn code t (goes_on o u)) ⊎ ((stop : Stop) × Turn code t (stops (o ∷ []) stop))
+
+-- turns that show this list lead to a state, and the next one is the last whose program counter is an entry before the place, so that the
+-- place is at most the one behind its entries
+pub record IsLastBefore (code : Code) (budget : ℕ) (s : State) (place : ℕ) (seen : List Observation) (t : State) : Type 0 where
+  pub leads : Leads code (length seen) s seen t
+  pub within : length seen < budget
+  pub next : Observation
+  pub shown : ShowsNext code t next
+  pub before : length (entries_of seen) < place
+  pub reached : place ≤ length (entries_of (seen ++ next ∷ []))
+
+-- the run shows fewer entries than that
+abbrev pub ShowsFewer : Code → ℕ → State → ℕ → Type 0
+ShowsFewer code budget s place = (seen : List Observation) × (stop : Stop) × Ends code budget s seen stop × (length (entries_of seen) < place)

@@ -1,0 +1,29 @@
+// What the places of a run's entries are to each other.
+
+ghost use Rattle.std.specs.Prelude.{◌≡◌, ℕ, ◌+◌, ◌-◌, ◌≤◌, List, length};
+ghost use Rattle.rv_machine.specs.declared.observation.Observation.{Observation};
+ghost use Rattle.rv_machine.specs.Entries.{entries_of, IsFirstDifference};
+ghost use Rattle.rv_machine.specs.Leakage.{Leads};
+ghost use Rattle.rv_machine.specs.Machine.{State, Code};
+ghost use Rattle.rv_machine.specs.declared.stops.Stop.{Stop};
+ghost use Rattle.run_places.specs.Places.{Ends, IsLastBefore};
+ghost use Rattle.run_places.specs.Shown.{ShowsAt};
+ghost use Rattle.run_places.specs.declared.shown.Shown.{Shown};
+
+/// What a run shows at a place behind the entries of turns that it made is what the state that they lead to shows.
+pub fn places_behind_turns()
+    ensures { (code : Code) (budget : ℕ) (s t : State) (seen : List Observation) (place : ℕ) (shown : Shown)
+        → Leads code (length seen) s seen t → length seen ≤ budget
+        → ShowsAt code (budget - length seen) t place shown
+        → ShowsAt code budget s (length (entries_of seen) + place) shown }
+{}
+
+/// The last turns before the first difference of two runs are one turn: both runs have shown one list before it, and come to
+/// one program counter.
+pub fn one_turn_before_a_difference()
+    ensures { (code : Code) (budget : ℕ) (s s' t t' : State) (whole whole' seen seen' : List Observation) (stop stop' : Stop) (place : ℕ)
+        → Ends code budget s whole stop → Ends code budget s' whole' stop'
+        → IsFirstDifference (entries_of whole) (entries_of whole') place
+        → IsLastBefore code budget s place seen t → IsLastBefore code budget s' place seen' t'
+        → (seen ≡ seen') × (t.pc ≡ t'.pc) }
+{}
