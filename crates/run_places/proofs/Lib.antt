@@ -1,2 +1,3 @@
+pub mod Openings
 pub mod Parting
 pub mod Runs

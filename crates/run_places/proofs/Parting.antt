@@ -1,22 +1,17 @@
 -- The last turns before the first difference of two runs are one turn.
-use Rattle.std.specs.Prelude.{nat_eq}
-use Rattle.std.proofs.Common.{◌≡◌, ◌≢◌, ℕ, zero, suc, ◌+◌, ◌-◌, ◌%◌, ◌<◌, ◌≤◌, Bool, true, false, cond, List, [], ◌∷◌, ◌++◌, Option, Some, None, length, take, refl, sym, ap, ◌∙◌, subst, inl, inr, arith}
+use Rattle.std.proofs.Common.{◌≡◌, ℕ, zero, suc, ◌+◌, ◌-◌, ◌<◌, ◌≤◌, List, [], ◌∷◌, ◌++◌, Option, Some, None, length, take, refl, sym, ap, ◌∙◌, subst, inl, inr, arith}
 use Rattle.std.proofs.Math.Seq.{take-append-add}
-use Rattle.rv_machine.specs.declared.effects.Effect.{Effect}
-use Rattle.rv_machine.specs.declared.effects.Effect.TheVariants.{Computes, Multiplies, Divides, Jumps, Branches, Passes, Loads, Stores, Calls, Breaks}
 use Rattle.rv_machine.specs.declared.observation.Event.{Event}
 use Rattle.rv_machine.specs.declared.observation.Observation.{Observation}
 use Rattle.rv_machine.specs.declared.stops.Stop.{Stop}
-use Rattle.rv_machine.specs.Bytes.{number_at}
-use Rattle.rv_machine.specs.Effects.{effect_of, load_size, store_size}
+use Rattle.rv_machine.specs.Effects.{effect_of}
 use Rattle.rv_machine.specs.Entries.{Entry, program_counter, events_of, entries_of, IsFirstDifference}
-use Rattle.rv_machine.specs.Machine.{State, Code, Ending, goes_on, stops, here, observed, loaded, stored, ending_of, Turn, pc_misaligned, not_code, no_instruction, executes}
-use Rattle.rv_machine.specs.Sizes.{byte_count}
+use Rattle.rv_machine.specs.Machine.{State, Code, Ending, goes_on, stops, here, Turn, pc_misaligned, not_code, no_instruction, executes}
 use Rattle.rv_machine.proofs.EntryLaws.{entries_of-injective}
 use Rattle.rv_machine.proofs.RunLaws.{Runs-determined}
 use Rattle.rv_machine.proofs.Shown.{entries_of-append}
-use Rattle.word.specs.declared.profile.Profile.{Profile}
 use Rattle.run_places.specs.Places.{Ends, ShowsNext, IsLastBefore}
+use Rattle.run_places.proofs.Openings.{ShowsHere, effect_here}
 use Rattle.run_places.proofs.Runs.{ends_next, entries_more}
 
 -- What a turn shows, it shows of its own program counter.
@@ -33,38 +28,15 @@ here_alone : (s : State) (o : Observation) → here s ≡ o ∷ [] → o.pc ≡ 
 unfolding first_pc
 here_alone s o same = sym (ap first_pc same)
 
-either_here : (pc : ℕ) (b : Bool) (e f : Ending) → IsHere pc e → IsHere pc f → IsHere pc (cond b e f)
-either_here pc true e f one other = one
-either_here pc false e f one other = other
-
-effect_here : (profile : Profile) (e : Effect) (s : State) → IsHere s.pc (ending_of profile e s)
-unfolding ending_of
-effect_here profile (Computes rd value) s = refl
-effect_here profile (Multiplies rd a b value) s = refl
-effect_here profile (Divides rd a b value) s = refl
-effect_here profile (Jumps rd target) s = either_here s.pc (nat_eq (target % 4) 0) _ _ refl (here_alone s)
-effect_here profile (Branches target) s = either_here s.pc (nat_eq (target % 4) 0) _ _ refl (here_alone s)
-effect_here profile Passes s = refl
-effect_here profile (Loads operation rd a) s =
-    either_here s.pc (nat_eq (a % byte_count (load_size operation)) 0) _ _ (from_number (number_at s.bytes (byte_count (load_size operation)) a)) (here_alone s)
-  where
-    from_number : (o : Option ℕ) → IsHere s.pc (loaded s operation a rd o)
-    from_number (Some value) = refl
-    from_number None = here_alone s
-effect_here profile (Stores operation a value) s =
-    either_here s.pc (nat_eq (a % byte_count (store_size operation)) 0) _ _ (over_number (number_at s.bytes (byte_count (store_size operation)) a)) (here_alone s)
-  where
-    over_number : (o : Option ℕ) → IsHere s.pc (stored s (store_size operation) a value o)
-    over_number (Some old) = refl
-    over_number None = here_alone s
-effect_here profile Calls s = here_alone s
-effect_here profile Breaks s = here_alone s
-
 turn_here : {code : Code} {s : State} {e : Ending} → Turn code s e → IsHere s.pc e
 turn_here (pc_misaligned odd) = λ o same. cc
 turn_here (not_code even none) = λ o same. cc
 turn_here {s = s} (no_instruction even is misfit) = here_alone s
-turn_here {code} {s} (executes i even is ok ends) = subst (IsHere s.pc) (sym ends) (effect_here code.profile (effect_of i s.pc s.regs) s)
+turn_here {code} {s} (executes {ending = e} i even is ok ends) = from_shown e (subst (ShowsHere s) (sym ends) (effect_here code.profile (effect_of i s.pc s.regs) s))
+  where
+    from_shown : (e : Ending) → ShowsHere s e → IsHere s.pc e
+    from_shown (goes_on o t) same = same
+    from_shown (stops seen stop) same = λ o is. here_alone s o (sym same ∙ is)
 
 next_here : (code : Code) (t : State) (o : Observation) → ShowsNext code t o → o.pc ≡ t.pc
 next_here code t o (inl (u, turn)) = turn_here turn

@@ -183,9 +183,12 @@ later_place code budget s t seen place shown led within shows =
     let stop = shows.1 in
     let e : length seen + (budget - length seen) ≡ budget = omega (arith, within) in
     let whole : slice_get (entries_of (seen ++ more)) (length (entries_of seen) + place) ≡ slice_get (entries_of more) place =
-    ap (λ l. slice_get l (length (entries_of seen) + place)) (entries_of-append seen more) ∙ get_after (entries_of seen) (entries_of more) place in
-    (seen ++ more, stop, (shows.2.0, subst (λ n. Runs code n s (seen ++ more) stop shows.2.0) e (Runs-after led shows.2.1), shows.2.2),
-     shows.3 ∙ ap (λ entry. entry_or_stop entry stop) (sym whole))
+    ap (λ l. slice_get l (length (entries_of seen) + place)) (entries_of-append seen more) ∙ get_after (entries_of seen) (entries_of more) place in (
+      seen ++ more,
+      stop,
+      (shows.2.0, subst (λ n. Runs code n s (seen ++ more) stop shows.2.0) e (Runs-after led shows.2.1), shows.2.2),
+      shows.3 ∙ ap (λ entry. entry_or_stop entry stop) (sym whole),
+    )
 
 -- what is left of the entries before a place, once a turn has shown some
 pub left_after : (seen : List Observation) (last : Option Observation) (left left' place : ℕ) → length (entries_of seen) + left ≡ place → length (entries_of (listed last)) + left' ≡ left

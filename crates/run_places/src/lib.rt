@@ -10,7 +10,10 @@ mod reads;
 mod shown;
 mod turns;
 
-pub use laws::{one_turn_before_a_difference, places_behind_turns};
+pub use laws::{
+    a_difference_is_reached, a_word_before_a_place, one_turn_before_a_difference,
+    places_behind_turns,
+};
 pub use reads::registers_at;
 pub use shown::{Shown, shown_at};
 pub use turns::{Before, last_before, make_turns};

@@ -65,11 +65,7 @@ fn push_read(
 
 /// The registers that the instruction at a hart's program counter reads, each behind a blank and with what it holds; nothing
 /// where no instruction stands there.
-pub fn registers_at(
-    alloc: Global,
-    code: &CodeRegion,
-    hart: &Hart,
-) -> Result<Vec<u8>, AllocError>
+pub fn registers_at(alloc: Global, code: &CodeRegion, hart: &Hart) -> Result<Vec<u8>, AllocError>
     ensures { IfOk result (λ text. (bytes : ByteMap) → SaysRegisters (code_of code.now) (state_of hart.now bytes) text.items) }
 {
     let mut text = Vec::new(alloc);

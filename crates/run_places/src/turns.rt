@@ -11,7 +11,8 @@ ghost use Rattle.run_places.specs.Places.{IsLastBefore, ShowsFewer};
 ghost use Rattle.run_places.specs.Turned.{Turned};
 
 use rv_machine::{
-    CodeRegion, Memory, NullRecorder, Observation, Running, Stop, TurnRecorder, entry_count, run, step,
+    CodeRegion, Memory, NullRecorder, Observation, Running, Stop, TurnRecorder, entry_count, run,
+    step,
 };
 use std::alloc::Global;
 

@@ -1,6 +1,5 @@
 -- Turn by turn, up to the one that shows the entry.
-use Rattle.std.proofs.Common.{◌≡◌, ◌+◌, ◌<◌, ◌≤◌, [], ◌∷◌, ◌++◌, List, length, refl, sym, ap, ◌∙◌, subst, arith, zero-add}
-use Rattle.rv_machine.specs.declared.observation.Observation.{Observation}
+use Rattle.std.proofs.Common.{◌≡◌, ◌+◌, [], ◌∷◌, ◌++◌, length, subst, arith}
 use Rattle.rv_machine.specs.declared.stops.Stop.TheVariants.{Budget}
 use Rattle.rv_machine.specs.Entries.{entries_of}
 use Rattle.rv_machine.specs.Harts.{state_of}

@@ -1,8 +1,6 @@
 -- Turn by turn, up to the one at whose entries the place is.
-use Rattle.std.proofs.Common.{◌≡◌, ◌+◌, ◌<◌, ◌≤◌, [], ◌∷◌, ◌++◌, List, length, refl, sym, ◌∙◌, arith}
-use Rattle.rv_machine.specs.declared.observation.Observation.{Observation}
+use Rattle.std.proofs.Common.{[], ◌∷◌, ◌++◌, refl, sym, ◌∙◌, arith}
 use Rattle.rv_machine.specs.declared.stops.Stop.TheVariants.{Budget}
-use Rattle.rv_machine.specs.Entries.{entries_of}
 use Rattle.rv_machine.specs.Harts.{state_of}
 use Rattle.rv_machine.specs.Leakage.{stays}
 use Rattle.rv_machine.proofs.Pairs.{count-few}
@@ -28,7 +26,7 @@ returns-then-place-so_far-clause-found g c =
     let u = state_of c.turn-seen.new.run.hart (g.M.Memory.bytes c.turn-seen.new.run.memory) in
     let led = c.loop-turns.invariant.led in
     let last = is_last c.args.code.now c.args.run.now.turns_left s c.loop-turns.turns t led.0 led.1 u c.turn-seen.result.0 c.in-Some.seen c.turn-seen.result.1 c.args.place c.loop-turns-test.true c.turn-seen.ensures c.in-Some.is
-        (omega (arith, led.2, c.loop-turns.invariant.before)) (omega (arith, led.2, c.entry_count.ensures, c.if-place-so_far.true)) in
+    (omega (arith, led.2, c.loop-turns.invariant.before)) (omega (arith, led.2, c.entry_count.ensures, c.if-place-so_far.true)) in
     (led.0, t, last, sym (made c.args.code.now c.args.run.now.turns_left s c.loop-turns.turns t led.0 led.1), led.2)
 
 pub returns-then-is_some-clause-none : goal.returns-then-is_some-clause-none
@@ -48,7 +46,7 @@ loop-turns-preserved g c =
     let led = c.loop-turns.invariant.led in
     let o = c.in-Some.seen in
     let on = went_on_by c.args.code.now c.args.run.now.turns_left s c.loop-turns.turns t led.0 led.1 u c.turn-seen.result.0 o c.turn-seen.result.1 c.turn-seen.ensures c.in-Some.is
-        (is_going c.turn-seen.result.1 (sym c.is_some.ensures ∙ c.if-is_some.false)) in
+    (is_going c.turn-seen.result.1 (sym c.is_some.ensures ∙ c.if-is_some.false)) in
     record {
       led = (led.0 ++ o ∷ [], on, omega (arith, led.2, c.entry_count.ensures, entries_more led.0 o));
       few = omega (arith, c.loop-turns.invariant.few, c.entry_count.ensures, count-few o);
