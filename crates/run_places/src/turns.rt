@@ -1,6 +1,6 @@
 // Runs, a turn at a time, up to an entry of what they show.
 
-ghost use Rattle.std.specs.Prelude.{◌≡◌, ◌-◌, ◌<◌, ◌≤◌, ◌^◌, List, length, None, IfSome};
+ghost use Rattle.std.specs.Prelude.{◌≡◌, ◌-◌, ◌<◌, ◌≤◌, List, length, None, IfSome};
 ghost use Rattle.rv_machine.specs.Entries.{entries_of};
 ghost use Rattle.rv_machine.specs.Harts.{state_of};
 ghost use Rattle.rv_machine.specs.Leakage.{Leads};
@@ -45,27 +45,29 @@ pub fn last_before<M: Memory>(
     run: &mut Running<M>,
     place: u64,
 ) -> Option<Before>
-    requires few { run.old.turns_left < 2 ^ 62 }
-    requires place { 0 < place }
+    requires { 0 < place }
     ensures found { IfSome result (λ before. (seen : List Observation) × (t : State)
         × IsLastBefore (code_of code.now) run.old.turns_left (state_of run.old.hart (M.bytes run.old.memory)) place seen t
         × (before.turns ≡ length seen) × (before.entries ≡ length (entries_of seen))) }
     ensures none { result ≡ None → ShowsFewer (code_of code.now) run.old.turns_left (state_of run.old.hart (M.bytes run.old.memory)) place }
 {
-    let mut entries = 0;
+    let mut left = place;
     for turns in 0..run.turns_left {
         let (seen, stop) = turn(alloc, code, run);
         let Some(seen) = seen else {
             return None;
         };
-        let so_far = entries + entry_count(&seen);
-        if place <= so_far {
-            return Some(Before { turns, entries });
+        let shown = entry_count(&seen);
+        if left <= shown {
+            return Some(Before {
+                turns,
+                entries: place - left,
+            });
         }
         if stop.is_some() {
             return None;
         }
-        entries = so_far;
+        left -= shown;
     }
     None
 }

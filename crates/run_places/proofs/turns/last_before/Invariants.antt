@@ -1,5 +1,5 @@
 -- So many turns were made, none of which stopped, and all their entries are before the place.
-use Rattle.std.proofs.Common.{◌≡◌, ◌<◌, ◌≤◌, ◌*◌, List, length}
+use Rattle.std.proofs.Common.{◌≡◌, ◌<◌, ◌+◌, List, length}
 use Rattle.rv_machine.specs.declared.observation.Observation.{Observation}
 use Rattle.rv_machine.specs.Entries.{entries_of}
 use Rattle.rv_machine.specs.Harts.{state_of}
@@ -9,7 +9,6 @@ use Rattle.run_places.proofs.turns.last_before.Given as goal
 
 abbrev pub invariant-loop-turns : goal.invariant-loop-turns
 invariant-loop-turns g l = record {
-  led : (seen : List Observation) × Leads (code_of l.code) l.turns (state_of l.fn.run.hart (g.M.Memory.bytes l.fn.run.memory)) seen (state_of l.run.hart (g.M.Memory.bytes l.run.memory)) × (l.entries ≡ length (entries_of seen));
-  few : l.entries ≤ 2 * l.turns;
-  before : l.entries < l.place;
+  led : (seen : List Observation) × Leads (code_of l.code) l.turns (state_of l.fn.run.hart (g.M.Memory.bytes l.fn.run.memory)) seen (state_of l.run.hart (g.M.Memory.bytes l.run.memory)) × (length (entries_of seen) + l.left ≡ l.place);
+  before : 0 < l.left;
 }
