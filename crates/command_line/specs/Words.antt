@@ -33,6 +33,6 @@ abbrev pub arguments_of : Request → Option (List (List ℕ))
 arguments_of (Eval file arguments explain) = Some (map (λ word. word.now) arguments.now)
 arguments_of (Run image arguments) = Some (map (λ word. word.now) arguments.now)
 arguments_of (Leak image arguments) = Some (map (λ word. word.now) arguments.now)
-arguments_of (Pair image arguments) = Some (map (λ word. word.now) arguments.now)
+arguments_of (Pair image arguments explain) = Some (map (λ word. word.now) arguments.now)
 arguments_of (Certify image arguments) = Some (map (λ word. word.now) arguments.now)
 arguments_of request = None

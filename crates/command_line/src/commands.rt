@@ -121,6 +121,11 @@ pub(crate) static COMMANDS: [CommandRow; 13] = [
         about: "Runs an image twice and says whether an observer sees the same, or where not",
         words: &[
             Word::Path("IMAGE", "An image that `build` wrote"),
+            Word::Flag(
+                "explain",
+                "Where the runs differ, shows the last instruction that both come to before that, the registers that it reads in \
+                 each run, and what each run shows then; it stands before IMAGE",
+            ),
             Word::Arguments(
                 "Those of the first run, one for each parameter and as for `run`, then those of the second",
             ),

@@ -49,6 +49,7 @@ pub enum Request<'a> {
     Pair {
         image: &'a str,
         arguments: &'a [&'a str],
+        explain: bool,
     },
     Certify {
         image: &'a str,
@@ -150,6 +151,7 @@ fn asked<'a>(alloc: Global, words: &'a [&'a str]) -> Result<Request<'a>, Error>
         Some(("pair", pair)) => Ok(Request::Pair {
             image: text_of(pair, "IMAGE"),
             arguments: after_path(words),
+            explain: pair.get_flag("explain"),
         }),
         Some(("certify", certify)) => Ok(Request::Certify {
             image: text_of(certify, "IMAGE"),

@@ -1,5 +1,5 @@
 -- What is printed of two runs of the image of a file, and of its words.
-use Rattle.std.specs.Prelude.{◌≡◌, ℕ, ◌++◌, List, Ok, Err, codes}
+use Rattle.std.specs.Prelude.{◌≡◌, Bool, true, false, ℕ, ◌++◌, List, Ok, Err, codes}
 use Rattle.std.specs.Fmt.{decimal}
 use Rattle.codegen.specs.Loaded.{params_of}
 use Rattle.commands.specs.Contents.{Contents}
@@ -14,6 +14,7 @@ use Rattle.hepurita.specs.declared.fault.RunFault.{RunFault}
 use Rattle.image_fields.specs.Fields.{Fields}
 use Rattle.language.specs.declared.values.Arg.{Arg}
 use Rattle.listing.specs.Code.{ListsCode}
+use Rattle.pair_explanations.specs.Explained.{Explains}
 use Rattle.rv_machine.specs.declared.pairing.Pairing.{Pairing}
 use Rattle.rv_machine.specs.declared.pairing.Pairing.TheVariants.{Same, Differ}
 
@@ -22,8 +23,16 @@ abbrev pub pairing_text : Pairing → List ℕ
 pairing_text Same = codes "same\n"
 pairing_text (Differ place) = codes "differ at " ++ decimal place ++ codes "\n"
 
--- whether an observer sees the same of the file's image on the two lists of arguments that the words spell
-pub record SaysPair (files : Contents) (path : List ℕ) (words : List (List ℕ)) (text : List ℕ) : Type 0 where
+-- the same of two runs of an image; where it is to be explained why they differ, these lines follow
+abbrev pub PrintsPairing : Bool → Fields → List Arg → List Arg → Pairing → List ℕ → Type 0
+PrintsPairing explain image one other Same text = text ≡ pairing_text Same
+PrintsPairing false image one other (Differ place) text = text ≡ pairing_text (Differ place)
+PrintsPairing true image one other (Differ place) text =
+    (lines : List ℕ) × Explains image one other place lines × (text ≡ pairing_text (Differ place) ++ lines)
+
+-- whether an observer sees the same of the file's image on the two lists of arguments that the words spell, and why not, where that is to be
+-- explained
+pub record SaysPair (explain : Bool) (files : Contents) (path : List ℕ) (words : List (List ℕ)) (text : List ℕ) : Type 0 where
   pub image : Fields
   pub one : List Arg
   pub other : List Arg
@@ -31,7 +40,7 @@ pub record SaysPair (files : Contents) (path : List ℕ) (words : List (List ℕ
   pub held : HoldsImage files path image
   pub spelled : AreBothSpelled (params_of image) words one other
   pub paired : Paired image one other (Ok pairing)
-  pub printed : text ≡ pairing_text pairing
+  pub printed : PrintsPairing explain image one other pairing text
 
 -- the comparison on these arguments has this fault
 abbrev pub FaultsByPair : List (List ℕ) → Fields → Fault → Type 0

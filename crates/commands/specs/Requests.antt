@@ -32,7 +32,7 @@ Answers (requests.Function file assembler header profile explain) files text sta
 Answers (requests.Eval file arguments explain) files text status = SaysMeaning files file.now (map (λ word. word.now) arguments.now) text × (status ≡ 0)
 Answers (requests.Run image arguments) files text status = SaysRun files image.now (map (λ word. word.now) arguments.now) text × (status ≡ 0)
 Answers (requests.Leak image arguments) files text status = SaysLeak files image.now (map (λ word. word.now) arguments.now) status text
-Answers (requests.Pair image arguments) files text status = SaysPair files image.now (map (λ word. word.now) arguments.now) text × (status ≡ 0)
+Answers (requests.Pair image arguments explain) files text status = SaysPair explain files image.now (map (λ word. word.now) arguments.now) text × (status ≡ 0)
 Answers (requests.Certify image arguments) files text status = SaysCertificate files image.now (map (λ word. word.now) arguments.now) text status
 Answers (requests.List image) files text status = SaysList files image.now text × (status ≡ 0)
 Answers (requests.Wrap file code image frame steps profile) files text status = (text ≡ []) × (status ≡ 0)
@@ -49,7 +49,7 @@ Leaves (requests.Function file assembler header profile explain) before after =
 Leaves (requests.Eval file arguments explain) before after = after ≡ before
 Leaves (requests.Run image arguments) before after = after ≡ before
 Leaves (requests.Leak image arguments) before after = after ≡ before
-Leaves (requests.Pair image arguments) before after = after ≡ before
+Leaves (requests.Pair image arguments explain) before after = after ≡ before
 Leaves (requests.Certify image arguments) before after = after ≡ before
 Leaves (requests.List image) before after = after ≡ before
 Leaves (requests.Wrap file code image frame steps profile) before after =
@@ -68,7 +68,7 @@ Refuses (requests.Function file assembler header profile explain) before after f
 Refuses (requests.Eval file arguments explain) before after fault = RefusesMeaning explain before file.now (map (λ word. word.now) arguments.now) fault × (after ≡ before)
 Refuses (requests.Run image arguments) before after fault = RefusesRun before image.now (map (λ word. word.now) arguments.now) fault × (after ≡ before)
 Refuses (requests.Leak image arguments) before after fault = RefusesLeak before image.now (map (λ word. word.now) arguments.now) fault × (after ≡ before)
-Refuses (requests.Pair image arguments) before after fault = RefusesPair before image.now (map (λ word. word.now) arguments.now) fault × (after ≡ before)
+Refuses (requests.Pair image arguments explain) before after fault = RefusesPair before image.now (map (λ word. word.now) arguments.now) fault × (after ≡ before)
 Refuses (requests.Certify image arguments) before after fault =
     RefusesCertificate before image.now (map (λ word. word.now) arguments.now) fault × (after ≡ before)
 Refuses (requests.List image) before after fault = NoImage before image.now fault × (after ≡ before)

@@ -1,15 +1,17 @@
 // What is done with an image: it is run, its run is listed, two of its runs are compared, its words are listed.
 
-ghost use Rattle.std.specs.Prelude.{◌≡◌, ◌≤◌, None, List, ℕ, length, map, IsTrue, IfOk, IfErr, OnOk};
+ghost use Rattle.std.specs.Prelude.{◌≡◌, ◌≤◌, None, List, ℕ, length, map, Ok, IsTrue, IfOk, IfErr, OnOk};
 ghost use Rattle.std.specs.String.{string_bytes};
 ghost use Rattle.std.specs.Option.{option_map};
 ghost use Rattle.arguments.specs.Texts.{fault_of_texts};
-ghost use Rattle.hepurita.specs.Paired.{shifted};
+ghost use Rattle.arguments.specs.Within.{AreWithin};
+ghost use Rattle.codegen.specs.Loaded.{params_of};
+ghost use Rattle.hepurita.specs.Paired.{Paired, shifted};
 ghost use Rattle.image_fields.specs.Limits.{most_parameters};
 ghost use Rattle.streams.specs.Streams.{Writes, WritesPart};
 ghost use Rattle.commands.specs.Images.{HoldsImage, NoImage};
 ghost use Rattle.commands.specs.Leaks.{SaysLeak, RefusesLeak, IsFaultOfLeak, IsOutputFault};
-ghost use Rattle.commands.specs.Pairs.{SaysPair, RefusesPair, SaysList, pairing_text};
+ghost use Rattle.commands.specs.Pairs.{SaysPair, RefusesPair, SaysList, PrintsPairing, pairing_text};
 ghost use Rattle.commands.specs.Runs.{SaysRun, RefusesRun};
 ghost use Rattle.commands.specs.Stops.{status_of};
 ghost use Rattle.commands.specs.Words.{AreSpelled, AreBothSpelled, IsFaultOfWords, fault_of_both};
@@ -24,6 +26,7 @@ use hepurita::{RunFault, execute, pair, params, read_args};
 use image::{Image, LONGEST_IMAGE, read};
 use language::{Args, Param};
 use listing::{LeakFault, leak, list};
+use pair_explanations::explain_difference;
 use rv_machine::{NullRecorder, Pairing, Stop};
 use std::alloc::{AllocError, Global};
 use streams::Sink;
@@ -128,22 +131,50 @@ pub fn list_image<'a, F: Files>(
     Ok(lines)
 }
 
-/// Whether an observer sees the same of an image on two lists of arguments, as a line.
+/// Whether an observer sees the same of an image on two lists of arguments, as a line; where that is to be explained, the lines
+/// behind it say why not.
 pub fn pair_image<'a, F: Files>(
     alloc: Global,
     path: &'a str,
     arguments: &[&str],
+    explain: bool,
     files: &F,
-) -> Result<String, Fault<'a>>
-    ensures said { IsTrue F.TELLS → IfOk result (λ text. SaysPair (F.contents files.now) path.now (map (λ word. word.now) arguments.now) (string_bytes text)) }
+) -> Result<Vec<u8>, Fault<'a>>
+    ensures said { IsTrue F.TELLS → IfOk result (λ text. SaysPair explain (F.contents files.now) path.now (map (λ word. word.now) arguments.now) text.items) }
     ensures refused { IsTrue F.TELLS → IfErr result (RefusesPair (F.contents files.now) path.now (map (λ word. word.now) arguments.now)) }
 {
     let image = image_of(alloc, path, files)?;
     let params = params(alloc, &image)?;
     let (first, second) = both_args(alloc, params.as_slice(), arguments)?;
     let pairing = pair(alloc, &image, &first, &second)?;
+    let text = pairing_lines(alloc, &image, &first, &second, pairing, explain)?;
+    Ok(text)
+}
+
+/// A comparison of an image's runs on these arguments as lines: its line, and why it differs, where that is to be explained.
+fn pairing_lines(
+    alloc: Global,
+    image: &Image,
+    first: &Args,
+    second: &Args,
+    pairing: Pairing,
+    explain: bool,
+) -> Result<Vec<u8>, AllocError>
+    requires first { AreWithin (params_of image.now) first.now }
+    requires second { AreWithin (params_of image.now) second.now }
+    requires paired { Paired image.now first.now second.now (Ok pairing) }
+    ensures { IfOk result (λ text. PrintsPairing explain image.now first.now second.now pairing text.items) }
+{
     let line = pairing_line(alloc, pairing)?;
-    Ok(line)
+    let mut text = Vec::from_slice(alloc, line.as_bytes())?;
+    match pairing {
+        Pairing::Differ(place) if explain => {
+            let lines = explain_difference(alloc, image, first, second, place)?;
+            text.extend_from_slice(lines.as_slice())?;
+        }
+        Pairing::Same | Pairing::Differ(_) => {}
+    }
+    Ok(text)
 }
 
 /// A comparison as a line.

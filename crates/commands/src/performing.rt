@@ -172,9 +172,13 @@ fn answer<'a, F: Files, O: Sink>(
             print(out, text.as_bytes(), DONE)
         }
         Request::Leak { image, arguments } => leak_image(alloc, image, arguments, files, out),
-        Request::Pair { image, arguments } => {
-            let text = pair_image(alloc, image, arguments, files)?;
-            print(out, text.as_bytes(), DONE)
+        Request::Pair {
+            image,
+            arguments,
+            explain,
+        } => {
+            let text = pair_image(alloc, image, arguments, explain, files)?;
+            print(out, text.as_slice(), DONE)
         }
         Request::Certify { image, arguments } => {
             let (text, status) = certify_image(alloc, image, arguments, files)?;

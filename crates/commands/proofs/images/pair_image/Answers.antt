@@ -1,6 +1,7 @@
 -- Why the two runs are not compared, step by step.
 use Rattle.std.proofs.Common.{List, map, ◌∙◌, subst}
 use Rattle.std.proofs.lemmas.Result.{err_from_is_err_and}
+use Rattle.arguments.specs.Within.{AreWithin}
 use Rattle.language.specs.declared.signature.Param.{Param}
 use Rattle.commands.specs.ImageRefusals.{no_image, no_arguments, no_answer, out_of_memory}
 use Rattle.commands.specs.Pairs.{RefusesPair}
@@ -37,7 +38,31 @@ returns-in_err-pairing-clause-refused g c = λ tells.
     memory_on (RefusesPair (g.F.Files.contents c.args.files.now) c.args.path.now words) c.from_residual-in_err-pairing.result p.0 p.1
     (no_answer (c.in_ok-image.ensures.said tells) (c.in_ok-first.first, c.in_ok-first.second, c.in_err-pairing.field-0.0, spelled, c.in_err-pairing.ensures, p.2))
 
-pub returns-in_err-line-clause-refused : goal.returns-in_err-line-clause-refused
-returns-in_err-line-clause-refused g c = λ tells.
-    let p = err_from_is_err_and c.from_residual-in_err-line.result c.from_residual-in_err-line.ensures.1 in
-    memory_on (RefusesPair (g.F.Files.contents c.args.files.now) c.args.path.now (map (λ word. word.now) c.args.arguments.now)) c.from_residual-in_err-line.result p.0 p.1 (out_of_memory p.2)
+pub pairing_lines-requires-clause-first : goal.pairing_lines-requires-clause-first
+pairing_lines-requires-clause-first g c =
+    subst (λ (params : List Param). AreWithin params c.in_ok-first.first) (c.as_slice.ensures.value ∙ c.in_ok-params.ensures.params) c.in_ok-first.ensures.found.first.within
+
+pub pairing_lines-requires-clause-second : goal.pairing_lines-requires-clause-second
+pairing_lines-requires-clause-second g c =
+    subst (λ (params : List Param). AreWithin params c.in_ok-first.second) (c.as_slice.ensures.value ∙ c.in_ok-params.ensures.params) c.in_ok-first.ensures.found.second.within
+
+pub returns-in_err-text-clause-refused : goal.returns-in_err-text-clause-refused
+returns-in_err-text-clause-refused g c = λ tells.
+    let p = err_from_is_err_and c.from_residual-in_err-text.result c.from_residual-in_err-text.ensures.1 in
+    memory_on (RefusesPair (g.F.Files.contents c.args.files.now) c.args.path.now (map (λ word. word.now) c.args.arguments.now)) c.from_residual-in_err-text.result p.0 p.1 (out_of_memory p.2)
+
+pub returns-clause-said : goal.returns-clause-said
+returns-clause-said g c = λ tells.
+    let words = map (λ word. word.now) c.args.arguments.now in
+    let one = c.in_ok-first.first in
+    let other = c.in_ok-first.second in
+    record {
+      image = c.in_ok-image.image;
+      one = one;
+      other = other;
+      pairing = c.in_ok-pairing.pairing;
+      held = c.in_ok-image.ensures.said tells;
+      spelled = subst (λ (params : List Param). AreBothSpelled params words one other) (c.as_slice.ensures.value ∙ c.in_ok-params.ensures.params) c.in_ok-first.ensures.found;
+      paired = c.in_ok-pairing.ensures;
+      printed = c.in_ok-text.ensures;
+    }

@@ -89,13 +89,13 @@ returns-in_ok-text-in-Run-clause-failed g c = λ files out.
 
 pub returns-in_ok-text-in-Pair-clause-failed : goal.returns-in_ok-text-in-Pair-clause-failed
 returns-in_ok-text-in-Pair-clause-failed g c = λ files out.
-    let said = subst (λ (bytes : List ℕ). SaysPair (g.F.Files.contents c.args.files.now) c.in-Pair.image.now (map (λ word. word.now) c.in-Pair.arguments.now) bytes) (sym c.as_bytes-in-Pair.ensures.value) (c.in_ok-text-in-Pair.ensures.said files) in
-    fails_to_print _ _ c.in-Pair.is _ _ _ _ c.as_bytes-in-Pair.result.now 0 c.print-in-Pair.result (said, refl) refl (c.print-in-Pair.ensures.beginning out) c.print-in-Pair.ensures.fault
+    let said = subst (λ (bytes : List ℕ). SaysPair c.in-Pair.explain (g.F.Files.contents c.args.files.now) c.in-Pair.image.now (map (λ word. word.now) c.in-Pair.arguments.now) bytes) (sym c.as_slice.ensures.value) (c.in_ok-text-in-Pair.ensures.said files) in
+    fails_to_print _ _ c.in-Pair.is _ _ _ _ c.as_slice.result.now 0 c.print-in-Pair.result (said, refl) refl (c.print-in-Pair.ensures.beginning out) c.print-in-Pair.ensures.fault
 
 pub returns-in_ok-text-in-Certify-clause-failed : goal.returns-in_ok-text-in-Certify-clause-failed
 returns-in_ok-text-in-Certify-clause-failed g c = λ files out.
-    let said = subst (λ (bytes : List ℕ). SaysCertificate (g.F.Files.contents c.args.files.now) c.in-Certify.image.now (map (λ word. word.now) c.in-Certify.arguments.now) bytes c.in_ok-text-in-Certify.status) (sym c.as_slice.ensures.value) (c.in_ok-text-in-Certify.ensures.said files) in
-    fails_to_print _ _ c.in-Certify.is _ _ _ _ c.as_slice.result.now c.in_ok-text-in-Certify.status c.print-in-Certify.result said refl (c.print-in-Certify.ensures.beginning out) c.print-in-Certify.ensures.fault
+    let said = subst (λ (bytes : List ℕ). SaysCertificate (g.F.Files.contents c.args.files.now) c.in-Certify.image.now (map (λ word. word.now) c.in-Certify.arguments.now) bytes c.in_ok-text-in-Certify.status) (sym c.as_slice-in-Certify.ensures.value) (c.in_ok-text-in-Certify.ensures.said files) in
+    fails_to_print _ _ c.in-Certify.is _ _ _ _ c.as_slice-in-Certify.result.now c.in_ok-text-in-Certify.status c.print-in-Certify.result said refl (c.print-in-Certify.ensures.beginning out) c.print-in-Certify.ensures.fault
 
 pub returns-in_ok-lines-in-List-clause-failed : goal.returns-in_ok-lines-in-List-clause-failed
 returns-in_ok-lines-in-List-clause-failed g c = λ files out.
