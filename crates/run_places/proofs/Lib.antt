@@ -1,3 +1,4 @@
+mod Below
 pub mod Openings
 pub mod Parting
 pub mod Runs

@@ -13,7 +13,7 @@ use Rattle.rv_machine.specs.Entries.{Entry, program_counter, entries_of, IsFirst
 use Rattle.rv_machine.specs.Leakage.{stays, turns, halts, Runs, halted, cut_short, spent}
 use Rattle.rv_machine.specs.Machine.{State, Code, word_at, Ending, goes_on, stops, here, loaded, stored, ending_of, Turn, pc_misaligned, not_code, no_instruction, executes}
 use Rattle.rv_machine.specs.Sizes.{byte_count}
-use Rattle.rv_machine.proofs.RunLaws.{Runs-determined}
+use Rattle.run_places.proofs.Below.{Runs-determined}
 use Rattle.word.specs.declared.profile.Profile.{Profile}
 use Rattle.run_places.specs.Places.{Ends, ShowsNext, IsLastBefore, ShowsFewer}
 

@@ -7,9 +7,7 @@ use Rattle.rv_machine.specs.declared.stops.Stop.{Stop}
 use Rattle.rv_machine.specs.Effects.{effect_of}
 use Rattle.rv_machine.specs.Entries.{Entry, program_counter, events_of, entries_of, IsFirstDifference}
 use Rattle.rv_machine.specs.Machine.{State, Code, Ending, goes_on, stops, here, Turn, pc_misaligned, not_code, no_instruction, executes}
-use Rattle.rv_machine.proofs.EntryLaws.{entries_of-injective}
-use Rattle.rv_machine.proofs.RunLaws.{Runs-determined}
-use Rattle.rv_machine.proofs.Shown.{entries_of-append}
+use Rattle.run_places.proofs.Below.{entries_of-injective, Runs-determined, entries_of-append}
 use Rattle.run_places.specs.Places.{Ends, ShowsNext, IsLastBefore}
 use Rattle.run_places.proofs.Openings.{ShowsHere, effect_here}
 use Rattle.run_places.proofs.Runs.{ends_next, entries_more}

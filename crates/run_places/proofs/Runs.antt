@@ -9,9 +9,7 @@ use Rattle.rv_machine.specs.declared.stops.Stop.TheVariants.{Budget, RecorderRef
 use Rattle.rv_machine.specs.Entries.{Entry, entries_of}
 use Rattle.rv_machine.specs.Leakage.{Leads, stays, turns, halts, Done, went_on, stopped, refused, Runs, halted, spent}
 use Rattle.rv_machine.specs.Machine.{State, Code, Ending, goes_on, stops, Turn}
-use Rattle.rv_machine.proofs.RunLaws.{Leads-more}
-use Rattle.rv_machine.proofs.Shown.{entries_of-append}
-use Rattle.rv_machine.proofs.TotalLaws.{Runs-more, turn_stops, run_of_state}
+use Rattle.run_places.proofs.Below.{Leads-more, entries_of-append, Runs-more, turn_stops, run_of_state}
 use Rattle.run_places.specs.Places.{Ends, ShowsNext, IsLastBefore, ShowsFewer}
 use Rattle.run_places.specs.Shown.{entry_or_stop, shown_entry, ShowsAt}
 use Rattle.run_places.specs.Turned.{listed, Turned}

@@ -1,5 +1,5 @@
 use Rattle.rv_machine.specs.Leakage.{spent}
-use Rattle.rv_machine.proofs.RunLaws.{Runs-determined}
+use Rattle.run_places.proofs.Below.{Runs-determined}
 use Rattle.run_places.proofs.turns.make_turns.Goals as goal
 
 pub returns-clause-there : goal.returns-clause-there

@@ -1,0 +1,5 @@
+-- What these proofs take from the proofs of the crates below, in one place.
+pub use Rattle.rv_machine.proofs.EntryLaws.{entries_of-injective}
+pub use Rattle.rv_machine.proofs.RunLaws.{Leads-more, Runs-determined}
+pub use Rattle.rv_machine.proofs.Shown.{entries_of-append}
+pub use Rattle.rv_machine.proofs.TotalLaws.{Runs-more, turn_stops, run_of_state}
