@@ -1,4 +1,5 @@
 pub mod Contents
+pub mod Costs
 pub mod OutcomeText
 pub mod Unread
 pub mod Images
@@ -19,4 +20,5 @@ pub mod WrappedCode
 pub mod TwoFiles
 pub mod FunctionFiles
 pub mod FaultText
+pub mod Vectors
 pub mod Requests

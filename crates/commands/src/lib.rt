@@ -12,10 +12,12 @@ mod files;
 mod foreign_code;
 mod functions;
 mod images;
+mod measuring;
 mod outcome;
 mod performing;
 mod side_by_side;
 mod texts;
+mod trying;
 
 pub use command_line::Request;
 pub use fault::{Fault, FileFault};

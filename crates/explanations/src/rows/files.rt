@@ -116,6 +116,15 @@ const ROWS: [Explanation; 17] = [
         mended: "",
     },
     Explanation {
+        code: "V1",
+        name: "line form",
+        rule: "A line of a file of vectors is `NAME: ARG .. = OUTCOME ..`: the name ends at the first `:`, and the\n\
+               arguments at the first `=` behind it. What begins with `#` is a comment, and a line of blanks says\n\
+               nothing.",
+        violates: "",
+        mended: "",
+    },
+    Explanation {
         code: "C1",
         name: "code length",
         rule: "The file of code is empty, its length is not a multiple of 4 bytes, or it has more than 192064\n\

@@ -1,0 +1,8 @@
+use Rattle.vectors.proofs.ExactLemmas.{one_verdict, all_counted}
+use Rattle.vectors.proofs.laws.verdicts_are_exact.Goals as goal
+
+pub returns-clause-one : goal.returns-clause-one
+returns-clause-one c = one_verdict c.readings_agree.ensures c.certifications_agree.ensures
+
+pub returns-clause-counted : goal.returns-clause-counted
+returns-clause-counted c = all_counted
