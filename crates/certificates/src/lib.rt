@@ -18,4 +18,5 @@ pub use laws::{
     certificates_hold, certifications_agree, known_images_cover,
     pairs_and_listings_are_as_certified,
 };
+pub use loading::{Loaded, load as load_given};
 pub use reading::read_given;

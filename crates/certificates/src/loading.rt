@@ -82,17 +82,13 @@ fn put_given<M: Memory>(memory: &mut M, frame: u32, slots: &[Slot], given: &[Opt
 
 /// A run that has not begun yet, and what is known of its state.
 #[derive(Drop)]
-pub(crate) struct Loaded {
-    pub(crate) run: Running<PagedMemory>,
-    pub(crate) known: KnownParts<PagedMemory>,
+pub struct Loaded {
+    pub run: Running<PagedMemory>,
+    pub known: KnownParts<PagedMemory>,
 }
 
 /// An image, at the standard bases, with what is given of its arguments, which has no fault.
-pub(crate) fn load(
-    alloc: Global,
-    image: &Image,
-    given: &[Option<Arg>],
-) -> Result<Loaded, AllocError>
+pub fn load(alloc: Global, image: &Image, given: &[Option<Arg>]) -> Result<Loaded, AllocError>
     requires { fault_of_given (params_of image.now) given.now ≡ None }
     ensures known { IfOk result (λ loaded. known_of (state_of loaded.run.hart (paged_bytes loaded.run.memory)) loaded.known.registers (paged_bytes loaded.known.marks)
         ≡ known_at code_base frame_base image.now given.now) }

@@ -1,4 +1,5 @@
 pub mod Contents
+pub mod Costs
 pub mod OutcomeText
 pub mod Unread
 pub mod Images
@@ -9,6 +10,7 @@ pub mod Runs
 pub mod Leaks
 pub mod Pairs
 pub mod Certificates
+pub mod Pictures
 pub mod FileTexts
 pub mod Meanings
 pub mod HartsText

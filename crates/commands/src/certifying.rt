@@ -41,7 +41,11 @@ pub fn certify_image<'a, F: Files>(
 }
 
 /// A certificate as lines: `same` and the stop, or where runs may begin to differ and the line of the word there.
-fn text_of(alloc: Global, image: &Image, certificate: Certificate) -> Result<Vec<u8>, AllocError>
+pub fn text_of(
+    alloc: Global,
+    image: &Image,
+    certificate: Certificate,
+) -> Result<Vec<u8>, AllocError>
     requires { StandsInCode image.now certificate }
     ensures { IfOk result (λ text. PrintsCertificate image.now certificate text.items) }
 {

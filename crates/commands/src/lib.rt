@@ -12,8 +12,10 @@ mod files;
 mod foreign_code;
 mod functions;
 mod images;
+mod measuring;
 mod outcome;
 mod performing;
+mod picturing;
 mod side_by_side;
 mod texts;
 

@@ -1,0 +1,4 @@
+mod Depicted
+mod Filled
+mod Painted
+mod Sizes
