@@ -1,12 +1,13 @@
 // One turn of what is known: it is asked what decides it, and then made by the machine.
 
-ghost use Rattle.std.specs.Prelude.{◌≡◌, [], None, IfSome, length};
+ghost use Rattle.std.specs.Prelude.{◌≡◌, [], length};
 ghost use Rattle.rv_machine.specs.Bytes.{ByteMap};
 ghost use Rattle.rv_machine.specs.Entries.{entries_of};
-ghost use Rattle.rv_machine.specs.Harts.{state_of};
+ghost use Rattle.rv_code.specs.declared.instructions.Instr.{Instr};
+ghost use Rattle.rv_machine.specs.Harts.{pc_of, state_of};
 ghost use Rattle.rv_machine.specs.Leakage.{followed_by};
+ghost use Rattle.rv_machine.specs.Machine.{IsAt};
 ghost use Rattle.rv_machine.specs.Regions.{code_of};
-ghost use Rattle.certified_runs.specs.Certified.{KnownTurn, KnownEnding};
 ghost use Rattle.certified_runs.specs.Parts.{known_registers, known_bytes, known_of};
 ghost use Rattle.certified_runs.specs.private.Changes.{registers_with, bytes_with, IsPossible};
 ghost use Rattle.certified_runs.specs.private.Turned.{HaveOneExtent, IsDecided, HasTurned};
@@ -24,26 +25,6 @@ pub(crate) enum TurnEnd {
     Ends(u64, Stop),
     /// What it shows may depend on what is unknown. It was not made.
     Depends,
-}
-
-// What the turn of the instruction at the program counter, if there is one, changes in what is
-// known. `None` where the turn may depend on what is unknown.
-#[inline(always)]
-fn outlook<M: Memory>(code: &CodeRegion, hart: &Hart, known: &KnownParts<M>) -> Option<Change>
-    ensures decided { IfSome result (λ change. (bytes : ByteMap)
-        → IsDecided (code_of code.now)
-        (known_of (state_of hart.now bytes) known.now.registers (M.bytes known.now.marks)) change) }
-    ensures depends { result ≡ None → (bytes : ByteMap)
-        → KnownTurn (code_of code.now)
-        (known_of (state_of hart.now bytes) known.now.registers (M.bytes known.now.marks)) KnownEnding.depends }
-{
-    match code.instruction_at(hart.pc()) {
-        Some(instr) if decides(code.profile(), instr, known) => {
-            Some(change_of(instr, hart, known))
-        }
-        Some(_) => None,
-        None => Some(Change::Nothing),
-    }
 }
 
 // Makes a change in what is known.
@@ -74,6 +55,52 @@ fn entries_in(seen: Option<Observation>) -> u64
     }
 }
 
+// Makes the next turn, which is decided, and where it goes on this change.
+#[inline(always)]
+fn go<M: Memory>(
+    code: &CodeRegion,
+    hart: &mut Hart,
+    memory: &mut M,
+    known: &mut KnownParts<M>,
+    change: Change,
+) -> TurnEnd
+    requires extent { HaveOneExtent (M.bytes known.old.marks) (M.bytes memory.old) }
+    requires decided { (bytes : ByteMap) → IsDecided (code_of code.now)
+        (known_of (state_of hart.old bytes) known.old.registers (M.bytes known.old.marks)) change }
+    ensures turned { HasTurned (code_of code.now)
+        (known_of (state_of hart.old (M.bytes memory.old)) known.old.registers (M.bytes known.old.marks)) result
+        (known_of (state_of hart.new (M.bytes memory.new)) known.new.registers (M.bytes known.new.marks)) }
+    ensures extent { HaveOneExtent (M.bytes known.new.marks) (M.bytes memory.new) }
+{
+    let (seen, stop) = step_unrecorded(hart, code, memory);
+    let entries = entries_in(seen);
+    if let Some(stop) = stop {
+        return TurnEnd::Ends(entries, stop);
+    }
+    make(known, change);
+    TurnEnd::LeadsOn(entries)
+}
+
+// Makes the turn where no instruction stands at the program counter. It is apart, so that the other turns
+// need not ask again whether one does.
+#[cold]
+#[inline(never)]
+fn halt<M: Memory>(
+    code: &CodeRegion,
+    hart: &mut Hart,
+    memory: &mut M,
+    known: &mut KnownParts<M>,
+) -> TurnEnd
+    requires extent { HaveOneExtent (M.bytes known.old.marks) (M.bytes memory.old) }
+    requires nowhere { (i : Instr) → ¬ IsAt (code_of code.now) (pc_of hart.old) i }
+    ensures turned { HasTurned (code_of code.now)
+        (known_of (state_of hart.old (M.bytes memory.old)) known.old.registers (M.bytes known.old.marks)) result
+        (known_of (state_of hart.new (M.bytes memory.new)) known.new.registers (M.bytes known.new.marks)) }
+    ensures extent { HaveOneExtent (M.bytes known.new.marks) (M.bytes memory.new) }
+{
+    go(code, hart, memory, known, Change::Nothing)
+}
+
 /// Makes the next turn of what is known, unless what it shows may depend on what is unknown.
 #[inline(always)]
 pub(crate) fn turn<M: Memory>(
@@ -88,14 +115,13 @@ pub(crate) fn turn<M: Memory>(
         (known_of (state_of hart.new (M.bytes memory.new)) known.new.registers (M.bytes known.new.marks)) }
     ensures extent { HaveOneExtent (M.bytes known.new.marks) (M.bytes memory.new) }
 {
-    let Some(change) = outlook(code, hart, known) else {
-        return TurnEnd::Depends;
+    let Some(instr) = code.instruction_at(hart.pc()) else {
+        return halt(code, hart, memory, known);
     };
-    let (seen, stop) = step_unrecorded(hart, code, memory);
-    let entries = entries_in(seen);
-    if let Some(stop) = stop {
-        return TurnEnd::Ends(entries, stop);
+    if decides(code.profile(), instr, known) {
+        let change = change_of(instr, hart, known);
+        go(code, hart, memory, known, change)
+    } else {
+        TurnEnd::Depends
     }
-    make(known, change);
-    TurnEnd::LeadsOn(entries)
 }

@@ -1,20 +1,17 @@
 -- The arguments, loaded: what the variables hold, and what lies in the slots; and what the slots hold in the end.
 use Rattle.std.proofs.Common.{◌≡◌, ◌⊎◌, inl, inr, ℕ, zero, suc, ◌+◌, ◌*◌, ◌%◌, ◌^◌, ◌<◌, ◌≤◌, true, false, List, [], ◌∷◌, ◌++◌, length, map, take, drop, replicate, Option, None, Some, is_some, slice_get, slice_index, refl, sym, ap, ap₂, ◌∙◌, subst, arith, unwrap_or}
-use Rattle.std.proofs.lemmas.List.{length-replicate, take-append-drop}
-use Rattle.std.proofs.lemmas.List.Elements.{All-replicate}
-use Rattle.std.proofs.lemmas.Option.{same_Some, none-some}
-use Rattle.codegen.proofs.Language.{AreWithin, IsWithin, HasShape, greatest_of, words_of, FlatVariable, Fits, IsHeld}
-use Rattle.codegen.proofs.Language.{IsWithinKind, numbers_in, declaration_of, TermTree, given, Values, value_in}
-use Rattle.codegen.proofs.Language.{array_of, arrays_from, declared_words, types_of, Types, IsResult, Form}
-use Rattle.codegen.proofs.Language.{SingleWord, FixedArray, MutableArray, Kind, Boolean, Label, Param, WordType, Arg}
-use Rattle.codegen.proofs.Language.{Word, Array, element_bytes, array_words, bits_of, Profile}
 use Rattle.codegen.proofs.Machine.{result_offset, control_offset, slots_from, variable_offset, with_numbers}
 use Rattle.codegen.proofs.Machine.{with_argument, with_arguments, word_in, numbers_at, array_in, arrays_in, ByteMap}
 use Rattle.codegen.proofs.Machine.{number_at, with_number, zeros, State, result_slot}
+use Rattle.codegen.proofs.Language.{AreWithin, IsWithin, HasShape, greatest_of, words_of, FlatVariable, Fits, IsHeld}
+use Rattle.codegen.proofs.Language.{IsWithinKind, numbers_in, declaration_of, TermTree, given, Values, value_in}
+use Rattle.codegen.proofs.Language.{array_of, arrays_from, declared_words, types_of, Types, IsResult, Form, SingleWord}
+use Rattle.codegen.proofs.Language.{FixedArray, MutableArray, Kind, Boolean, Label, Param, WordType, Arg, Word, Array}
+use Rattle.codegen.proofs.Language.{element_bytes, array_words, bits_of, Profile}
+use Rattle.codegen.proofs.Logic.{length-replicate, take-append-drop, All-replicate, number_at_same, place_within, Ready}
+use Rattle.codegen.proofs.Logic.{same_Some, none-some, bytes_by, bytes_of, place_of, Setting, place_ends, option_map}
 use Rattle.inline.specs.FlatSize as flat_size
-use Rattle.codegen.proofs.Logic.{number_at_same, bytes_by, bytes_of, place_of, place_within, Setting, Ready, place_ends}
 use Rattle.codegen.proofs.Numbers.{numbers_beside, number_data, numbers_data, numbers_there, zero_byte, zero_number}
-use Rattle.std.specs.Option.{option_map}
 
 greatest : (kind : Kind) (v : ℕ) → v ≤ greatest_of kind → v < 2 ^ bits_of kind
 greatest Boolean v h = omega (arith, h)

@@ -1,27 +1,22 @@
 -- The code of a program, run: its body wherever its words stand, and the loaded image to its end. So the image is the code's.
-use Rattle.std.proofs.Common.{◌≡◌, inr, ℕ, ◌+◌, ◌*◌, ◌<◌, ◌≤◌, List, [], ◌∷◌, ◌++◌, length, map, drop, Some, slice_get, slice_index, is_some, refl, sym, ap, ap₂, ◌∙◌, subst, arith, None, Option}
-use Rattle.std.proofs.lemmas.List.{length-map}
+use Rattle.std.proofs.Common.{◌≡◌, ℕ, ◌+◌, ◌*◌, ◌≤◌, List, [], ◌∷◌, ◌++◌, length, map, drop, Some, slice_get, slice_index, is_some, refl, sym, ap, ap₂, ◌∙◌, subst, arith, None, Option}
 use Rattle.codegen.proofs.Language.{AreWithin, StraightProgram, StraightState, after_all, path_along, outcome_of}
-use Rattle.codegen.proofs.Language.{path_of, FlatVariable, types_of, Path, AreFine, seen, Arg, Profile}
-use Rattle.codegen.proofs.Language.{declaration_of, Param, WordType}
+use Rattle.codegen.proofs.Language.{path_of, FlatVariable, types_of, Path, AreFine, seen, Arg, Profile, declaration_of}
+use Rattle.codegen.proofs.Language.{Param, WordType}
+use Rattle.codegen.proofs.Logic.{length-map, All-append, option_map, setting as pieces_of}
 use Rattle.branch_removal.specs.StraightMeaning.{start as start_of}
-use Rattle.codegen.proofs.Machine.{body_words, Stand, IsPlaced, IsLoaded, RunsBehind, IsFollowedIn}
-use Rattle.codegen.proofs.Machine.{loaded_at, results_in, code_at, block_code, depth_in_all}
-use Rattle.codegen.proofs.Machine.{program_base, program_code, result_code, image_of, result_slot}
-use Rattle.codegen.proofs.Machine.{HasRoom, variable_offset, slots_from, Instr, word_of, Observation, number_at}
-use Rattle.codegen.proofs.Machine.{Leads, Halts, Code, IsAt, IsInside, AreBases, IsFollowed, IsGenerated, Ecall}
-use Rattle.codegen.proofs.Machine.{type_in, Slot}
+use Rattle.codegen.proofs.Machine.{body_words, Stand, IsPlaced, IsLoaded, RunsBehind, IsFollowedIn, loaded_at}
+use Rattle.codegen.proofs.Machine.{results_in, code_at, block_code, depth_in_all, program_base, program_code}
+use Rattle.codegen.proofs.Machine.{result_code, image_of, result_slot, HasRoom, variable_offset, slots_from, Instr}
+use Rattle.codegen.proofs.Machine.{word_of, Observation, number_at, Leads, Halts, Code, IsAt, IsInside, AreBases}
+use Rattle.codegen.proofs.Machine.{IsFollowed, IsGenerated, Ecall, type_in, Slot}
 use Rattle.codegen.proofs.Arguments.{loaded, parameters_first, LiesAt, arrays_are, returned_is}
 use Rattle.codegen.proofs.SetRuns.{steps_of_result, Given, result_runs}
-use Rattle.codegen.proofs.Standing.{words_alone, body_words_before, placed_alone, word_alone, leads_among, stand_placed, placed}
+use Rattle.codegen.proofs.Standing.{words_alone, body_words_before, placed_alone, leads_among, stand_placed, placed}
 use Rattle.codegen.proofs.StatementRuns.{block_runs}
-use Rattle.codegen.proofs.Untouched.{IsFree, leads_leave}
-use Rattle.codegen.proofs.WorkingRegisters.{calm_keeps, calm_word, body_works}
-use Rattle.codegen.proofs.Logic.{setting as pieces_of, bytes_of, place_of, Setting, seen_by, Straight, Steps, Runs, seq, gives, cheaper, beside, Ready, ready_below, All-one, Placed, Placed-left, Placed-right, Halts-after, ecall_halts}
+use Rattle.codegen.proofs.Logic.{bytes_of, place_of, Setting, seen_by, Straight, Steps, Runs, seq, gives, cheaper, beside, Ready, ready_below, All-one, Placed, Placed-left, Placed-right, Halts-after, ecall_halts}
 use Rattle.rv_code.specs.declared.instructions.Instr.TheVariants as instr
 use Rattle.rv_machine.specs.Machine as machine
-use Rattle.std.proofs.lemmas.List.Elements.{All-append}
-use Rattle.std.specs.Option.{option_map}
 use Rattle.codegen.proofs.ImageLemmas.{room_frame}
 use Rattle.inline.specs.FlatSize.{words_of}
 
@@ -44,14 +39,6 @@ body_words-image p = body_words_before (body_code p) instr.Ecall
 
 pub body_length : (p : StraightProgram) → length (body_words (image_of p).words) ≡ length (body_code p)
 body_length p = ap (λ (ws : List ℕ). length ws) (body_words-image p) ∙ length-map {B = ℕ} (body_code p) word_of
-
--- none of its instructions writes one of the first five registers
-body_free : (p : StraightProgram) (profile : Profile) (start r : ℕ) → 0 < r → r < 5 → IsFree (words_alone profile start (map word_of (body_code p))) r
-unfolding body_code
-body_free p profile start r some low q i at regs =
-    let found = word_alone profile start (map word_of (body_code p)) q (word_of i) at.word in
-    let works = body_works p.declared p.controls (depth_in_all p.body) (program_base p) p.body p.value in
-    calm_keeps r some low i at.in_range (calm_word r some low (body_code p) works found.number (word_of i) found.is) q regs
 
 module _ (p : StraightProgram) (room : HasRoom p) (code : Code) (start frame : ℕ) (there : IsPlaced (image_of p) code start frame) where
   -- as if the body's words stood alone
@@ -78,14 +65,12 @@ module _ (p : StraightProgram) (room : HasRoom p) (code : Code) (start frame : �
   body_runs : Runs setting (32 * p.work) steps (body_code p) (Ready setting) Finished
   unfolding body_code steps Finished
   body_runs =
-      let worked = room.worked in
-      let counted = room.counted in
       let nodes = room.nodes in
-      cheaper (omega (arith, worked))
+      cheaper (omega (arith, room.worked))
       (gives
       (λ env s t fine ready done. record { ready = done.second.ready; left = done.second.left })
       (seq
-      (block_runs setting 0 p.body room.typed.body (omega arith) (omega arith) (omega (arith, counted, nodes)))
+      (block_runs setting 0 p.body room.typed.body (omega arith) (omega arith) (omega (arith, room.counted, nodes)))
       (beside (last_state p) (result_runs setting p.returned p.value room.typed.result (omega arith)))
       (λ env s t ready done. done.ready)))
 
@@ -132,19 +117,18 @@ module _ (p : StraightProgram) (room : HasRoom p) (code : Code) (start frame : �
   runs_behind args s at laid within fine =
       let done = straight.runs (start_of p args) s [] at fine (begins args s laid within) in
       let same : (straight.leak (seen_by setting (path_of p args) ++ [])).0 ≡ done.seen = ap (λ (r : List Observation × Path). r.0) done.shown in
-      let few = done.within in
       subst (λ (seen : List Observation). RunsBehind p (image_of p) code start frame args s seen) (sym same)
       (record {
         run = record {
           turns = done.turns;
           end = done.end;
           leads = among done.leads;
-          within_steps = omega (arith, few);
+          within_steps = omega (arith, done.within);
           within_frame = done.inside;
           behind = done.at ∙ ap (λ n. start + 4 * n) (sym (body_length p));
           base = done.done.ready.held.base;
-          untouched = λ r is. (leads_leave setting.code frame (image_of p).frame_bytes r (frame + (image_of p).frame_bytes) (body_free p p.profile start r (omega (arith, is)) (omega (arith, is))) (inr (omega arith)) done.leads done.inside).0;
-          beside = λ a apart. (leads_leave setting.code frame (image_of p).frame_bytes 1 a (body_free p p.profile start 1 (omega arith) (omega arith)) apart done.leads done.inside).1;
+          untouched = λ r is. done.keeps.regs r (omega (arith, is));
+          beside = done.keeps.beside;
           frame_there = done.done.ready.held.data_there;
         };
         outcome = outcome args s done.end done.done;
@@ -199,13 +183,12 @@ module _ (p : StraightProgram) (code frame : ℕ) (bases : AreBases (image_of p)
         let s = loaded_at code frame (image_of p) args in
         let follows = body.runs args s refl (record { base = refl; frame_there = λ o inside. refl }) within fine in
         let run = follows.run in
-        let few = run.within_steps in
         let Inside = λ (o : Observation). IsInside frame (image_of p).frame_bytes o.event in
         record {
           turns = run.turns + 1;
           end = run.end;
           halts = Halts-after run.leads (ends_there run.end run.behind);
-          within_steps = omega (arith, few);
+          within_steps = omega (arith, run.within_steps);
           within_frame = All-append Inside (body.shown (seen p.profile (path_of p args))) end_shown run.within_frame (All-one Inside (record { pc = last; event = None }) tt);
           outcome = follows.outcome;
         };
@@ -226,14 +209,13 @@ slot_type declared (Some word) = refl
 pub is_generated : (p : StraightProgram) → HasRoom p → IsGenerated p (image_of p)
 is_generated p room =
     let words : length (map word_of (program_code p)) ≡ length (program_code p) = length-map {B = ℕ} (program_code p) word_of in
-    let most = room.code in
     record {
       profile = refl;
       parameters = slot_params 0 p.parameters;
       returned = slot_type p.declared p.returned;
       max_steps = refl;
       frame_size = room_frame p room;
-      word_count = omega (arith, most, words);
+      word_count = omega (arith, room.code, words);
       follows = λ code frame bases. followed_whole p code frame bases (followed_in p room (code_at code (image_of p)) code frame (stands_there p code frame bases));
       anywhere = λ code start frame there. followed_in p room code start frame there;
     }

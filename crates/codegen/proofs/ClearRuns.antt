@@ -1,16 +1,14 @@
 -- The code that makes an array of zeros.
-use Rattle.std.proofs.Common.{◌≡◌, ℕ, zero, suc, ◌+◌, ◌*◌, ◌%◌, ◌<◌, ◌≤◌, ◌==◌, ◌⊎◌, inl, inr, Bool, true, false, nat_lt, List, [], ◌∷◌, ◌++◌, length, replicate, Some, refl, sym, ap, ap₂, ◌∙◌, arith, length-append}
-use Rattle.std.proofs.lemmas.Bool.Decides.{nat_tests}
-use Rattle.std.proofs.lemmas.Bool.{eqb-true, eqb-false}
-use Rattle.std.proofs.lemmas.List.{length-replicate}
+use Rattle.std.proofs.Common.{◌≡◌, ◌≢◌, ⊎_elim, ℕ, zero, suc, ◌+◌, ◌*◌, ◌%◌, ◌<◌, ◌≤◌, ◌⊎◌, inl, inr, true, List, [], ◌∷◌, ◌++◌, length, replicate, Some, refl, sym, ap, ap₂, ◌∙◌, arith, length-append}
+use Rattle.codegen.proofs.Machine.{clear_code, statement_code, loop_code, with_numbers, variable_offset, constant_code}
+use Rattle.codegen.proofs.Machine.{Instr, Addi, Add, Sub, Sw, ByteMap, number_at, with_number, sum_of}
+use Rattle.codegen.proofs.Machine.{difference_of, with_register}
 use Rattle.codegen.proofs.Language.{FlatVariable, array_as, path_of_turns, Path, clear, StraightState, with_variable}
 use Rattle.codegen.proofs.Language.{after, IsFilled, Kind, Boolean, array_words}
-use Rattle.codegen.proofs.Machine.{clear_code, statement_code, loop_code, with_numbers, variable_offset}
-use Rattle.codegen.proofs.Machine.{constant_code, Instr, Addi, Add, Sub, Sw, ByteMap, number_at, with_byte}
-use Rattle.codegen.proofs.Machine.{with_number, sum_of, difference_of, with_register}
+use Rattle.codegen.proofs.Logic.{cases_eq, cases_lt, length-replicate}
 use Rattle.rv_code.specs.declared.instructions.Instr.TheVariants as instr
 use Rattle.rv_machine.specs.Machine as machine
-use Rattle.codegen.proofs.Logic.{with_number-suc, with_byte_same, with_byte_other, registers_after, only_computes, is_free, computing_within, frame_runs, plain_append, after_append, constant_plain, constant_after, constant_length, kind_known, HeldAt, Held, held_regs, frame_there, bytes_of, place_of, place_within, ends_before_result, Setting, setting, none, Runs, Still, looping, never, quiet, weaken, gives, cheaper, along, as_code, Ready, number_same}
+use Rattle.codegen.proofs.Logic.{with_number-suc, with_byte_same, with_byte_other, registers_after, only_computes, is_free, computing_within, frame_runs, plain_append, after_append, constant_plain, constant_after, constant_length, kind_known, HeldAt, Held, held_regs, frame_there, bytes_of, place_of, place_within, ends_before_result, Setting, setting, none, none_low, Runs, Still, looping, never, quiet, weaken, gives, cheaper, along, as_code, Ready, number_same}
 use Rattle.codegen.proofs.Arguments.{zero_at, held_zeros}
 use Rattle.codegen.proofs.Numbers.{numbers_beside, zero_number}
 use Rattle.codegen.proofs.Slots.{Shown, ready_changed}
@@ -31,11 +29,10 @@ path_none (suc n) i env = path_none n (i + 1) env
 zero_bytes : (bytes : ByteMap) (n a x : ℕ) → a ≤ x → x < a + n → with_number bytes n a 0 x ≡ Some 0
 zero_bytes bytes zero a x low high = absurd (omega (arith, low, high))
 zero_bytes bytes (suc n) a x low high =
-    ap (λ (m : ByteMap). m x) (with_number-suc bytes n a 0) ∙ by_case (x == a) refl (λ above. zero_bytes bytes n (a + 1) x above (omega (arith, high)))
-  where
-    by_case : (b : Bool) → (x == a) ≡ b → (a + 1 ≤ x → with_number bytes n (a + 1) 0 x ≡ Some 0) → with_byte (with_number bytes n (a + 1) 0) a 0 x ≡ Some 0
-    by_case true e rest = with_byte_same (with_number bytes n (a + 1) 0) a 0 x (eqb-true x a e)
-    by_case false e rest = with_byte_other (with_number bytes n (a + 1) 0) a 0 x (eqb-false x a e) ∙ rest (grind (arith, nat_tests))
+    let rest = with_number bytes n (a + 1) 0 in
+    let behind = λ (e : x ≢ a). zero_bytes bytes n (a + 1) x (omega (arith, low, e)) (omega (arith, high)) in
+    ap (λ (m : ByteMap). m x) (with_number-suc bytes n a 0)
+    ∙ ⊎_elim (with_byte_same rest a 0 x) (λ (e : x ≢ a). with_byte_other rest a 0 x e ∙ behind e) (cases_eq x a)
 
 -- bytes with so many words from an address on that are 0
 abbrev zeroed : ByteMap → ℕ → ℕ → ByteMap
@@ -43,13 +40,11 @@ zeroed bytes a n = with_numbers bytes 4 a (replicate n 0)
 
 zeroed_there : (bytes : ByteMap) (a n x : ℕ) → a ≤ x → x < a + 4 * n → zeroed bytes a n x ≡ Some 0
 zeroed_there bytes a zero x low high = absurd (omega (arith, low, high))
-zeroed_there bytes a (suc n) x low high = by_side (nat_lt x (a + 4)) refl (λ behind. zeroed_there (with_number bytes 4 a 0) (a + 4) n x behind (omega (arith, high)))
-  where
-    by_side : (b : Bool) → nat_lt x (a + 4) ≡ b → (a + 4 ≤ x → zeroed (with_number bytes 4 a 0) (a + 4) n x ≡ Some 0) → zeroed bytes a (suc n) x ≡ Some 0
-    by_side true e rest =
-        let here : x < a + 4 = grind (arith, nat_tests) in
-        numbers_beside (with_number bytes 4 a 0) 4 (a + 4) (replicate n 0) x (inl here) ∙ zero_bytes bytes 4 a x low here
-    by_side false e rest = rest (grind (arith, nat_tests))
+zeroed_there bytes a (suc n) x low high =
+    let next = with_number bytes 4 a 0 in
+    ⊎_elim
+    (λ (here : x < a + 4). numbers_beside next 4 (a + 4) (replicate n 0) x (inl here) ∙ zero_bytes bytes 4 a x low here)
+    (λ (behind : a + 4 ≤ x). zeroed_there next (a + 4) n x behind (omega (arith, high))) (cases_lt x (a + 4))
 
 zeroed_beside : (bytes : ByteMap) (a n x : ℕ) → (x < a) ⊎ (a + 4 * n ≤ x) → zeroed bytes a n x ≡ bytes x
 zeroed_beside bytes a n x (inl below) = numbers_beside bytes 4 a (replicate n 0) x (inl below)
@@ -115,7 +110,7 @@ module _ (z : Setting) (offset words : ℕ) (aligned : offset % 4 ≡ 0) (inside
         },
         done.same,
       ))
-      (computing_within z is_free begin_code begin_plain refl))
+      (computing_within z is_free begin_code begin_plain none_low))
 
   -- The loop.
 
@@ -150,12 +145,11 @@ module _ (z : Setting) (offset words : ℕ) (aligned : offset % 4 ≡ 0) (inside
         ap (λ (regs : ℕ → ℕ). regs 5) done.registers ∙ (ap₂ difference_of given.0.seven given.0.six ∙ omega (arith, ends, inside, count)),
         done.same,
       ))
-      (computing_within z is_free test refl refl)
+      (computing_within z is_free test refl none_low)
 
   turn_below : (left i : ℕ) → i < words → Runs z 2 none turn (Turning (suc left) i) (Turned i)
   turn_below left i below =
       let ends = z.ends in
-      let even = z.even in
       gives
       (λ env s t fine given done. (
         record {
@@ -165,8 +159,8 @@ module _ (z : Setting) (offset words : ℕ) (aligned : offset % 4 ≡ 0) (inside
         },
         done.1.bytes,
       ))
-      (frame_runs z {P = Turning (suc left) i} is_free turn ((z.frame + (offset + 4 * i)) ∷ []) refl refl
-      (record { even = omega (arith, even, aligned); allowed = (omega arith, omega (arith, inside, below)) }, tt)
+      (frame_runs z {P = Turning (suc left) i} is_free turn ((z.frame + (offset + 4 * i)) ∷ []) refl none_low
+      (record { even = omega (arith, z.even, aligned); allowed = (omega arith, omega (arith, inside, below)) }, tt)
       (λ env s given. (
         given.0.held,
         (
@@ -179,14 +173,9 @@ module _ (z : Setting) (offset words : ℕ) (aligned : offset % 4 ≡ 0) (inside
       )))
 
   turn_runs : (left i : ℕ) → Runs z 2 none turn (Turning (suc left) i) (Turned i)
-  turn_runs left i = by_case (nat_lt i words) refl
-    where
-      by_case : (b : Bool) → nat_lt i words ≡ b → Runs z 2 none turn (Turning (suc left) i) (Turned i)
-      by_case true e = turn_below left i (grind (arith, nat_tests))
-      by_case false e = never (λ env s given. beyond e given.1)
-        where
-          beyond : nat_lt i words ≡ false → i + suc left ≡ words → ⊥
-          beyond e h = grind (arith, nat_tests)
+  turn_runs left i =
+      ⊎_elim (λ (below : i < words). turn_below left i below)
+      (λ (beyond : words ≤ i). never (λ env s given. omega (arith, given.1, beyond))) (cases_lt i words)
 
   -- the words before the next are 0
   abbrev Inv : ℕ → ℕ → StraightState → machine.State → machine.State → Type 0
@@ -274,14 +263,12 @@ module _ (z : Setting) (depth x size : ℕ) (typed : IsFilled z.code.profile z.d
   pub clear_runs : Runs z (32 * (1 + size)) none (statement_code z.declared z.controls z.depths depth (clear x size)) (Ready z) (Shown z depth (λ env. after env (clear x size)))
   clear_runs =
       let first = ends_before_result z.declared x d typed.known in
-      let room = z.room in
-      let few = words_few typed.word.kind size in
       as_code (ap (λ k. clear_code place (array_words k size)) (kind_known z.declared x d typed.known))
-      (cheaper (omega (arith, few))
+      (cheaper (omega (arith, words_few typed.word.kind size))
       (weaken
       (λ env s fine ready. ready.held)
       (λ env s t fine ready done. record {
         ready = ready_cleared env s t ready done.0 done.1;
         hidden = λ o low high. ap (λ (m : ByteMap). m (z.frame + o)) done.1 ∙ zeroed_beside s.bytes (z.frame + place) count (z.frame + o) (inr (omega (arith, first, low)));
       })
-      (clear_bytes z place count (omega arith) (omega (arith, first, room)))))
+      (clear_bytes z place count (omega arith) (omega (arith, first, z.room)))))

@@ -2,19 +2,15 @@
 use Rattle.std.proofs.Common.{ℕ, ◌+◌, ◌*◌, ◌≤◌, nat_lt, List, [], ◌∷◌, ◌++◌, length, Option, None, Some, arith, length-append, ◌≡◌, ◌<◌, ◌==◌, Bool, true, false, slice_get, cond}
 use Rattle.codegen.proofs.Language.{statement_nodes, block_nodes, taken_in, taken_in_all, StraightTree, set, clear}
 use Rattle.codegen.proofs.Language.{fill, put, take, set_under, put_under, branch, repeats, StraightBlock, nothing}
-use Rattle.codegen.proofs.Language.{first, FlatVariable, TermTree, array_as, term_nodes, terms_nodes, declared_words}
-use Rattle.codegen.proofs.Language.{Kind, element_bytes, array_words, IsTyped, AreTyped, types_but, types_of, AllSuit}
+use Rattle.codegen.proofs.Language.{first, FlatVariable, TermTree, array_as, terms_nodes, declared_words, Kind}
+use Rattle.codegen.proofs.Language.{element_bytes, array_words, IsTyped, AreTyped, types_but, types_of, AllSuit}
 use Rattle.codegen.proofs.Language.{HasType, Boolean, WordType, Profile}
-use Rattle.codegen.specs.private.Emitted.{within_code, merge_code, element_store_code, clear_code, fill_code, index_code, put_code, put_under_code, store_by, bounds_code, test_code, count_code, statement_code, block_code, height_of_all, height_in, height_in_all, depth_in, depth_in_all}
-use Rattle.codegen.specs.private.Jumps.{branch_code, loop_code}
-use Rattle.codegen.specs.private.Placed.{AreNear, IsPlaced, ArePlacedTerms, HasPlace, HavePlaces}
-use Rattle.expression_code.specs.Layout.{variable_offset, control_offset, next_offset, temporaries_offset}
-use Rattle.expression_code.specs.TermCode.{load_code, address_code, load_by, lower_part, kind_at, expr_code, height_of}
-use Rattle.rv_code.specs.declared.instructions.Instr.{Instr}
-use Rattle.rv_code.specs.declared.instructions.Instr.TheVariants.{Load, Store}
+use Rattle.codegen.specs.private.Emitted.{within_code, element_store_code, clear_code, fill_code, test_code, count_code, statement_code, block_code, height_of_all, height_in, height_in_all, depth_in, depth_in_all}
+use Rattle.codegen.proofs.Machine.{AreNear, ArePlacedTerms, HasPlace, HavePlaces, variable_offset, control_offset}
+use Rattle.codegen.proofs.Machine.{next_offset, temporaries_offset, kind_at, height_of, Instr, slots_to}
+use Rattle.codegen.specs.private.Placed.{IsPlaced}
 use Rattle.codegen.proofs.Logic.{height, one_of, load_length, store_length, constant_length, address_length, expr_length, ends_before_result, typed_within, typed_among}
-use Rattle.std.proofs.lemmas.Option.{none-some, slice_get_within}
-use Rattle.expression_code.specs.Registers.{slots_to}
+use Rattle.codegen.proofs.Logic.{none-some, slice_get_within}
 
 -- Pieces.
 
@@ -34,39 +30,6 @@ fill_length declared free kind o (e ∷ es) =
     let h = height e in
     simp length-append (omega (arith, h, expr_length declared free 0 e, element_store_length kind o, fill_length declared free kind (o + element_bytes kind) es))
 
-index_length : (declared : List FlatVariable) (free : ℕ) (index value : TermTree) → length (index_code declared free index value) ≤ 16 * term_nodes index + 16 * term_nodes value
-index_length declared free index value = simp length-append (omega (arith, expr_length declared free 0 index, expr_length declared free 1 value))
-
-put_length : (kind : Kind) (o : ℕ) → length (put_code kind o) ≤ 5
-put_length kind o =
-    let e = length-append (address_code 5 kind o) (Store (store_by kind) 6 5 (lower_part o) ∷ []) in
-    omega (arith, e, address_length 5 kind o)
-
-put_under_length : (control : ℕ) (kind : Kind) (o : ℕ) → length (put_under_code control kind o) ≤ 16
-put_under_length control kind o =
-    let xs = address_code 5 kind o ++ Load (load_by kind) 7 5 (lower_part o) ∷ [] in
-    let a = length-append (address_code 5 kind o) (Load (load_by kind) 7 5 (lower_part o) ∷ []) in
-    let b = length-append xs (load_code 29 control) in
-    let c = length-append (xs ++ load_code 29 control) (merge_code 6 7 29) in
-    let d = length-append (xs ++ load_code 29 control ++ merge_code 6 7 29) (Store (store_by kind) 6 5 (lower_part o) ∷ []) in
-    omega (arith, a, b, c, d, address_length 5 kind o, load_length 29 control)
-
-bounds_length : (declared : List FlatVariable) (next free : ℕ) (low high : TermTree) → length (bounds_code declared next free low high) ≤ 16 * term_nodes low + 16 * term_nodes high + 6
-bounds_length declared next free low high =
-    simp length-append (omega (arith, expr_length declared free 0 low, store_length 5 next, expr_length declared free 0 high, store_length 5 (next + 4)))
-
-pub test_length : (next : ℕ) → length (test_code next) ≤ 7
-test_length next = simp length-append (omega (arith, load_length 6 next, load_length 5 (next + 4)))
-
-pub count_length : (next counter : ℕ) → length (count_code next counter) ≤ 7
-count_length next counter = simp length-append (omega (arith, store_length 6 counter, store_length 6 next))
-
-branch_length : (xs ys : List Instr) (n : ℕ) → length xs + length ys ≤ n → length (branch_code xs ys) ≤ n + 3
-branch_length xs ys n h = simp length-append (omega (arith, h))
-
-loop_length : (test count body : List Instr) (n : ℕ) → length test ≤ 7 → length count ≤ 7 → length body ≤ n → length (loop_code test (count ++ body)) ≤ n + 17
-loop_length test count body n a b c = simp length-append (omega (arith, a, b, c))
-
 -- Statements: at most 32 instructions a node.
 module _ (declared : List FlatVariable) (controls depths : ℕ) where
   abbrev free : ℕ
@@ -74,47 +37,21 @@ module _ (declared : List FlatVariable) (controls depths : ℕ) where
 
   mutual
     pub statement_length : (depth : ℕ) (s : StraightTree) → length (statement_code declared controls depths depth s) ≤ 32 * statement_nodes s
-    statement_length depth (set x value) = simp length-append (omega (arith, expr_length declared free 0 value, store_length 5 (variable_offset declared x)))
     statement_length depth (clear x size) =
-        let h = clear_length (variable_offset declared x) (array_words (kind_at declared x) size) in
-        omega (arith, h)
+        omega (arith, clear_length (variable_offset declared x) (array_words (kind_at declared x) size))
     statement_length depth (fill x values) =
-        let h = fill_length declared free (kind_at declared x) (variable_offset declared x) values in
-        omega (arith, h)
-    statement_length depth (put place x size index value) =
-        let e = length-append (index_code declared free index value) (put_code (kind_at declared x) (variable_offset declared x)) in
-        omega (arith, e, index_length declared free index value, put_length (kind_at declared x) (variable_offset declared x))
-    statement_length depth (take control within condition) =
-        simp length-append
-        (omega (arith, expr_length declared free 0 condition, within_length declared within, store_length 7 (control_offset declared control), store_length 5 (control_offset declared (control + 1))))
-    statement_length depth (set_under control x value) =
-        simp length-append
-        (omega (arith, expr_length declared free 0 value, load_length 6 (variable_offset declared x), load_length 7 (control_offset declared control), store_length 5 (variable_offset declared x)))
-    statement_length depth (put_under control place x size index value) =
-        let e = length-append (index_code declared free index value) (put_under_code (control_offset declared control) (kind_at declared x) (variable_offset declared x)) in
-        omega (arith, e, index_length declared free index value, put_under_length (control_offset declared control) (kind_at declared x) (variable_offset declared x))
+        omega (arith, fill_length declared free (kind_at declared x) (variable_offset declared x) values)
     statement_length depth (branch condition accepted otherwise) =
-        let xs = block_code declared controls depths depth accepted in
-        let ys = block_code declared controls depths depth otherwise in
-        let a = block_length depth accepted in
-        let b = block_length depth otherwise in
-        let e = length-append (expr_code declared free 0 condition) (branch_code xs ys) in
-        let f = branch_length xs ys (32 * block_nodes accepted + 32 * block_nodes otherwise) (omega (arith, a, b)) in
-        omega (arith, e, f, expr_length declared free 0 condition)
+        omega (arith, length-append {A = Instr}, expr_length, block_length depth accepted, block_length depth otherwise)
     statement_length depth (repeats x low high body) =
-        let next = next_offset declared controls depth in
-        let ys = block_code declared controls depths (depth + 1) body in
-        let test = test_code next in
-        let count = count_code next (variable_offset declared x) in
-        let e = length-append (bounds_code declared next free low high) (loop_code test (count ++ ys)) in
-        let f = loop_length test count ys (32 * block_nodes body) (test_length next) (count_length next (variable_offset declared x)) (block_length (depth + 1) body) in
-        omega (arith, e, f, bounds_length declared next free low high)
+        omega (arith, length-append {A = Instr}, expr_length, load_length, store_length, block_length (depth + 1) body)
+    statement_length depth s =
+        omega (arith, length-append {A = Instr}, expr_length, within_length, load_length, store_length, address_length)
 
     pub block_length : (depth : ℕ) (b : StraightBlock) → length (block_code declared controls depths depth b) ≤ 32 * block_nodes b
     block_length depth nothing = omega arith
     block_length depth (first s rest) =
-        let e = length-append (statement_code declared controls depths depth s) (block_code declared controls depths depth rest) in
-        omega (arith, e, statement_length depth s, block_length depth rest)
+        omega (arith, length-append {A = Instr}, statement_length depth s, block_length depth rest)
 
 -- so arms and turns of a program that is not too large are no farther than a jump goes
 
@@ -126,10 +63,8 @@ arms_near declared controls depths depth accepted otherwise few =
 pub turn_near : (declared : List FlatVariable) (controls depths depth x : ℕ) (body : StraightBlock) → block_nodes body ≤ 6000
     → AreNear (length (test_code (next_offset declared controls depth))) (length (count_code (next_offset declared controls depth) (variable_offset declared x) ++ block_code declared controls depths (depth + 1) body))
 turn_near declared controls depths depth x body few =
-    let next = next_offset declared controls depth in
-    let count = count_code next (variable_offset declared x) in
-    let both = length-append count (block_code declared controls depths (depth + 1) body) in
-    omega (arith, few, both, test_length next, count_length next (variable_offset declared x), block_length declared controls depths (depth + 1) body)
+    let rest = block_length declared controls depths (depth + 1) body in
+    omega (arith, length-append {A = Instr}, few, load_length, store_length, rest)
 
 -- Slots.
 

@@ -2,20 +2,17 @@
 use Rattle.std.proofs.Common.{◌≡◌, ℕ, ◌+◌, ◌*◌, ◌%◌, ◌^◌, ◌<◌, ◌≤◌, ◌==◌, Bool, true, false, cond, if◌then◌else◌, List, [], ◌∷◌, ◌++◌, length, map, None, Some, slice_get, slice_index, refl, sym, ap, ap₂, ◌∙◌, subst, arith, eq-eqb, append_assoc, length-append}
 use Rattle.std.specs.Prelude.{slice_set}
 use Rattle.std.proofs.Math.Seq.{set-append_seam}
-use Rattle.std.proofs.lemmas.Bool.{eqb-true}
-use Rattle.std.proofs.lemmas.List.{nil_from_length}
-use Rattle.codegen.proofs.Language.{FlatVariable, TermTree, array_as, Values, with_value, value_in, path_in}
-use Rattle.codegen.proofs.Language.{path_in_all, term_nodes, terms_nodes, types_of, Suits, AllSuit, indexed, fill}
-use Rattle.codegen.proofs.Language.{put_under, StraightState, with_variable, with_element, value_at, after, path_at}
-use Rattle.codegen.proofs.Language.{IsPut, IsFilled, types_but, Kind, Boolean, WordType, element_bytes, bits_of}
-use Rattle.codegen.proofs.Language.{Place, Profile}
+use Rattle.codegen.proofs.Language.{FlatVariable, with_value, StraightState, with_variable, with_element, element_bytes}
+use Rattle.codegen.proofs.Language.{TermTree, array_as, path_in_all, term_nodes, terms_nodes, put_under, types_but}
+use Rattle.codegen.proofs.Language.{Values, value_in, path_in, types_of, AllSuit, indexed, value_at, IsFilled, WordType}
+use Rattle.codegen.proofs.Language.{Suits, fill, after, path_at, IsPut, Kind, Boolean, bits_of, Place, Profile}
+use Rattle.codegen.proofs.Logic.{eqb-true, nil_from_length}
 use Rattle.codegen.proofs.Logic.{but_among, suits_among, one_path_all, all_values, lower_fits, Addressed, address_runs, steps_of, expr_runs, kind_known, load_bytes, load_plain, Held, HeldAt, free_from, mask_of, merged, merge, take, put, does, move_runs, then_moves, loading, storing, place_of, place_even, place_before, place_ends, Setting, setting, base_of, Known, by_index, none, Runs, seq, quiet, weaken, gives, cheaper, beside, along, as_code, idle, height, number_or_zero, Ready, Wrote, kept_less, ready_after}
 use Rattle.branch_removal.specs.Straight as straight
-use Rattle.codegen.proofs.Machine.{store_by, element_store_code, fill_code, index_code, put_code, put_under_code}
-use Rattle.codegen.proofs.Machine.{merge_code, statement_code, height_of_all, height_of_put, variable_offset}
-use Rattle.codegen.proofs.Machine.{control_offset, slots_to, lower_part, load_by, address_code, kind_at, expr_code}
-use Rattle.codegen.proofs.Machine.{height_of, Instr, ByteMap, number_at, with_number, load_size, store_size}
-use Rattle.codegen.proofs.Machine.{address_of, byte_count}
+use Rattle.codegen.proofs.Machine.{store_by, put_code, slots_to, load_by, kind_at, Instr, ByteMap, number_at, load_size}
+use Rattle.codegen.proofs.Machine.{element_store_code, put_under_code, statement_code, variable_offset, control_offset}
+use Rattle.codegen.proofs.Machine.{fill_code, lower_part, expr_code, height_of, store_size, address_of, byte_count}
+use Rattle.codegen.proofs.Machine.{index_code, merge_code, height_of_all, height_of_put, address_code, with_number}
 use Rattle.rv_code.specs.declared.instructions.Instr.TheVariants as instr
 use Rattle.rv_machine.specs.Machine as machine
 use Rattle.codegen.proofs.SetRuns.{chosen_fits}
@@ -57,9 +54,8 @@ module _ (z : Setting) (depth : ℕ) (place : Place) (x size : ℕ) (index value
   addressed_at : (i : ℕ) → i < size → Runs z 4 none (address_code 5 kind offset) (Aimed i) (λ env s t. Addressed z 5 offset (element_at i) env s t)
   addressed_at i below =
       let h = place_ends z x array i typed.known below in
-      let ends = z.ends in
       weaken
-      (λ env s fine aimed. (aimed.ready.held, aimed.five, omega (arith, h, ends)))
+      (λ env s fine aimed. (aimed.ready.held, aimed.five, omega (arith, h, z.ends)))
       (λ env s t fine aimed done. done)
       (address_runs z 5 (free_from 5 (omega arith) (omega arith)) (λ e. omega arith) kind offset (λ env. i))
 
@@ -274,8 +270,7 @@ module _ (z : Setting) (depth : ℕ) (within : depth ≤ z.depths) (x size : ℕ
   fill_from k o [] is suits few room =
       idle (λ env s ready. record { ready = ready; hidden = λ a low high. refl })
   fill_from k o (e ∷ es) is suits few room =
-      let h = height e in
-      cheaper (omega (arith, h))
+      cheaper (omega (arith, height e))
       (gives
       (λ env s t fine ready done. record {
         ready = done.second.ready;

@@ -1,24 +1,17 @@
 -- Straight code within the limits has room in a frame and in an image, and the fields of its image are allowed.
-use Rattle.std.proofs.Common.{◌≡◌, ℕ, suc, ◌+◌, ◌*◌, ◌%◌, ◌^◌, ◌<◌, ◌≤◌, true, List, [], ◌∷◌, length, map, All, Option, None, Some, IfSome, refl, sym, ap, subst, ◌∙◌, arith, length-append, zero, ◌++◌, take}
-use Rattle.std.proofs.lemmas.Bool.{eq-eqb, le-leb, and_from}
-use Rattle.std.proofs.lemmas.List.{length-map}
-use Rattle.std.proofs.lemmas.List.Elements.{recursion_from_All}
+use Rattle.std.proofs.Common.{◌≡◌, ℕ, suc, ◌+◌, ◌*◌, ◌%◌, ◌^◌, ◌<◌, ◌≤◌, true, List, [], ◌∷◌, length, map, All, Option, None, Some, IfSome, refl, sym, ap, subst, ◌∙◌, arith, length-append, zero, take}
+use Rattle.codegen.proofs.Logic.{eq-eqb, le-leb, and_from, length-map, recursion_from_All, option_map, parameter_words}
+use Rattle.codegen.proofs.Logic.{height, store_length, expr_length, typed_among, same_Some}
 use Rattle.std.specs.List.{AllByRecursion}
-use Rattle.std.specs.Option.{option_map}
-use Rattle.codegen.proofs.Language.{StraightProgram, most_elements, Form, SingleWord, Kind, Boolean}
-use Rattle.codegen.proofs.Language.{Param, WordType, held_words, array_words, Profile, FlatVariable, declaration_of}
-use Rattle.codegen.proofs.Language.{TermTree, HasLength, declared_words, value_nodes, IsBounded, IsTypedStraight}
-use Rattle.codegen.proofs.Language.{types_of, IsResult}
-use Rattle.codegen.proofs.Machine.{word_of, IsImage, AreSlots, IsResultSlot, is_length, slot_end, result_end}
-use Rattle.codegen.proofs.Machine.{slots_end, Slot, ResultSlot, program_base, program_code, program_slots}
-use Rattle.codegen.proofs.Machine.{result_slot, step_limit, result_code, result_height, program_height, slots_from}
-use Rattle.codegen.proofs.Machine.{result_offset, HasRoom, block_code, depth_in_all, HavePlaces}
-use Rattle.codegen.proofs.Machine.{IsAmong}
-use Rattle.codegen.proofs.Logic.{parameter_words, height, store_length, expr_length, typed_among}
+use Rattle.codegen.proofs.Machine.{word_of, IsImage, AreSlots, IsResultSlot, is_length, slot_end, result_end, slots_end}
+use Rattle.codegen.proofs.Machine.{Slot, ResultSlot, program_base, program_code, program_slots, result_slot, step_limit}
+use Rattle.codegen.proofs.Machine.{result_code, result_height, program_height, slots_from, result_offset, HasRoom}
+use Rattle.codegen.proofs.Machine.{depth_in_all, HavePlaces, IsAmong, Instr}
+use Rattle.codegen.proofs.Language.{StraightProgram, most_elements, Form, SingleWord, Kind, Boolean, Param, WordType}
+use Rattle.codegen.proofs.Language.{held_words, array_words, Profile, FlatVariable, declaration_of, TermTree, HasLength}
+use Rattle.codegen.proofs.Language.{declared_words, value_nodes, IsBounded, IsTypedStraight, types_of, IsResult}
 use Rattle.inline.specs.FlatSize.{words_of}
-use Rattle.std.proofs.lemmas.Option.{same_Some}
 use Rattle.codegen.proofs.CodeLengths.{block_length, block_room, blocks_placed}
-use Rattle.rv_code.specs.declared.instructions.Instr.TheVariants.{Ecall}
 
 -- The parameters' slots.
 
@@ -50,10 +43,7 @@ held_some form kind n is = some_words kind n is.0
 pub count_in_words : (ps : List Param) → AreLengths ps → length ps ≤ words_in ps
 count_in_words [] lengths = omega arith
 count_in_words (p ∷ ps) lengths =
-    let some = held_some p.form p.kind p.length lengths.0 in
-    let same = parameter_words p in
-    let rest = count_in_words ps lengths.1 in
-    omega (arith, some, same, rest)
+    omega (arith, held_some p.form p.kind p.length lengths.0, parameter_words p, count_in_words ps lengths.1)
 
 -- a slot ends where the next begins
 ends_at : (low : ℕ) (p : Param) → slot_end (record { param = p; offset = low }) ≡ low + 4 * words_of (declaration_of p)
@@ -80,9 +70,8 @@ slots_end-slots_from low (p ∷ ps) =
 pub slots_inside : (low frame : ℕ) (ps : List Param) → low + 4 * words_in ps ≤ frame → AllByRecursion (λ slot. slot_end slot ≤ frame) (slots_from low ps)
 slots_inside low frame [] room = tt
 slots_inside low frame (p ∷ ps) room =
-    let words = words_of (declaration_of p) in
     let end = ends_at low p in
-    (omega (arith, end, room), slots_inside (low + 4 * words) frame ps (omega (arith, room)))
+    (omega (arith, end, room), slots_inside (low + 4 * (words_of (declaration_of p))) frame ps (omega (arith, room)))
 
 -- The result's slot, behind the variables.
 
@@ -99,27 +88,17 @@ returned_inside declared frame (Some word) room = omega (arith, room)
 -- the frame of a program with room
 pub room_frame : (p : StraightProgram) → HasRoom p → program_base p + 4 * program_slots p ≤ 65536
 room_frame p room =
-    let d = room.declared in
-    let n = room.nodes in
-    let f = room.frame in
-    omega (arith, d, n, f)
+    omega (arith, room.declared, room.nodes, room.frame)
 
 -- the fields that are generated for a program with room are allowed, whoever the observer is
 image_allowed : (p : StraightProgram) (profile : Profile) → HasRoom p → AllByRecursion (λ word. word < 2 ^ 32) (map word_of (program_code p))
     → IsImage (record { profile = profile; slots = slots_from 0 p.parameters; returned = option_map (result_slot p.declared) p.returned; frame_bytes = program_base p + 4 * program_slots p; max_steps = step_limit p.work; words = map word_of (program_code p) })
 image_allowed p profile room fit =
     let few = room.parameters in
-    let g = room.given in
     let d = room.declared in
-    let n = room.nodes in
-    let w = room.work in
-    let slots = length-slots_from 0 p.parameters in
-    let count = count_in_words p.parameters room.lengths in
-    let size = length-map {B = ℕ} (program_code p) word_of in
-    let code = room.code in
     let end = slots_end-slots_from 0 p.parameters in
     record {
-      count = omega (arith, slots, count, g);
+      count = omega (arith, length-slots_from 0 p.parameters, count_in_words p.parameters room.lengths, room.given);
       slots = slots_are 0 p.parameters room.lengths refl (omega (arith, few, d));
       returned = returned_is p.declared (slots_end 0 (slots_from 0 p.parameters)) p.returned (omega (arith, end, few)) d;
       frame_aligned = omega arith;
@@ -127,9 +106,9 @@ image_allowed p profile room fit =
       slots_inside = slots_inside 0 (program_base p + 4 * program_slots p) p.parameters (omega (arith, few));
       returned_inside = returned_inside p.declared (program_base p + 4 * program_slots p) p.returned (omega arith);
       some_step = omega arith;
-      steps = omega (arith, w);
+      steps = omega (arith, room.work);
       some_word = simp (length-map, length-append) (omega arith);
-      word_count = omega (arith, size, code, n);
+      word_count = omega (arith, length-map {B = ℕ} (program_code p) word_of, room.code, room.nodes);
       words = fit;
     }
 
@@ -162,28 +141,16 @@ first_words (suc count) (d ∷ ds) = omega (arith, first_words count ds)
 module _ (p : StraightProgram) (typed : IsTypedStraight p) (is : IsBounded p) where
   parameters : declared_words (map declaration_of p.parameters) ≤ declared_words p.declared
   parameters =
-      let first = first_words (length p.parameters) p.declared in
-      let same = ap declared_words typed.parameters in
-      omega (arith, first, same)
+      omega (arith, first_words (length p.parameters) p.declared, ap declared_words typed.parameters)
 
   frame : p.controls + 2 * depth_in_all p.body + program_height p ≤ p.nodes
   frame =
-      let body = block_room p.body in
-      let value = result_height_fits p.value in
-      let taken = is.controls in
-      let counted = is.counted in
-      omega (arith, body, value, taken, counted)
+      omega (arith, block_room p.body, result_height_fits p.value, is.controls, is.counted)
 
   code : length (program_code p) ≤ 32 * p.nodes + 64
   code =
-      let xs = block_code p.declared p.controls (depth_in_all p.body) 0 p.body in
-      let ys = result_code p.declared (program_base p) p.value in
-      let i = length-append xs ys in
-      let j = length-append (xs ++ ys) (Ecall ∷ []) in
       let body = block_length p.declared p.controls (depth_in_all p.body) 0 p.body in
-      let value = result_length p.declared (program_base p) p.value in
-      let counted = is.counted in
-      omega (arith, body, value, i, j, counted)
+      omega (arith, length-append {A = Instr}, body, result_length p.declared (program_base p) p.value, is.counted)
 
   pub has_room : HasRoom p
   has_room = record {

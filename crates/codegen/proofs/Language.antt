@@ -6,7 +6,7 @@ pub use Rattle.branch_removal.specs.StraightMeaning.{StraightState, after, after
 pub use Rattle.branch_removal.specs.StraightTyping.{AreTyped, IsAmong, IsFilled, IsPut, IsSet, IsTyped, IsTypedStraight, types_but}
 pub use Rattle.branch_removal.specs.declared.straight.StraightStatement.{StraightStatement}
 pub use Rattle.inline.specs.Fitting.{Fits, IsHeld, IsWithinKind}
-pub use Rattle.inline.specs.Flat.{TermTree, array_as, binary, convert, declaration_of, element, number, numbers_in, prefix, rotate, select, term_tree, truth, variable, word_as}
+pub use Rattle.inline.specs.Flat.{TermTree, array_as, declaration_of, numbers_in, term_tree, word_as}
 pub use Rattle.inline.specs.FlatMeaning.{Values, array_of, arrays_from, given, path_in, path_in_all, path_of_result, path_of_turns, turns, value_in, with_value}
 pub use Rattle.inline.specs.FlatSize.{HasLength, declared_words, term_nodes, terms_nodes, value_nodes}
 pub use Rattle.inline.specs.FlatTyping.{AllSuit, HasType, IsResult, Suits, Types, counter_type, types_of}
@@ -20,17 +20,13 @@ pub use Rattle.language.specs.WellTyped.{labelled}
 pub use Rattle.language.specs.declared.signature.Form.{Form}
 pub use Rattle.language.specs.declared.signature.Form.TheVariants.{FixedArray, MutableArray, SingleWord}
 pub use Rattle.language.specs.declared.signature.Kind.{Kind}
-pub use Rattle.language.specs.declared.signature.Kind.TheVariants.{Boolean, Uint16, Uint32}
+pub use Rattle.language.specs.declared.signature.Kind.TheVariants.{Boolean, Uint32}
 pub use Rattle.language.specs.declared.signature.Label.{Label}
 pub use Rattle.language.specs.declared.signature.Label.TheVariants.{Public}
 pub use Rattle.language.specs.declared.signature.Param.{Param}
-pub use Rattle.language.specs.declared.tree.BinaryOperator.{BinaryOperator}
-pub use Rattle.language.specs.declared.tree.PrefixOperator.{PrefixOperator}
 pub use Rattle.language.specs.declared.typing.WordType.{WordType}
 pub use Rattle.language.specs.declared.values.Arg.{Arg}
 pub use Rattle.language.specs.declared.values.Arg.TheVariants.{Array, Word}
 pub use Rattle.word.specs.Operators.{word_of}
 pub use Rattle.word.specs.declared.place.Place.{Place}
 pub use Rattle.word.specs.declared.profile.Profile.{Profile}
-pub use Rattle.word.specs.declared.width.Width.{Width}
-pub use Rattle.word.specs.declared.width.Width.TheVariants.{W16, W32, W8}

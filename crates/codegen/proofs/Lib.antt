@@ -13,6 +13,4 @@ pub mod StatementRuns
 pub mod StatementCode
 pub mod ImageLemmas
 pub mod Standing
-pub mod Untouched
-pub mod WorkingRegisters
 pub mod BodyRuns

@@ -1,5 +1,5 @@
 -- The code of a loop, and of a branch on what is public.
-use Rattle.std.proofs.Common.{◌≡◌, ℕ, zero, suc, ◌+◌, ◌-◌, ◌*◌, ◌%◌, ◌^◌, ◌<◌, ◌≤◌, true, false, nat_lt, List, [], ◌∷◌, ◌++◌, length, Some, slice_get, slice_index, refl, sym, ap, ap₂, ◌∙◌, subst, arith, inr, append_assoc, ◌≢◌, ◌==◌, cond, ne_eqb}
+use Rattle.std.proofs.Common.{◌≡◌, ℕ, suc, ◌+◌, ◌-◌, ◌*◌, ◌%◌, ◌^◌, ◌<◌, ◌≤◌, false, nat_lt, List, [], ◌∷◌, ◌++◌, length, Some, slice_get, slice_index, refl, sym, ap, ap₂, ◌∙◌, subst, arith, inr, append_assoc, ◌≢◌, ◌==◌, cond, ne_eqb}
 use Rattle.std.proofs.lemmas.Bool.Decides.{nat_tests}
 use Rattle.std.proofs.lemmas.Nat.{mul-le}
 use Rattle.codegen.proofs.Language.{TermTree, word_as, value_in, path_in, turns, path_of_turns, Path, bounded}
@@ -37,17 +37,10 @@ pub hidden_below : (z : Setting) (depth free : ℕ) (s t : machine.State) → ne
 hidden_below z depth free s t above kept o low high = kept o (omega (arith, high, above))
 
 is_left : (bound i left : ℕ) → bound - i ≡ left → nat_lt i bound ≡ nat_lt 0 left
-is_left bound i zero e =
-    let no : bound ≤ i = omega (arith, e) in
-    grind (arith, nat_tests)
-is_left bound i (suc left) e =
-    let yes : i < bound = omega (arith, e) in
-    grind (arith, nat_tests)
+is_left bound i left e = grind (arith, nat_tests, e)
 
 some_left : (left : ℕ) → word_of (nat_lt 0 (suc left)) ≡ 1
-some_left left =
-    let more : nat_lt 0 (suc left) ≡ true = grind (arith, nat_tests) in
-    ap word_of more
+some_left left = grind (arith, nat_tests)
 
 module _ (z : Setting) (depth : ℕ) (within : depth < z.depths) where
   abbrev next : ℕ
@@ -102,7 +95,6 @@ module _ (z : Setting) (depth : ℕ) (within : depth < z.depths) where
   count_runs x left i known =
       let o = variable_offset z.declared x in
       let before = word_before z x counter_type false known in
-      let inside = next_inside in
       let room = z.room in
       gives
       (λ env u v fine given done.
@@ -127,7 +119,7 @@ module _ (z : Setting) (depth : ℕ) (within : depth < z.depths) where
         },
         hidden_then z depth u m v (hidden_wrote z depth 4 o i u m (omega (arith, before)) wrote) (hidden_beyond z depth 4 next (i + 1) m v (omega arith) done.second),
       ))
-      (stored z 6 next (λ env. i + 1) refl (omega arith) (omega (arith, inside))
+      (stored z 6 next (λ env. i + 1) refl (omega arith) (omega (arith, next_inside))
       (weaken {P' = Turns left i}
       (λ env s fine given. given.0.ready.held)
       (λ env s t fine given moved. moved)
@@ -165,7 +157,6 @@ module _ (z : Setting) (depth : ℕ) (within : depth < z.depths) where
   bounds_runs : (low high : TermTree) → HasType (types_of z.code.profile z.declared) low counter_type → HasType (types_of z.code.profile z.declared) high counter_type → base_of z + 4 * slots_to (height_of low) ≤ z.size → base_of z + 4 * slots_to (height_of high) ≤ z.size
       → Runs z (16 * term_nodes low + 3 + (16 * term_nodes high + 3)) (λ env. path_in env.variables low ++ path_in env.variables high) (bounds_code z.declared next (base_of z) low high) (Ready z) (Begun low high)
   bounds_runs low high has_low has_high room_low room_high =
-      let inside = next_inside in
       let base : next + 8 ≤ base_of z = omega (arith, within) in
       gives
       (λ env s t fine ready done.
@@ -187,8 +178,8 @@ module _ (z : Setting) (depth : ℕ) (within : depth < z.depths) where
       ))
       (as_code (append_assoc (expr_code z.declared (base_of z) 0 low ++ store_code 5 next) (expr_code z.declared (base_of z) 0 high) (store_code 5 (next + 4)))
       (seq
-      (pushed low next has_low room_low (omega (arith, base)) (omega arith) (omega (arith, inside)))
-      (pushed high (next + 4) has_high room_high (omega (arith, base)) (omega arith) (omega (arith, inside)))
+      (pushed low next has_low room_low (omega (arith, base)) (omega arith) (omega (arith, next_inside)))
+      (pushed high (next + 4) has_high room_high (omega (arith, base)) (omega arith) (omega (arith, next_inside)))
       (λ env s t ready done. ready_below z next (omega arith) env s t ready done.held done.kept)))
 
   module _ (x : ℕ) (low high : TermTree) (body : StraightBlock) (n : ℕ) {ys : List Instr}

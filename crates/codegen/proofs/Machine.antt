@@ -4,9 +4,10 @@ pub use Rattle.codegen.specs.Bases.{AreBases, IsInside}
 pub use Rattle.codegen.specs.Followed.{IsFollowed, IsGenerated}
 pub use Rattle.codegen.specs.Loaded.{array_in, arrays_in, code_at, loaded_at, numbers_at, results_in, with_argument, with_arguments, with_numbers, word_in}
 pub use Rattle.codegen.specs.private.Emitted.{block_code, bounds_code, clear_code, count_code, depth_in_all, element_store_code, fill_code, height_of_all, height_of_put, index_code, masks_code, merge_code, put_code, put_under_code, statement_code, store_by, test_code, within_code}
+pub use Rattle.codegen.specs.private.Emitted.{depth_in, height_in, height_in_all}
 pub use Rattle.codegen.specs.private.Generated.{image_of, program_base, program_code, program_height, program_slots, result_code, result_height, result_slot, step_limit}
 pub use Rattle.codegen.specs.private.Jumps.{branch_code, loop_code}
-pub use Rattle.codegen.specs.private.Placed.{ArePlacedTerms, HasPlace, HavePlaces}
+pub use Rattle.codegen.specs.private.Placed.{AreNear, ArePlacedTerms, HasPlace, HavePlaces}
 pub use Rattle.codegen.specs.private.Room.{HasRoom, frame_of}
 pub use Rattle.expression_code.specs.Layout.{Frame, control_offset, next_offset, result_offset, slots_from, temporaries_offset, variable_offset}
 pub use Rattle.expression_code.specs.Registers.{slots_to}
@@ -19,7 +20,7 @@ pub use Rattle.rv_code.specs.declared.instructions.Instr.{Instr}
 pub use Rattle.rv_code.specs.declared.operations.ImmediateOperation.TheVariants.{Addi}
 pub use Rattle.rv_code.specs.declared.operations.RegisterOperation.TheVariants.{Add, And, Sltu, Sub}
 pub use Rattle.rv_code.specs.declared.operations.StoreOperation.TheVariants.{Sw}
-pub use Rattle.rv_machine.specs.Bytes.{ByteMap, number_at, with_byte, with_number, zeros}
+pub use Rattle.rv_machine.specs.Bytes.{ByteMap, joined, number_at, with_byte, with_number, zeros}
 pub use Rattle.rv_machine.specs.Effects.{address_of, difference_of, load_size, store_size, sum_of}
 pub use Rattle.rv_machine.specs.Leakage.{Halts, Leads, stays, turns}
 pub use Rattle.rv_machine.specs.Machine.{Code, IsAt, State, Turn, executes, goes_on, word_at}

@@ -1,10 +1,8 @@
 -- Numbers that are put one after another.
-use Rattle.std.proofs.Common.{◌≡◌, ◌⊎◌, inl, inr, ℕ, zero, suc, ◌+◌, ◌*◌, ◌/◌, ◌%◌, ◌^◌, ◌<◌, ◌≤◌, ◌==◌, Bool, true, false, ◌&&◌, cond, is_some, nat_le, nat_lt, List, [], ◌∷◌, length, Some, None, slice_index, refl, ap, ap₂, ◌∙◌, arith}
-use Rattle.std.proofs.lemmas.Bool.{eqb-true, eqb-false}
-use Rattle.std.proofs.lemmas.Bool.Decides.{nat_tests}
-use Rattle.rv_machine.specs.Bytes.{ByteMap, joined, number_at, with_number, zeros}
+use Rattle.std.proofs.Common.{◌≡◌, ◌≢◌, ⊎_elim, ◌⊎◌, inl, inr, ℕ, zero, suc, ◌+◌, ◌*◌, ◌/◌, ◌%◌, ◌^◌, ◌<◌, ◌≤◌, true, ◌&&◌, cond, is_some, nat_le, nat_lt, List, [], ◌∷◌, length, Some, None, slice_index, refl, ap, ap₂, ◌∙◌, arith}
+use Rattle.codegen.proofs.Machine.{ByteMap, joined, number_at, with_number, zeros, with_numbers}
+use Rattle.codegen.proofs.Logic.{cases_eq, nat_tests}
 use Rattle.codegen.proofs.Logic.{number_at_same, number_at-with_number, with_number-zero, with_number-suc, with_byte_same, with_byte_other, number_at-zero, number_at-suc, with_number_below, with_number_above}
-use Rattle.codegen.specs.Loaded.{with_numbers}
 
 -- bytes beside them are as they were
 pub numbers_beside : (bytes : ByteMap) (size at : ℕ) (vs : List ℕ) (x : ℕ) → (x < at) ⊎ (at + size * length vs ≤ x) → with_numbers bytes size at vs x ≡ bytes x
@@ -18,12 +16,12 @@ numbers_beside bytes size at (v ∷ vs) x (inr above) =
 
 pub number_data : (bytes : ByteMap) (n at v x : ℕ) → is_some (bytes x) ≡ true → is_some (with_number bytes n at v x) ≡ true
 number_data bytes zero at v x here = ap (λ (b : ByteMap). is_some (b x)) (with_number-zero bytes at v) ∙ here
-number_data bytes (suc n) at v x here = by_case (x == at) refl (number_data bytes n (at + 1) (v / 256) x here)
-  where
-    by_case : (b : Bool) → (x == at) ≡ b → is_some (with_number bytes n (at + 1) (v / 256) x) ≡ true → is_some (with_number bytes (suc n) at v x) ≡ true
-    by_case true e rest = ap (λ (b : ByteMap). is_some (b x)) (with_number-suc bytes n at v) ∙ ap is_some (with_byte_same (with_number bytes n (at + 1) (v / 256)) at (v % 256) x (eqb-true x at e))
-    by_case false e rest =
-        ap (λ (b : ByteMap). is_some (b x)) (with_number-suc bytes n at v) ∙ (ap is_some (with_byte_other (with_number bytes n (at + 1) (v / 256)) at (v % 256) x (eqb-false x at e)) ∙ rest)
+number_data bytes (suc n) at v x here =
+    let rest = with_number bytes n (at + 1) (v / 256) in
+    let before = number_data bytes n (at + 1) (v / 256) x here in
+    ap (λ (b : ByteMap). is_some (b x)) (with_number-suc bytes n at v)
+    ∙ ⊎_elim (λ (e : x ≡ at). ap is_some (with_byte_same rest at (v % 256) x e))
+    (λ (e : x ≢ at). ap is_some (with_byte_other rest at (v % 256) x e) ∙ before) (cases_eq x at)
 
 pub numbers_data : (bytes : ByteMap) (size at : ℕ) (vs : List ℕ) (x : ℕ) → is_some (bytes x) ≡ true → is_some (with_numbers bytes size at vs x) ≡ true
 numbers_data bytes size at [] x here = here

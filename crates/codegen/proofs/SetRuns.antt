@@ -24,7 +24,6 @@ module _ (z : Setting) where
   set_runs depth x value typed room within =
       let o = variable_offset z.declared x in
       let before = word_before z x typed.word typed.mutable typed.known in
-      let space = z.room in
       cheaper (omega arith)
       (gives
       (λ env s t fine ready done.
@@ -35,7 +34,7 @@ module _ (z : Setting) where
         ready = ready_set z x v typed.word typed.mutable typed.known fits env m t (ready_valued z value env s m ready done.first) done.second;
         hidden = hidden_valued z depth within value env 4 o v s m t (omega (arith, before)) done.first done.second;
       })
-      (assigned z o typed.suits.has_type room (omega arith) (omega (arith, before, space))))
+      (assigned z o typed.suits.has_type room (omega arith) (omega (arith, before, z.room))))
 
   -- where a word is set or kept
   under_alone : (b : Bool) (x v : ℕ) (env : StraightState) (t : machine.State) → length (env.variables x) ≡ 1 → Ready z (if b then with_element env x 0 v else env) t → Ready z (if b then with_variable env x (v ∷ []) else env) t
@@ -178,7 +177,6 @@ result_runs z returned None typed room =
 result_runs z None (Some value) typed room = absurd typed
 result_runs z (Some word) (Some value) typed room =
     let o = result_offset z.declared in
-    let space = z.room in
     cheaper (omega arith)
     (gives
     (λ env s t fine ready done.
@@ -188,4 +186,4 @@ result_runs z (Some word) (Some value) typed room =
       ready = ready_result z env m t v (ready_valued z value env s m ready done.first) done.second;
       left = wrote_there z o v m t done.second (value_word z.code.profile z.declared value typed.word env.variables ready.fits typed.has_type);
     })
-    (assigned z o typed.has_type room (omega arith) (omega (arith, space))))
+    (assigned z o typed.has_type room (omega arith) (omega (arith, z.room))))

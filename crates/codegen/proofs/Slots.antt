@@ -1,19 +1,15 @@
 -- What is shown once a number of a variable, or a control value, is written, and what is shown after a piece of a statement's code.
 use Rattle.std.proofs.Common.{◌≡◌, ℕ, ◌+◌, ◌*◌, ◌%◌, ◌^◌, ◌<◌, ◌≤◌, ◌==◌, Bool, true, false, cond, if◌then◌else◌, nat_lt, List, [], ◌∷◌, length, Some, slice_get, slice_index, refl, sym, ap, ◌∙◌, subst, arith, inl, inr, ◌⊎◌, ◌&&◌, not, ◌++◌}
 use Rattle.std.specs.Prelude.{slice_set}
-use Rattle.std.proofs.lemmas.Bool.Decides.{nat_tests}
-use Rattle.std.proofs.lemmas.List.{length-set, get_or-set_same, get_or-set_other, set-get_or}
-use Rattle.std.proofs.lemmas.List.Elements.{All-set}
-use Rattle.std.proofs.lemmas.Option.{same_Some}
-use Rattle.std.proofs.lemmas.Bool.{eqb-true, eqb-false}
-use Rattle.codegen.proofs.Language.{StraightState, with_variable, with_element, with_controls, FlatVariable}
-use Rattle.codegen.proofs.Language.{IsWithinKind, IsHeld, Fits, numbers_in, word_as, TermTree, term_nodes, Kind}
-use Rattle.codegen.proofs.Language.{Boolean, Uint32, WordType, bits_of, Values, value_in, types_of, HasType, Suits}
-use Rattle.codegen.proofs.Language.{Profile}
 use Rattle.codegen.proofs.Machine.{variable_offset, control_offset, next_offset, result_offset, ByteMap, number_at}
 use Rattle.codegen.proofs.Machine.{with_number, slots_to, height_of, expr_code, store_code, Instr, Sw}
+use Rattle.codegen.proofs.Language.{StraightState, with_variable, with_element, with_controls, FlatVariable, numbers_in}
+use Rattle.codegen.proofs.Language.{IsWithinKind, word_as, TermTree, term_nodes, Boolean, WordType, value_in, types_of}
+use Rattle.codegen.proofs.Language.{IsHeld, Fits, Kind, Uint32, bits_of, Values, HasType, Suits, Profile}
+use Rattle.codegen.proofs.Logic.{length-set, get_or-set_same, get_or-set_other, set-get_or, All-set}
+use Rattle.codegen.proofs.Logic.{same_Some, eqb-true, eqb-false}
 use Rattle.inline.specs.FlatSize.{words_of}
-use Rattle.codegen.proofs.Logic.{number_at_apart, number_at-with_number, with_number_above, HeldAt, mask_of, mask_fits, bytes_by, bytes_of, place_of, place_within, ends_before_result, apart_from, elements_apart, Setting, base_of, Kept, Ready, Wrote, wrote_kept, wrote_there, number_same, variables_kept, Before, After, Steps, Then, Still, steps_of, expr_runs, held_regs, is_free, put, then_moves, setting, Runs, gives, cheaper, kept_less, kept_by, ready_below, ready_after, kept_then, value_fits}
+use Rattle.codegen.proofs.Logic.{number_at_apart, number_at-with_number, with_number_above, HeldAt, mask_of, mask_fits, bytes_by, bytes_of, place_of, place_within, ends_before_result, apart, apart_from, elements_apart, Setting, base_of, Kept, Ready, Wrote, wrote_kept, wrote_there, number_same, variables_kept, Before, After, Steps, Then, Still, steps_of, expr_runs, held_regs, is_free, put, then_moves, setting, Runs, gives, cheaper, kept_less, kept_by, ready_below, ready_after, kept_then, value_fits}
 use Rattle.rv_machine.specs.Machine as machine
 
 -- the words of the loops that are around are as they were
@@ -164,15 +160,7 @@ module _ (z : Setting) where
 
   -- two control values lie apart
   controls_apart : (y c : ℕ) → (y == c) ≡ false → (control_offset z.declared y + 4 ≤ control_offset z.declared c) ⊎ (control_offset z.declared c + 4 ≤ control_offset z.declared y)
-  controls_apart y c h = by_order (nat_lt y c) refl
-    where
-      by_order : (b : Bool) → nat_lt y c ≡ b → (control_offset z.declared y + 4 ≤ control_offset z.declared c) ⊎ (control_offset z.declared c + 4 ≤ control_offset z.declared y)
-      by_order true e =
-          let below : y < c = grind (arith, nat_tests) in
-          inl (omega (arith, below))
-      by_order false e =
-          let above : c < y = grind (arith, nat_tests) in
-          inr (omega (arith, above))
+  controls_apart y c h = apart c y _ h (λ below. inl (omega (arith, below))) (λ above. inr (omega (arith, above)))
 
   -- both control values of a condition are set
   module _ (c : ℕ) (f g : Bool) (among : c + 1 < z.controls) (env : StraightState) (s t u : machine.State) (ready : Ready z env s)
@@ -250,8 +238,7 @@ module _ (z : Setting) where
   -- a word that is declared lies before the result
   pub word_before : (x : ℕ) (word : WordType) (mutable : Bool) → slice_get z.declared x ≡ Some (word_as word mutable) → variable_offset z.declared x + 4 ≤ result_offset z.declared
   word_before x word mutable known =
-      let e = ends_before_result z.declared x (word_as word mutable) known in
-      omega (arith, e)
+      omega (arith, ends_before_result z.declared x (word_as word mutable) known)
 
   pub wrote_as : (n o v w : ℕ) (s t : machine.State) → v ≡ w → Wrote z n o v s t → Wrote z n o w s t
   wrote_as n o v w s t is wrote = subst (λ u. Wrote z n o u s t) is wrote

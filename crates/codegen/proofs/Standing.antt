@@ -1,11 +1,9 @@
 -- The words of an image, from its base on, and words that stand among others: they run as they do alone.
 use Rattle.std.proofs.Common.{◌≡◌, ℕ, zero, suc, ◌+◌, ◌-◌, ◌*◌, ◌/◌, ◌%◌, ◌^◌, ◌<◌, ◌==◌, ◌&&◌, Bool, true, false, cond, nat_le, List, [], ◌∷◌, ◌++◌, length, map, None, Some, slice_get, refl, sym, ap, ◌∙◌, subst, arith, ◌≤◌, length-append, append_assoc}
-use Rattle.std.proofs.lemmas.Bool.Decides.{nat_tests}
-use Rattle.std.proofs.lemmas.Option.{none-some}
+use Rattle.codegen.proofs.Language.{Profile}
 use Rattle.codegen.proofs.Machine.{body_words, Stand, Instr, word_of, Observation, Leads, stays, turns, State, Code}
 use Rattle.codegen.proofs.Machine.{goes_on, word_at, Turn, executes}
-use Rattle.codegen.proofs.Logic.{Placed}
-use Rattle.word.specs.declared.profile.Profile.{Profile}
+use Rattle.codegen.proofs.Logic.{nat_tests, none-some, Placed}
 
 -- The words of an image.
 

@@ -2,9 +2,9 @@
 use Rattle.std.proofs.Common.{◌≡◌, ℕ, zero, suc, ◌+◌, ◌*◌, ◌^◌, ◌≤◌, ◌<◌, ◌++◌, List, [], ◌∷◌, length, max, drop, get_or, Vec, Global, Bor, refl, sym, ap, ap₂, ◌∙◌, subst, arith, append_assoc}
 use Rattle.std.proofs.lemmas.List.{drop_more}
 use mathlib.Core.Former.{Count}
-use Rattle.codegen.proofs.Language.{statement_nodes, block_nodes, StraightStatement, StraightTree, StraightBlock}
-use Rattle.codegen.proofs.Language.{first, branch, repeats, straight_tree, straight_row, straight_block, FlatVariable}
-use Rattle.codegen.proofs.Language.{Term, term_tree}
+use Rattle.codegen.proofs.Language.{statement_nodes, block_nodes, StraightStatement, StraightTree, StraightBlock, first}
+use Rattle.codegen.proofs.Language.{branch, repeats, straight_tree, straight_row, straight_block, FlatVariable, Term}
+use Rattle.codegen.proofs.Language.{term_tree}
 use Rattle.branch_removal.specs.declared.straight.StraightStatement as code
 use Rattle.codegen.proofs.Machine.{bounds_code, test_code, count_code, statement_code, block_code, branch_code}
 use Rattle.codegen.proofs.Machine.{loop_code, variable_offset, next_offset, temporaries_offset, HasPlace, HavePlaces}

@@ -1,11 +1,10 @@
 -- The code of a statement makes of the state what the statement makes of it.
 use Rattle.std.proofs.Common.{ℕ, ◌+◌, ◌*◌, ◌≤◌, refl, arith}
-use Rattle.codegen.proofs.Language.{statement_nodes, block_nodes, statement_work, block_work, StraightTree, set}
-use Rattle.codegen.proofs.Language.{clear, fill, put, take, set_under, put_under, branch, repeats, StraightBlock}
-use Rattle.codegen.proofs.Language.{nothing, first, after, after_all, path_at, path_along, IsTyped, AreTyped}
-use Rattle.codegen.proofs.Language.{labelled, Boolean, Public}
-use Rattle.codegen.specs.private.Emitted.{statement_code, block_code, height_in, height_in_all, depth_in, depth_in_all}
-use Rattle.expression_code.specs.Registers.{slots_to}
+use Rattle.codegen.proofs.Language.{statement_nodes, block_nodes, statement_work, block_work, StraightTree, set, clear}
+use Rattle.codegen.proofs.Language.{fill, put, take, set_under, put_under, branch, repeats, StraightBlock, nothing}
+use Rattle.codegen.proofs.Language.{first, after, after_all, path_at, path_along, IsTyped, AreTyped, labelled, Boolean}
+use Rattle.codegen.proofs.Language.{Public}
+use Rattle.codegen.proofs.Machine.{statement_code, block_code, height_in, height_in_all, depth_in, depth_in_all, slots_to}
 use Rattle.codegen.proofs.ElementRuns.{put_runs, put_under_runs, fill_runs}
 use Rattle.codegen.proofs.LoopRuns.{branch_runs, repeats_runs}
 use Rattle.codegen.proofs.ClearRuns.{clear_runs}
@@ -33,8 +32,7 @@ module _ (z : Setting) where
         (block_runs depth accepted typed.1 (omega (arith, room)) (omega (arith, within)) (omega (arith, few)))
         (block_runs depth otherwise typed.2 (omega (arith, room)) (omega (arith, within)) (omega (arith, few))))
     statement_runs depth (repeats x low high body) typed room within few =
-        let short = height low in
-        cheaper (omega (arith, short))
+        cheaper (omega (arith, height low))
         (repeats_runs z depth (omega (arith, within)) x low high body (32 * block_work z.counts body)
         typed.2 typed.0 typed.1 (omega (arith, room)) (omega (arith, room)) (turn_near z.declared z.controls z.depths depth x body (omega (arith, few)))
         (block_runs (depth + 1) body typed.3 (omega (arith, room)) (omega (arith, within)) (omega (arith, few))))

@@ -1,206 +1,47 @@
+// The commands of `factc`, a row for each, and what `clap` makes of the rows.
+
+use crate::commands::{COMMANDS, CommandRow, Word};
 use clap::{Arg, ArgAction, Command, value_parser};
 use explanations::codes;
 use std::alloc::{AllocError, Global};
 
 /// The commands of `factc` and their words, as `clap` reads them.
 pub fn factc<'a>(alloc: Global) -> Result<Command<'a>, AllocError> {
-    Command::new(alloc, "factc")
+    let mut factc = Command::new(alloc, "factc")
         .version("0.1.0")
         .about(
             "Compiles a core of FaCT, the language for code whose timing keeps secrets, to RISC-V (RV32IM), \
              runs what it compiled, and shows what an observer sees of the run",
         )
-        .subcommand_required(true)
-        .subcommand(check_command(alloc)?)?
-        .subcommand(build_command(alloc)?)?
-        .subcommand(function_command(alloc)?)?
-        .subcommand(stat_command(alloc)?)?
-        .subcommand(eval_command(alloc)?)?
-        .subcommand(run_command(alloc)?)?
-        .subcommand(leak_command(alloc)?)?
-        .subcommand(pair_command(alloc)?)?
-        .subcommand(certify_command(alloc)?)?
-        .subcommand(list_command(alloc)?)?
-        .subcommand(wrap_command(alloc)?)?
-        .subcommand(harts_command(alloc)?)?
-        .subcommand(explain_command(alloc)?)
+        .subcommand_required(true);
+    for row in &COMMANDS {
+        factc = factc.subcommand(command(alloc, row)?)?;
+    }
+    Ok(factc)
 }
 
-fn check_command<'a>(alloc: Global) -> Result<Command<'a>, AllocError> {
-    Command::new(alloc, "check")
-        .about("Says whether a source is accepted, or names the first rule that it violates")
-        .arg(path(alloc, "FILE", "The source to check"))?
-        .arg(profile(alloc))?
-        .arg(explain(alloc))
+/// The command of a row.
+fn command<'a>(alloc: Global, row: &CommandRow) -> Result<Command<'a>, AllocError> {
+    let mut command = Command::new(alloc, row.name).about(row.about);
+    for word in row.words {
+        command = command.arg(argument(alloc, word))?;
+    }
+    Ok(command)
 }
 
-fn build_command<'a>(alloc: Global) -> Result<Command<'a>, AllocError> {
-    Command::new(alloc, "build")
-        .about("Compiles a source to an image, or names the first rule that it violates")
-        .arg(path(alloc, "FILE", "The source to compile"))?
-        .arg(path(
-            alloc,
-            "IMAGE",
-            "Where to write the image; it stays as it was if FILE is refused",
-        ))?
-        .arg(profile(alloc))?
-        .arg(explain(alloc))
+/// What `clap` reads as this word.
+fn argument<'a>(alloc: Global, word: &Word) -> Arg<'a> {
+    match *word {
+        Word::Path(name, help) => path(alloc, name, help),
+        Word::Code(name, help) => path(alloc, name, help).value_parser(codes()),
+        Word::Number(name, help) => number(alloc, name, help),
+        Word::Profile => profile(alloc),
+        Word::Flag(name, help) => flag(alloc, name, help),
+        Word::Arguments(help) => arguments(alloc, help),
+    }
 }
 
-fn stat_command<'a>(alloc: Global) -> Result<Command<'a>, AllocError> {
-    Command::new(alloc, "stat")
-        .about(
-            "Says what an accepted source costs: its nodes, its work, the size of its code and of its frame, and how many \
-             instructions a run executes at most",
-        )
-        .arg(path(alloc, "FILE", "The source"))?
-        .arg(profile(alloc))
-}
-
-fn function_command<'a>(alloc: Global) -> Result<Command<'a>, AllocError> {
-    Command::new(alloc, "function")
-        .about(
-            "Compiles a source to a function that C calls: one file for an assembler, and one with its C header",
-        )
-        .arg(path(
-            alloc,
-            "FILE",
-            "The source to compile; the function has the name of its export",
-        ))?
-        .arg(path(
-            alloc,
-            "ASM",
-            "Where to write the function, for a GNU or LLVM assembler; it stays as it was if FILE is refused",
-        ))?
-        .arg(path(
-            alloc,
-            "HEADER",
-            "Where to write the C header, after ASM; it stays as it was if FILE is refused",
-        ))?
-        .arg(profile(alloc))
-}
-
-fn eval_command<'a>(alloc: Global) -> Result<Command<'a>, AllocError> {
-    Command::new(alloc, "eval")
-        .about("Works out what an accepted source means on arguments, without an image")
-        .arg(path(alloc, "FILE", "The source"))?
-        .arg(arguments(
-            alloc,
-            "One for each parameter: a number (decimal, or hexadecimal after 0x), for a bool 0 or \
-             1, for an array its numbers joined by `,`",
-        ))
-}
-
-fn run_command<'a>(alloc: Global) -> Result<Command<'a>, AllocError> {
-    Command::new(alloc, "run")
-        .about("Runs an image on arguments and prints its outcome")
-        .arg(path(alloc, "IMAGE", "An image that `build` wrote"))?
-        .arg(arguments(
-            alloc,
-            "One for each parameter: a number (decimal, or hexadecimal after 0x), for a bool 0 or \
-             1, for an array its numbers joined by `,`",
-        ))
-}
-
-fn leak_command<'a>(alloc: Global) -> Result<Command<'a>, AllocError> {
-    Command::new(alloc, "leak")
-        .about("Runs an image on arguments and lists what an observer sees, and how the run stops")
-        .arg(path(alloc, "IMAGE", "An image that `build` wrote"))?
-        .arg(arguments(
-            alloc,
-            "One for each parameter: a number (decimal, or hexadecimal after 0x), for a bool 0 or \
-             1, for an array its numbers joined by `,`",
-        ))
-}
-
-fn pair_command<'a>(alloc: Global) -> Result<Command<'a>, AllocError> {
-    Command::new(alloc, "pair")
-        .about("Runs an image twice and says whether an observer sees the same, or where not")
-        .arg(path(alloc, "IMAGE", "An image that `build` wrote"))?
-        .arg(arguments(
-            alloc,
-            "Those of the first run, one for each parameter and as for `run`, then those of the \
-             second",
-        ))
-}
-
-fn certify_command<'a>(alloc: Global) -> Result<Command<'a>, AllocError> {
-    Command::new(alloc, "certify")
-        .about(
-            "Runs an image once for all values of its secrets, and says whether an observer sees the same of all, or \
-             where runs may begin to differ",
-        )
-        .arg(path(alloc, "IMAGE", "An image that `build` or `wrap` wrote"))?
-        .arg(arguments(
-            alloc,
-            "One for each parameter, as for `run`; for a secret one `?` stands for every value of its type",
-        ))
-}
-
-fn list_command<'a>(alloc: Global) -> Result<Command<'a>, AllocError> {
-    Command::new(alloc, "list")
-        .about("Lists the code of an image: each word with its address and its instruction")
-        .arg(path(alloc, "IMAGE", "An image that `build` wrote"))
-}
-
-fn wrap_command<'a>(alloc: Global) -> Result<Command<'a>, AllocError> {
-    Command::new(alloc, "wrap")
-        .about("Makes an image of code that another compiler made, to run, list and certify it")
-        .arg(path(
-            alloc,
-            "FILE",
-            "A source whose export has the parameters and the result that the code has",
-        ))?
-        .arg(path(
-            alloc,
-            "CODE",
-            "The code's words, little-endian, as `objcopy -O binary` leaves them",
-        ))?
-        .arg(path(
-            alloc,
-            "IMAGE",
-            "Where to write the image; where anything is refused it stays as it was",
-        ))?
-        .arg(number(
-            alloc,
-            "frame",
-            "How many bytes the frame has: parameters and result lie at its beginning, as `build` lays them",
-        ))?
-        .arg(number(
-            alloc,
-            "steps",
-            "How many instructions a run executes at most",
-        ))?
-        .arg(profile(alloc))
-}
-
-fn harts_command<'a>(alloc: Global) -> Result<Command<'a>, AllocError> {
-    Command::new(alloc, "harts")
-        .about(
-            "Runs several images side by side on one memory, and lists what an observer sees of each",
-        )
-        .arg(path(
-            alloc,
-            "FILE",
-            "Lines `hart IMAGE ARG..`, one for each image, then `turns K N` for N turns of hart K, from 0, and \
-             `round N` for N times one turn of each",
-        ))
-}
-
-fn explain_command<'a>(alloc: Global) -> Result<Command<'a>, AllocError> {
-    Command::new(alloc, "explain")
-        .about(
-            "Explains the code of an error, or the name of a stop: the rule, a source that violates it, and the same source mended",
-        )
-        .arg(path(
-            alloc,
-            "CODE",
-            "The code, as it stands behind `refused: `, or the name behind `stop `",
-        )
-        .value_parser(codes()))
-}
-
-fn path<'a>(alloc: Global, name: &'a str, help: &'a str) -> Arg<'a> {
+fn path<'a>(alloc: Global, name: &'static str, help: &'static str) -> Arg<'a> {
     Arg::new(alloc, name)
         .action(ArgAction::Set)
         .required(true)
@@ -208,7 +49,7 @@ fn path<'a>(alloc: Global, name: &'a str, help: &'a str) -> Arg<'a> {
 }
 
 /// A number that is to be given behind its name.
-fn number<'a>(alloc: Global, name: &'a str, help: &'a str) -> Arg<'a> {
+fn number<'a>(alloc: Global, name: &'static str, help: &'static str) -> Arg<'a> {
     Arg::new(alloc, name)
         .long(name)
         .value_name("N")
@@ -235,19 +76,16 @@ fn profile<'a>(alloc: Global) -> Arg<'a> {
         )
 }
 
-/// Whether a refusal is explained.
-fn explain<'a>(alloc: Global) -> Arg<'a> {
-    Arg::new(alloc, "explain")
-        .long("explain")
+/// A flag that is given or not.
+fn flag<'a>(alloc: Global, name: &'static str, help: &'static str) -> Arg<'a> {
+    Arg::new(alloc, name)
+        .long(name)
         .action(ArgAction::SetTrue)
-        .help(
-            "Where the source is refused, shows the line of the place too, and says what the rule is, what usually violates \
-             it and what to do",
-        )
+        .help(help)
 }
 
 /// Every word after a path, also one that begins with a hyphen.
-fn arguments<'a>(alloc: Global, help: &'a str) -> Arg<'a> {
+fn arguments<'a>(alloc: Global, help: &'static str) -> Arg<'a> {
     Arg::new(alloc, "ARG")
         .action(ArgAction::Append)
         .num_args(0..)

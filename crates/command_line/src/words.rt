@@ -1,6 +1,6 @@
 ghost use Rattle.std.specs.Prelude.{◌≡◌, codes, map, IfOk, IfSome};
 ghost use Rattle.clap.specs.Matches.{first_value, found_of};
-ghost use Rattle.command_line.specs.Words.{after_path, arguments_of, profile_named};
+ghost use Rattle.command_line.specs.Words.{is_flag, behind_flags, after_path, arguments_of, profile_named};
 
 use crate::syntax::factc;
 use clap::error::ErrorKind;
@@ -31,10 +31,12 @@ pub enum Request<'a> {
         assembler: &'a str,
         header: &'a str,
         profile: Profile,
+        explain: bool,
     },
     Eval {
         file: &'a str,
         arguments: &'a [&'a str],
+        explain: bool,
     },
     Run {
         image: &'a str,
@@ -130,10 +132,12 @@ fn asked<'a>(alloc: Global, words: &'a [&'a str]) -> Result<Request<'a>, Error>
             assembler: text_of(function, "ASM"),
             header: text_of(function, "HEADER"),
             profile: profile_of(function),
+            explain: function.get_flag("explain"),
         }),
         Some(("eval", eval)) => Ok(Request::Eval {
             file: text_of(eval, "FILE"),
             arguments: after_path(words),
+            explain: eval.get_flag("explain"),
         }),
         Some(("run", run)) => Ok(Request::Run {
             image: text_of(run, "IMAGE"),
@@ -193,14 +197,38 @@ fn profile_of(matches: &ArgMatches<'_>) -> Profile
     }
 }
 
-/// The words after a command and its FILE or IMAGE. Each of them is an argument, also `--`, which
-/// before the path says that the path may begin with a hyphen.
+/// The words after a command, its flags and its FILE or IMAGE. Each of them is an argument, also `--` and what looks like a
+/// flag; before the path, behind the flags, `--` says that the path may begin with a hyphen.
 fn after_path<'a>(words: &'a [&'a str]) -> &'a [&'a str]
     ensures { map (λ word. word.now) result.now ≡ after_path (map (λ word. word.now) words.now) }
 {
-    match words {
-        [_, _, dashes, _, arguments @ ..] if *dashes == "--" => arguments,
-        [_, _, _, arguments @ ..] => arguments,
-        _ => &[],
+    let [_, _, rest @ ..] = words else {
+        return &[];
+    };
+    match behind_flags(rest) {
+        [dashes, _, arguments @ ..] if *dashes == "--" => arguments,
+        [_, arguments @ ..] => arguments,
+        [] => &[],
     }
+}
+
+/// The words from the first on that is no flag.
+fn behind_flags<'a>(words: &'a [&'a str]) -> &'a [&'a str]
+    ensures { map (λ word. word.now) result.now ≡ behind_flags (map (λ word. word.now) words.now) }
+{
+    let mut rest = words;
+    while let [word, more @ ..] = rest {
+        if !is_flag(word) {
+            break;
+        }
+        rest = more;
+    }
+    rest
+}
+
+/// Whether a word is a flag that may stand between a command that takes arguments and its path.
+fn is_flag(word: &str) -> bool
+    ensures { result ≡ is_flag word.now }
+{
+    word == "--explain"
 }

@@ -14,7 +14,7 @@ use Rattle.image.specs.declared.fault.ImageFault.TheVariants.{Field, Memory}
 use Rattle.image_fields.specs.Fields.{Fields, IsImage}
 
 -- what is read of the beginning of a file is what all of it spells
-all_read : (files : Contents) (path bytes : List ℕ) (begun : Begins files path (longest_image + 1) bytes) (answer : Result Fields ImageFault) → reading bytes ≡ answer → reading begun.whole ≡ answer
+pub all_read : (files : Contents) (path bytes : List ℕ) (begun : Begins files path (longest_image + 1) bytes) (answer : Result Fields ImageFault) → reading bytes ≡ answer → reading begun.whole ≡ answer
 all_read files path bytes begun answer is = sym (one_byte_more begun.whole) ∙ ap reading (sym begun.begun) ∙ is
 
 pub image_held : (files : Contents) (path bytes : List ℕ) (image : Fields) → Begins files path (longest_image + 1) bytes → reading bytes ≡ Ok image → IsImage image → HoldsImage files path image

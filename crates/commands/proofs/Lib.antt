@@ -5,6 +5,7 @@ mod CodeLemmas
 mod LeakFaults
 pub mod ImageLemmas
 mod Writing
+mod MeasuringLemmas
 mod RequestLemmas
 mod MeaningLemmas
 mod HartLemmas

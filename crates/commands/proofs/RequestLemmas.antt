@@ -43,6 +43,13 @@ refuses request known same before after out answer e fault is handed why =
     subst (λ (r : Request). IfErr answer (Fails r before after out out)) (sym same)
     (handed_on (Fails known before after out out) answer e fault is handed (refused why refl))
 
+-- one that is known and done, and its text was printed
+pub prints : (request known : Request) → request ≡ known → (before after : Contents) (out out' text : List ℕ) (status : ℕ) (answer : Result ℕ Fault)
+    → Answers known before text status → Leaves known before after → IfOk answer (λ given. given ≡ status) → OnOk answer (out' ≡ out ++ text) → IfOk answer (IsDone request before after out out')
+prints request known same before after out out' text status answer answered left is whole =
+    subst (λ (r : Request). IfOk answer (IsDone r before after out out')) (sym same)
+    (printed_by known before after out out' text status answer answered left is whole)
+
 -- and one that is done, where standard output failed
 pub fails_to_print : (request known : Request) → request ≡ known → (before after : Contents) (out out' text : List ℕ) (status : ℕ) (answer : Result ℕ Fault)
     → Answers known before text status → Leaves known before after → OnErr answer (GainsPart out out' text) → IfErr answer IsOutputFault → IfErr answer (Fails request before after out out')

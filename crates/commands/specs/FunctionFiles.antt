@@ -1,8 +1,8 @@
 -- What is written of the function that the text of a file is compiled to, and why there is none.
-use Rattle.std.specs.Prelude.{ℕ, List}
+use Rattle.std.specs.Prelude.{Bool, ℕ, List}
 use Rattle.commands.specs.Contents.{Contents}
 use Rattle.commands.specs.FileTexts.{HoldsText}
-use Rattle.commands.specs.Judged.{IsRefused}
+use Rattle.commands.specs.Judged.{IsRefusedSo}
 use Rattle.commands.specs.declared.fault.Fault.{Fault}
 use Rattle.commands.specs.declared.fault.Fault.TheVariants.{Name}
 use Rattle.function_text.specs.Functions.{HasTakenName}
@@ -16,7 +16,7 @@ pub record AreFunctionTexts (profile : Profile) (files : Contents) (path : List 
   pub held : HoldsText files path text
   pub made : AreTextsOf profile text assembler header
 
--- why there is none: the text is not accepted, or the name of its export is taken
-pub data RefusesFunction (profile : Profile) (files : Contents) (path : List ℕ) : Fault → Type 0 where
-  not_accepted : {fault : Fault} → IsRefused profile files path fault → RefusesFunction profile files path fault
-  taken_name : {text : List ℕ} {place : Place} → HoldsText files path text → HasTakenName profile text place → RefusesFunction profile files path (Name place)
+-- why there is none: the text is not accepted, which is explained or not; or the name of its export is taken
+pub data RefusesFunction (explain : Bool) (profile : Profile) (files : Contents) (path : List ℕ) : Fault → Type 0 where
+  not_accepted : {fault : Fault} → IsRefusedSo explain profile files path fault → RefusesFunction explain profile files path fault
+  taken_name : {text : List ℕ} {place : Place} → HoldsText files path text → HasTakenName profile text place → RefusesFunction explain profile files path (Name place)

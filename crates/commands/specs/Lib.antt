@@ -1,4 +1,5 @@
 pub mod Contents
+pub mod Costs
 pub mod OutcomeText
 pub mod Unread
 pub mod Images

@@ -1,13 +1,14 @@
 -- What is printed of what the text of a file means.
-use Rattle.std.specs.Prelude.{◌≡◌, ℕ, List, map, Some, Ok}
+use Rattle.std.specs.Prelude.{◌≡◌, Bool, ℕ, List, map, Some, Ok}
 use Rattle.arguments.specs.Texts.{fault_of_texts}
 use Rattle.commands.specs.Contents.{Contents}
 use Rattle.commands.specs.FileTexts.{NoText}
+use Rattle.commands.specs.Judged.{Tells}
 use Rattle.commands.specs.OutcomeText.{outcome_text}
 use Rattle.commands.specs.Unread.{IsOutOfMemory}
 use Rattle.commands.specs.Words.{AreSpelled, IsFaultOfWords}
 use Rattle.commands.specs.declared.fault.Fault.{Fault}
-use Rattle.commands.specs.declared.fault.Fault.TheVariants.{Text, Run}
+use Rattle.commands.specs.declared.fault.Fault.TheVariants.{Run}
 use Rattle.hepurita.specs.Built.{Judges, IsRefusal, accepts}
 use Rattle.hepurita.specs.Compiled.{Means}
 use Rattle.hepurita.specs.declared.fault.RunFault.{RunFault}
@@ -44,9 +45,10 @@ pub record SaysMeaning (files : Contents) (path : List ℕ) (words : List (List 
   pub within : answer program args evaluation_budget ≡ Ok outcome
   pub printed : text ≡ outcome_text (map param_of export.parameters) outcome
 
--- why there is none: no text, a text that is refused, no arguments
-pub data RefusesMeaning (files : Contents) (path : List ℕ) (words : List (List ℕ)) : Fault → Type 0 where
-  no_text : {fault : Fault} → NoText files path fault → RefusesMeaning files path words fault
-  not_accepted : {bytes : List ℕ} {refusal : Refusal} → files path ≡ Some bytes → IsText bytes → IsRefusal (Judges P1 bytes) refusal → RefusesMeaning files path words (Text refusal)
-  no_arguments : {program : ProgramTree} {export : ProcedureTree} {fault : RunFault} → HoldsProgram files path program export → IsFaultOfWords (fault_of_texts (map param_of export.parameters) words) fault → RefusesMeaning files path words (Run fault)
-  out_of_memory : {fault : Fault} → IsOutOfMemory fault → RefusesMeaning files path words fault
+-- why there is none: no text, a text that is refused, which is explained or not, no arguments
+pub data RefusesMeaning (explain : Bool) (files : Contents) (path : List ℕ) (words : List (List ℕ)) : Fault → Type 0 where
+  no_text : {fault : Fault} → NoText files path fault → RefusesMeaning explain files path words fault
+  not_accepted : {bytes : List ℕ} (refusal : Refusal) {fault : Fault} → files path ≡ Some bytes → IsText bytes → IsRefusal (Judges P1 bytes) refusal
+      → Tells explain bytes refusal fault → RefusesMeaning explain files path words fault
+  no_arguments : {program : ProgramTree} {export : ProcedureTree} {fault : RunFault} → HoldsProgram files path program export → IsFaultOfWords (fault_of_texts (map param_of export.parameters) words) fault → RefusesMeaning explain files path words (Run fault)
+  out_of_memory : {fault : Fault} → IsOutOfMemory fault → RefusesMeaning explain files path words fault

@@ -4,11 +4,12 @@ use Rattle.command_line.specs.declared.words.Request.{Request}
 use Rattle.command_line.specs.declared.words.Request.TheVariants as requests
 use Rattle.commands.specs.Certificates.{SaysCertificate, RefusesCertificate}
 use Rattle.commands.specs.Contents.{Contents}
+use Rattle.commands.specs.Costs.{SaysCosts, RefusesCosts}
 use Rattle.commands.specs.FaultText.{fault_line, fault_status}
 use Rattle.commands.specs.FunctionFiles.{AreFunctionTexts, RefusesFunction}
 use Rattle.commands.specs.Harts.{SaysHarts}
 use Rattle.commands.specs.Images.{NoImage}
-use Rattle.commands.specs.Judged.{IsAccepted, IsRefused, IsRefusedSo, IsImageOf, SaysStatistics}
+use Rattle.commands.specs.Judged.{IsAccepted, IsRefusedSo, IsImageOf}
 use Rattle.commands.specs.Leaks.{SaysLeak, RefusesLeak, IsOutputFault}
 use Rattle.commands.specs.Meanings.{SaysMeaning, RefusesMeaning}
 use Rattle.commands.specs.Pairs.{SaysPair, RefusesPair, SaysList}
@@ -26,9 +27,9 @@ use Rattle.wrapping.specs.declared.asked.Asked.{Asked}
 abbrev pub Answers : Request → Contents → List ℕ → ℕ → Type 0
 Answers (requests.Check file profile explain) files text status = IsAccepted profile files file.now × (text ≡ codes "accepted\n") × (status ≡ 0)
 Answers (requests.Build file image profile explain) files text status = (text ≡ []) × (status ≡ 0)
-Answers (requests.Stat file profile) files text status = SaysStatistics profile files file.now text × (status ≡ 0)
-Answers (requests.Function file assembler header profile) files text status = (text ≡ []) × (status ≡ 0)
-Answers (requests.Eval file arguments) files text status = SaysMeaning files file.now (map (λ word. word.now) arguments.now) text × (status ≡ 0)
+Answers (requests.Stat file profile) files text status = SaysCosts profile files file.now text × (status ≡ 0)
+Answers (requests.Function file assembler header profile explain) files text status = (text ≡ []) × (status ≡ 0)
+Answers (requests.Eval file arguments explain) files text status = SaysMeaning files file.now (map (λ word. word.now) arguments.now) text × (status ≡ 0)
 Answers (requests.Run image arguments) files text status = SaysRun files image.now (map (λ word. word.now) arguments.now) text × (status ≡ 0)
 Answers (requests.Leak image arguments) files text status = SaysLeak files image.now (map (λ word. word.now) arguments.now) status text
 Answers (requests.Pair image arguments) files text status = SaysPair files image.now (map (λ word. word.now) arguments.now) text × (status ≡ 0)
@@ -43,9 +44,9 @@ abbrev pub Leaves : Request → Contents → Contents → Type 0
 Leaves (requests.Check file profile explain) before after = after ≡ before
 Leaves (requests.Build file image profile explain) before after = WritesFile image.now (IsImageOf profile before file.now) before after
 Leaves (requests.Stat file profile) before after = after ≡ before
-Leaves (requests.Function file assembler header profile) before after =
+Leaves (requests.Function file assembler header profile explain) before after =
     WritesTwo assembler.now header.now (AreFunctionTexts profile before file.now) before after
-Leaves (requests.Eval file arguments) before after = after ≡ before
+Leaves (requests.Eval file arguments explain) before after = after ≡ before
 Leaves (requests.Run image arguments) before after = after ≡ before
 Leaves (requests.Leak image arguments) before after = after ≡ before
 Leaves (requests.Pair image arguments) before after = after ≡ before
@@ -61,10 +62,10 @@ abbrev pub Refuses : Request → Contents → Contents → Fault → Type 0
 Refuses (requests.Check file profile explain) before after fault = IsRefusedSo explain profile before file.now fault × (after ≡ before)
 Refuses (requests.Build file image profile explain) before after fault =
     FailsToWrite image.now (IsImageOf profile before file.now) (IsRefusedSo explain profile before file.now) before after fault
-Refuses (requests.Stat file profile) before after fault = IsRefused profile before file.now fault × (after ≡ before)
-Refuses (requests.Function file assembler header profile) before after fault =
-    FailsToWriteTwo assembler.now header.now (AreFunctionTexts profile before file.now) (RefusesFunction profile before file.now) before after fault
-Refuses (requests.Eval file arguments) before after fault = RefusesMeaning before file.now (map (λ word. word.now) arguments.now) fault × (after ≡ before)
+Refuses (requests.Stat file profile) before after fault = RefusesCosts profile before file.now fault × (after ≡ before)
+Refuses (requests.Function file assembler header profile explain) before after fault =
+    FailsToWriteTwo assembler.now header.now (AreFunctionTexts profile before file.now) (RefusesFunction explain profile before file.now) before after fault
+Refuses (requests.Eval file arguments explain) before after fault = RefusesMeaning explain before file.now (map (λ word. word.now) arguments.now) fault × (after ≡ before)
 Refuses (requests.Run image arguments) before after fault = RefusesRun before image.now (map (λ word. word.now) arguments.now) fault × (after ≡ before)
 Refuses (requests.Leak image arguments) before after fault = RefusesLeak before image.now (map (λ word. word.now) arguments.now) fault × (after ≡ before)
 Refuses (requests.Pair image arguments) before after fault = RefusesPair before image.now (map (λ word. word.now) arguments.now) fault × (after ≡ before)

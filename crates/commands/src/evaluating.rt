@@ -7,7 +7,7 @@ ghost use Rattle.commands.specs.Meanings.{evaluation_budget, SaysMeaning, Refuse
 use crate::fault::Fault;
 use crate::files::Files;
 use crate::outcome;
-use crate::texts::text_of_file;
+use crate::texts::{refused, text_of_file};
 use hepurita::{accepted_texts_are_evaluated, judge, read_args};
 use source_eval::eval;
 use std::alloc::Global;
@@ -21,19 +21,23 @@ pub fn budget_is_as_stated()
 {}
 
 /// What an accepted text means on arguments, as lines. It is accepted for an observer of profile 1, and the budget suffices
-/// for each text that is.
+/// for each text that is. A refusal of the source is explained where that is asked for.
 pub fn evaluate_text<'a, F: Files>(
     alloc: Global,
     file: &'a str,
     arguments: &[&str],
+    explain: bool,
     files: &F,
 ) -> Result<String, Fault<'a>>
     ensures said { IsTrue F.TELLS → IfOk result (λ text. SaysMeaning (F.contents files.now) file.now (map (λ word. word.now) arguments.now) (string_bytes text)) }
-    ensures refused { IsTrue F.TELLS → IfErr result (RefusesMeaning (F.contents files.now) file.now (map (λ word. word.now) arguments.now)) }
+    ensures refused { IsTrue F.TELLS → IfErr result (RefusesMeaning explain (F.contents files.now) file.now (map (λ word. word.now) arguments.now)) }
 {
     accepted_texts_are_evaluated();
     let text = text_of_file(alloc, file, files)?;
-    let accepted = judge(alloc, text.as_str())?;
+    let accepted = match judge(alloc, text.as_str()) {
+        Ok(accepted) => accepted,
+        Err(refusal) => return Err(refused(alloc, text.as_str(), refusal, explain)),
+    };
     let params = accepted.params.as_slice();
     let args = read_args(alloc, params, arguments)?;
     let outcome = eval(alloc, &accepted.program, &args, EVALUATION_BUDGET)?;

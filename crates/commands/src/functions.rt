@@ -8,25 +8,29 @@ ghost use Rattle.commands.specs.Written.{IsWriteFault};
 
 use crate::fault::Fault;
 use crate::files::Files;
-use crate::texts::{text_of_file, write_file};
+use crate::texts::{refused, text_of_file, write_file};
 use function_text::{FunctionFault, Texts, texts_of};
 use language::Profile;
 use std::alloc::Global;
 
-/// The texts of the function that the text of a file is compiled to, for an observer.
+/// The texts of the function that the text of a file is compiled to, for an observer. A refusal of the source is explained
+/// where that is asked for.
 fn function_texts<'a, F: Files>(
     alloc: Global,
     file: &'a str,
     profile: Profile,
+    explain: bool,
     files: &F,
 ) -> Result<Texts, Fault<'a>>
     ensures said { IsTrue F.TELLS → IfOk result (λ texts. AreFunctionTexts profile (F.contents files.now) file.now (string_bytes texts.assembler) (string_bytes texts.header)) }
-    ensures refused { IsTrue F.TELLS → IfErr result (RefusesFunction profile (F.contents files.now) file.now) }
+    ensures refused { IsTrue F.TELLS → IfErr result (RefusesFunction explain profile (F.contents files.now) file.now) }
 {
     let text = text_of_file(alloc, file, files)?;
     match texts_of(alloc, text.as_str(), profile) {
         Ok(texts) => Ok(texts),
-        Err(FunctionFault::Text(refusal)) => Err(Fault::Text(refusal)),
+        Err(FunctionFault::Text(refusal)) => {
+            Err(refused(alloc, text.as_str(), refusal, explain))
+        }
         Err(FunctionFault::Name(place)) => Err(Fault::Name(place)),
     }
 }
@@ -47,20 +51,22 @@ fn write_both<'a, F: Files>(
 }
 
 /// Compiles the text of a file, for an observer, to a function that C calls: its text for an assembler is written to one
-/// file, and then its C header to another. Neither is written unless both texts are there.
+/// file, and then its C header to another. Neither is written unless both texts are there. A refusal of the source is
+/// explained where that is asked for.
 pub fn write_function<'a, F: Files>(
     alloc: Global,
     file: &'a str,
     assembler: &'a str,
     header: &'a str,
     profile: Profile,
+    explain: bool,
     files: &mut F,
 ) -> Result<(), Fault<'a>>
     ensures said { IsTrue F.TELLS → OnOk result (WritesTwo assembler.now header.now (AreFunctionTexts profile (F.contents files.old) file.now) (F.contents files.old) (F.contents files.new)) }
     ensures refused { IsTrue F.TELLS → IfErr result (FailsToWriteTwo assembler.now header.now (AreFunctionTexts profile (F.contents files.old) file.now)
-        (RefusesFunction profile (F.contents files.old) file.now) (F.contents files.old) (F.contents files.new)) }
+        (RefusesFunction explain profile (F.contents files.old) file.now) (F.contents files.old) (F.contents files.new)) }
     ensures untouched { IfErr result (λ fault. (IsWriteFault assembler.now fault ⊎ IsWriteFault header.now fault → ⊥) → files.new ≡ files.old) }
 {
-    let texts = function_texts(alloc, file, profile, files)?;
+    let texts = function_texts(alloc, file, profile, explain, files)?;
     write_both(assembler, header, &texts, files)
 }

@@ -12,6 +12,7 @@ mod files;
 mod foreign_code;
 mod functions;
 mod images;
+mod measuring;
 mod outcome;
 mod performing;
 mod side_by_side;

@@ -12,8 +12,9 @@ use crate::files::Files;
 use crate::foreign_code::wrap_code;
 use crate::functions::write_function;
 use crate::images::{leak_image, list_image, pair_image, run_image};
+use crate::measuring::measure_file;
 use crate::side_by_side::{run_side_by_side, whole_text};
-use crate::texts::{build_image, check_text, measure_text};
+use crate::texts::{build_image, check_text};
 use command_line::{NoRequest, Request, parse};
 use language::Refusal;
 use std::alloc::Global;
@@ -145,7 +146,7 @@ fn answer<'a, F: Files, O: Sink>(
             Ok(DONE)
         }
         Request::Stat { file, profile } => {
-            let text = measure_text(alloc, file, profile, files)?;
+            let text = measure_file(alloc, file, profile, files)?;
             print(out, text.as_bytes(), DONE)
         }
         Request::Function {
@@ -153,12 +154,17 @@ fn answer<'a, F: Files, O: Sink>(
             assembler,
             header,
             profile,
+            explain,
         } => {
-            write_function(alloc, file, assembler, header, profile, files)?;
+            write_function(alloc, file, assembler, header, profile, explain, files)?;
             Ok(DONE)
         }
-        Request::Eval { file, arguments } => {
-            let text = evaluate_text(alloc, file, arguments, files)?;
+        Request::Eval {
+            file,
+            arguments,
+            explain,
+        } => {
+            let text = evaluate_text(alloc, file, arguments, explain, files)?;
             print(out, text.as_bytes(), DONE)
         }
         Request::Run { image, arguments } => {

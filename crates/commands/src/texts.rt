@@ -1,10 +1,10 @@
-// What is done with a source alone: it is judged, compiled, or measured.
+// What is done with a source alone: it is judged, or compiled.
 
 ghost use Rattle.std.specs.Prelude.{◌≡◌, ℕ, List, Some, IsTrue, IfOk, IfErr, OnOk, OnErr};
 ghost use Rattle.std.specs.String.{string_bytes};
 ghost use Rattle.commands.specs.Contents.{Contents, IsWritten, IsCutOff};
 ghost use Rattle.commands.specs.FileTexts.{HoldsText, NoText};
-ghost use Rattle.commands.specs.Judged.{Tells, IsAccepted, IsRefused, IsRefusedSo, IsImageOf, SaysStatistics};
+ghost use Rattle.commands.specs.Judged.{Tells, IsAccepted, IsRefusedSo, IsImageOf};
 ghost use Rattle.commands.specs.Unread.{NotRead};
 ghost use Rattle.commands.specs.Written.{IsWriteFault, WritesFile, FailsToWrite};
 ghost use Rattle.stream_build.specs.Faults as texts;
@@ -14,7 +14,6 @@ use crate::files::Files;
 use explained_refusals::explain_refusal;
 use hepurita::{build_as, judge_as};
 use language::{Profile, Refusal};
-use source_statistics::source_statistics;
 use std::alloc::Global;
 use stream_build::{BuildFault, text_of};
 use streams::ReadFault;
@@ -31,7 +30,7 @@ pub fn read_fault(path: &str, fault: ReadFault) -> Fault<'_>
 }
 
 /// Why the bytes of a file are no text.
-fn text_fault(file: &str, fault: BuildFault<Refusal>) -> Fault<'_>
+pub fn text_fault(file: &str, fault: BuildFault<Refusal>) -> Fault<'_>
     ensures { (files : Contents) (bytes : List ℕ) → files file.now ≡ Some bytes → texts.NoText bytes fault
         → NoText files file.now result }
 {
@@ -75,7 +74,7 @@ pub fn write_file<'a, F: Files>(path: &'a str, bytes: &[u8], files: &mut F) -> R
 }
 
 /// The fault of a refused source, with the lines that explain it where they are asked for.
-fn refused(alloc: Global, source: &str, refusal: Refusal, explain: bool) -> Fault<'static>
+pub fn refused(alloc: Global, source: &str, refusal: Refusal, explain: bool) -> Fault<'static>
     ensures { Tells explain source.now refusal result }
 {
     if !explain {
@@ -125,19 +124,4 @@ pub fn build_image<'a, F: Files>(
         Ok(built) => write_file(image, built.as_slice(), files),
         Err(refusal) => Err(refused(alloc, text.as_str(), refusal, explain)),
     }
-}
-
-/// What the source of a file costs, for an observer, as lines.
-pub fn measure_text<'a, F: Files>(
-    alloc: Global,
-    file: &'a str,
-    profile: Profile,
-    files: &F,
-) -> Result<String, Fault<'a>>
-    ensures said { IsTrue F.TELLS → IfOk result (λ text. SaysStatistics profile (F.contents files.now) file.now (string_bytes text)) }
-    ensures refused { IsTrue F.TELLS → IfErr result (IsRefused profile (F.contents files.now) file.now) }
-{
-    let text = text_of_file(alloc, file, files)?;
-    let lines = source_statistics(alloc, text.as_str(), profile)?;
-    Ok(lines)
 }

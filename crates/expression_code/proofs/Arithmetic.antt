@@ -1,15 +1,10 @@
 -- Arithmetic of addresses, of numbers in two parts, and of masks.
 use Rattle.std.proofs.Common.{◌≡◌, ℕ, ◌+◌, ◌*◌, ◌%◌, ◌^◌, ◌<◌, ◌==◌, Bool, true, false, not, ◌&&◌, if◌then◌else◌, bit_and, bit_xor, ap, ◌∙◌, arith}
-use Rattle.expression_code.proofs.Below.{lower_part, nat_tests, upper_part}
+use Rattle.expression_code.proofs.Below.{lower_part, nat_tests, upper_part, and_mask, xor_of_32, sum_of, difference_of}
+use Rattle.expression_code.proofs.Below.{sign_extended}
 use Rattle.std.specs.Int.{bit_at}
 use Rattle.std.specs.Int.Bits.{and_zero_r, xor_zero_r}
-use Rattle.std.proofs.lemmas.Nat.{and_mask, xor_of_32}
 use Rattle.std.proofs.lemmas.Nat.Bits.{bit_at_xor, bit_at-lt, same_from_bits}
-use Rattle.rv_machine.specs.Effects.{sum_of, difference_of, sign_extended}
-
--- a field of twelve bits with its sign
-pub near_field : (f : ℕ) → f < 2048 → sign_extended 12 f ≡ f
-near_field f h = grind (arith, nat_tests)
 
 -- the upper and the lower part make the number
 pub parts : (n : ℕ) → n < 2 ^ 32 → sum_of (upper_part n * 2 ^ 12) (sign_extended 12 (lower_part n)) ≡ n

@@ -5,12 +5,13 @@ pub use Rattle.branch_removal.specs.StraightMeaning.{StraightState}
 pub use Rattle.expression_code.specs.Computed.{IsComputed, IsSiteOf, Site}
 pub use Rattle.expression_code.specs.Inside.{IsInside}
 pub use Rattle.expression_code.specs.Layout.{control_offset, next_offset, result_offset, temporaries_offset, variable_offset}
+pub use Rattle.expression_code.specs.Layout.{offsets_from, slots_from}
 pub use Rattle.expression_code.specs.Registers.{home, register_count, slot_of, slots_to}
 pub use Rattle.expression_code.specs.TermCode.{address_code, around_code, between, choice_code, constant_code, cut_code, element_code, expr_code, fetch_code, Finish, finish_code, height_of, IsAmong, keep_code, load_by, load_code, lower_part, narrowed, operator_code, prefix_code, raise_code, rotate_code, row_of, scale_code, Step, step_code, store_code, turned, upper_part}
-pub use Rattle.image_fields.specs.declared.slot.Slot.{Slot}
+pub use Rattle.expression_code.specs.TermCode.{kind_at}
 pub use Rattle.inline.proofs.Fitting.{value_fits}
 pub use Rattle.inline.specs.Fitting.{Fits, IsWithinKind}
-pub use Rattle.inline.specs.Flat.{array_as, binary, convert, declaration_of, element, elements_by, number, numbers_in, prefix, rotate, select, TermTree, truth, variable, word_as}
+pub use Rattle.inline.specs.Flat.{array_as, binary, convert, declaration_of, element, elements_by, numbers_in, prefix, rotate, select, TermTree, variable, word_as}
 pub use Rattle.inline.specs.FlatMeaning.{marks_of, path_in, value_in, Values}
 pub use Rattle.inline.specs.FlatSize.{declared_words, term_nodes, words_by, words_of}
 pub use Rattle.inline.specs.FlatTyping.{HasType, of_binary, of_conversion, of_element, of_number, of_prefix, of_rotation, of_selection, of_truth, of_variable, Types, types_of}
@@ -20,23 +21,25 @@ pub use Rattle.language.specs.Operators.{operated, prefix_value, width_of}
 pub use Rattle.language.specs.Size.{element_bytes, held_words}
 pub use Rattle.language.specs.declared.signature.Form.{Form}
 pub use Rattle.language.specs.declared.signature.Kind.{Kind}
+pub use Rattle.language.specs.declared.signature.Kind.TheVariants.{Boolean}
 pub use Rattle.language.specs.declared.signature.Label.{Label}
 pub use Rattle.language.specs.declared.signature.Param.{Param}
 pub use Rattle.language.specs.declared.tree.BinaryOperator.{BinaryOperator}
 pub use Rattle.language.specs.declared.tree.PrefixOperator.{PrefixOperator}
 pub use Rattle.language.specs.declared.typing.WordType.{WordType}
-pub use Rattle.program_logic.proofs.Computing.{after_append, computing, only_computes, plain_append, register_left, registers_after}
-pub use Rattle.program_logic.proofs.Face.{All-one, along, along_fit, always, as_code, beside, both, both_left, both_right, branching_at, by_mark, cheaper, Contents, contents_of, Ends, ends_as, ends_by, ends_on, ends_to, gives, idle, Known, Leak, looping, never, none, number_or_zero, Placed, Placed-below, Placed-left, Placed-right, quiet, quietly, seq, stands, Still, Straight, Then, then_ends, turn_ends, weaken, with_result}
+pub use Rattle.program_logic.proofs.Computing.{after_append, all_straight, no_access_fit, no_access_met, only_computes, plain_append, register_left, registers_after, registers_of}
+pub use Rattle.program_logic.proofs.Face.{All-one, along, along_fit, always, as_code, beside, both_left, both_right, branching_at, by_mark, cheaper, Contents, contents_of, ends_on, gives, idle, Known, looping, never, none, number_or_zero, Placed, Placed-left, Placed-right, quiet, quietly, seq, stands, Still, Straight, Then, turn_ends, weaken, with_result}
 pub use Rattle.rv_code.specs.Words.{IsInstr}
 pub use Rattle.rv_code.specs.declared.instructions.Instr.{Instr}
 pub use Rattle.rv_code.specs.declared.operations.DivideOperation.{DivideOperation}
 pub use Rattle.rv_code.specs.declared.operations.LoadOperation.{LoadOperation}
 pub use Rattle.rv_code.specs.declared.operations.MultiplyOperation.{MultiplyOperation}
 pub use Rattle.rv_code.specs.declared.operations.StoreOperation.{StoreOperation}
-pub use Rattle.rv_machine.proofs.ByteLaws.{number_at-suc, number_at-with_number, number_at-zero, number_at_same, with_number_below}
+pub use Rattle.rv_machine.proofs.ByteLaws.{number_at-suc, number_at-with_number, number_at-zero, number_at_same, with_number_above, with_number_below}
 pub use Rattle.rv_machine.proofs.TurnLaws.{divide_leads, multiply_leads, with_value-bytes, with_value-pc, with_value-regs}
 pub use Rattle.rv_machine.specs.Bytes.{ByteMap, joined, number_at, with_number}
 pub use Rattle.rv_machine.specs.Effects.{address_of, divide_value, immediate_value, load_size, loaded_value, multiply_value, register_value, shift_value, sign_extended, store_size, sum_of}
+pub use Rattle.rv_machine.specs.Effects.{difference_of}
 pub use Rattle.rv_machine.specs.Leakage.{Leads}
 pub use Rattle.rv_machine.specs.Machine.{Code, IsAt, product_shown, State, with_value}
 pub use Rattle.rv_machine.specs.Registers.{register, with_register}
@@ -46,7 +49,8 @@ pub use Rattle.rv_machine.specs.declared.observation.Event.{Event}
 pub use Rattle.rv_machine.specs.declared.observation.Observation.{Observation}
 pub use Rattle.std.proofs.Math.Path.{fun_ext}
 pub use Rattle.std.proofs.lemmas.Bool.Decides.{nat_tests}
-pub use Rattle.std.proofs.lemmas.Bool.{eqb-true, false≢true, lt-ltb, ltb-false, ltb-true, true≢false}
+pub use Rattle.std.proofs.lemmas.Bool.{cases_lt, eqb-true, false≢true, lt-ltb, ltb-false, ltb-true, true≢false}
+pub use Rattle.std.proofs.lemmas.Nat.{and_mask, mul-le, xor_of_32}
 pub use Rattle.word.specs.Operators.{converted, rotated_left, word_of}
 pub use Rattle.word.specs.Widths.{bits}
 pub use Rattle.word.specs.declared.place.Place.{Place}

@@ -1,12 +1,12 @@
 -- The address of an element, from its index in a register.
-use Rattle.std.proofs.Common.{◌≡◌, ◌≢◌, ℕ, ◌+◌, ◌*◌, ◌^◌, ◌<◌, Bool, true, false, cond, nat_lt, List, [], ◌∷◌, ◌++◌, refl, sym, ap, ap₂, ◌∙◌, arith}
+use Rattle.std.proofs.Common.{◌≡◌, ◌≢◌, ℕ, ◌+◌, ◌*◌, ◌^◌, ◌<◌, Bool, true, false, cond, nat_lt, List, [], ◌∷◌, ◌++◌, refl, ap, ap₂, ◌∙◌, arith}
 use Rattle.rv_code.specs.declared.instructions.Instr.TheVariants as instr
 use Rattle.rv_code.specs.declared.operations.UpperOperation.TheVariants.{Lui}
 use Rattle.rv_code.specs.declared.operations.RegisterOperation.TheVariants.{Add}
 use Rattle.expression_code.proofs.Below.{address_code, address_of, after_append, byte_count, cheaper, element_bytes, Instr, Kind, load_by, load_size, loaded_value, lower_part, lt-ltb, nat_tests, none, only_computes, plain_append, registers_after, scale_code, sign_extended, State, StraightState, sum_of, upper_part, weaken}
 use Rattle.language.specs.declared.signature.Kind.TheVariants.{Boolean, Uint16, Uint32}
 use Rattle.expression_code.proofs.Arithmetic.{upper_fits}
-use Rattle.expression_code.proofs.OperatorCode.{either_of, ll, lr, rl, l0, l32, base_beside, kept_beside}
+use Rattle.expression_code.proofs.OperatorCode.{either_of, ll, lr, rl, l0, l32, low_beside, kept_beside}
 use Rattle.expression_code.proofs.TermLengths.{address_length}
 use Rattle.expression_code.proofs.Frame.{Setting, Runs, HeldAt, Held}
 use Rattle.expression_code.proofs.Homes.{IsFree, ArePair, free_from}
@@ -71,7 +71,7 @@ module _ (z : Setting) (r : ℕ) (free : IsFree r) (apart : r ≢ 28) where
       let i = element_bytes kind * index env in
       let below = fit.2 in
       let is : element_bytes kind * s.regs r ≡ i = ap (λ x. element_bytes kind * x) fit.1 in
-      let base = kept_beside pair scale (scaled kind).0 s.regs 2 (λ e. free.not_base (sym e)) (λ e. omega arith) ∙ fit.0.base in
+      let base = kept_beside pair scale (scaled kind).0 s.regs 2 (λ e. omega (arith, free.low, e)) (λ e. omega arith) ∙ fit.0.base in
       let all : t.regs r ≡ raised near o (sum_of i z.frame) =
       ap (λ (regs : ℕ → ℕ). regs r) (done.registers ∙ after_append scale (sum_code near o) s.regs)
       ∙ ((summed near o).1 (registers_after scale s.regs) ∙ ap₂ (λ x y. raised near o (sum_of x y)) ((scaled kind).1 s.regs (omega (arith, below, is)) ∙ is) base) in
@@ -81,4 +81,4 @@ module _ (z : Setting) (r : ℕ) (free : IsFree r) (apart : r ≢ 28) where
         others = λ q other another. ap (λ (regs : ℕ → ℕ). regs q) done.registers ∙ kept_beside pair (scale ++ sum_code near o) plain s.regs q other another;
         same = done.same;
       })
-      (computing_within z (either_of r 28) (scale ++ sum_code near o) plain (base_beside pair)))
+      (computing_within z (either_of r 28) (scale ++ sum_code near o) plain (low_beside pair)))

@@ -1,6 +1,6 @@
 -- The marks of a path, by what they carry, and the instructions that show their operands: divisions and multiplications.
 use Rattle.std.proofs.Common.{◌≡◌, ◌≢◌, ℕ, ◌-◌, ◌<◌, ◌≤◌, Bool, true, false, nat_lt, nat_le, List, [], ◌∷◌, ◌++◌, Option, Some, None, slice_index, refl, sym, ap, ap₂, ◌∙◌, arith}
-use Rattle.expression_code.proofs.Below.{always, bounded, by_mark, decided, divide_leads, divide_value, divided, DivideOperation, Event, indexed, Instr, IsAt, IsInside, IsInstr, Known, Leads, lt-ltb, ltb-true, Mark, multiplied, multiply_leads, multiply_value, MultiplyOperation, nat_tests, never, Observation, Path, Place, product_shown, Profile, register, stands, State, StraightState, true≢false, turn_ends, with_value, with_value-bytes, with_value-pc, with_value-regs}
+use Rattle.expression_code.proofs.Below.{always, bounded, by_mark, ByteMap, decided, divide_leads, divide_value, divided, DivideOperation, Event, indexed, Instr, IsAt, IsInside, IsInstr, Known, Leads, lt-ltb, ltb-true, Mark, multiplied, multiply_leads, multiply_value, MultiplyOperation, nat_tests, never, Observation, Path, Place, product_shown, Profile, register, stands, State, StraightState, true≢false, turn_ends, with_value, with_value-bytes, with_value-pc, with_value-regs}
 use Rattle.expression_code.proofs.Frame.{Setting, Before, After, Steps, Runs, setting}
 use Rattle.expression_code.proofs.Moves.{register-at, written, unwritten}
 use Rattle.expression_code.proofs.Homes.{ArePair}
@@ -90,6 +90,12 @@ module _ (z : Setting) where
           let one = register-at s.regs l pair.one.nonzero ∙ (operands env s fit).0 in
           let other = register-at s.regs r pair.other.nonzero ∙ (operands env s fit).1 in
           turn_ends _ (shows (left env) (right env)) (with_value s l v) at (leads s (stands z.code p i [] placed ok s at)) (ap₂ shows one other) (inside (left env) (right env))
+          (record {
+            regs = λ q low.
+                ap (λ (regs : ℕ → ℕ). regs q) (with_value-regs s l v)
+                ∙ unwritten s.regs l v q (λ e. omega (arith, pair.one.low, low, e));
+            beside = λ a apart. ap (λ (b : ByteMap). b a) (with_value-bytes s l v);
+          })
           (shown p env s rest fit) (omega (arith, at, placed.1, with_value-pc s l v)) (record {
             there = ap (λ (regs : ℕ → ℕ). regs l) (with_value-regs s l v) ∙ (written s.regs l v pair.one.nonzero ∙ ap₂ made one other);
             others = λ q apart. ap (λ (regs : ℕ → ℕ). regs q) (with_value-regs s l v) ∙ unwritten s.regs l v q apart;

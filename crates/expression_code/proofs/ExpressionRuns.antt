@@ -179,7 +179,6 @@ module _ (z : Setting) (free : ℕ) (aligned : free % 4 ≡ 0) (above : base_of 
       let load = load_by word.kind in
       let bytes = load_bytes word.kind in
       let h = place_ends z x d i known below in
-      let ends = z.ends in
       gives
       (λ env s t fine given done.
       let one = done.first in
@@ -201,7 +200,7 @@ module _ (z : Setting) (free : ℕ) (aligned : free % 4 ≡ 0) (above : base_of 
       })
       (quiet
       (weaken
-      (λ env s fine given. (given.given.0.held, given.given.1 ∙ given.is, omega (arith, h, ends)))
+      (λ env s fine given. (given.given.0.held, given.given.1 ∙ given.is, omega (arith, h, z.ends)))
       (λ env s t fine given done. done)
       (address_runs z r pair.one pair.apart word.kind o (λ env. i)))
       (loading z r (lower_part o) a pair.one.small (lower_fits o) load r pair.one.low pair.one.small (ap (λ n. a % n) bytes ∙ place_even z.declared x d i) (omega (arith, h, bytes)))
@@ -227,7 +226,7 @@ module _ (z : Setting) (free : ℕ) (aligned : free % 4 ≡ 0) (above : base_of 
       (λ env s t fine ready moved.
       let got = took z l o (slice_index (env.variables x) 0) env s t one.nonzero (ap (λ a. number_at s.bytes 4 (z.frame + a)) (sym first) ∙ ready.variables_there x d 0 is (omega arith)) moved in
       record { held = got.held; there = got.there; lower = λ q less small. got.others (5 + q) (lower_apart q place 29 less small (omega arith)); same = got.same })
-      (move_runs z (take l o) (simp (lt-ltb 2 l one.low, lt-ltb l 32 one.small)) (omega arith, omega (arith, below))))
+      (move_runs z (take l o) (simp (lt-ltb 4 l one.low, lt-ltb l 32 one.small)) (omega arith, omega (arith, below))))
       (λ env s t ready done. still_ready place env s t ready done.held done.kept))
   expr_runs (of_prefix {operator = operator} {width = width} {operand = operand} has takes same) place room =
       let l = home place 29 in

@@ -1,9 +1,10 @@
 -- Where code and frame lie: the setting of all pieces of code here. They are run beside a state of straight code, the marks
 -- of a path are those of the inlined program, and all accesses stay inside the frame.
-use Rattle.std.proofs.Common.{◌≡◌, ℕ, zero, suc, ◌+◌, ◌%◌, ◌^◌, ◌<◌, ◌≤◌, Bool, true, false, ◌&&◌, List, [], ◌∷◌, ◌++◌, length, Option, Some, is_some, refl, sym, ap, ap₂, ◌∙◌, arith}
-use Rattle.expression_code.proofs.Below.{AreFine, ByteMap, Code, FlatVariable, Instr, IsInside, joined, Mark, number_at, number_at-suc, number_at-zero, Path, seen-append, State, StraightState, temporaries_offset}
+use Rattle.std.proofs.Common.{◌≡◌, ◌⊎◌, inl, inr, ℕ, zero, suc, ◌+◌, ◌%◌, ◌^◌, ◌<◌, ◌≤◌, Bool, true, false, ◌&&◌, List, [], ◌∷◌, ◌++◌, length, Option, Some, is_some, refl, sym, ap, ap₂, ◌∙◌, arith}
+use Rattle.expression_code.proofs.Below.{AreFine, byte_count, ByteMap, Code, FlatVariable, Instr, IsInside, joined, Mark, number_at, number_at-suc, number_at-zero, Path, seen-append, Size, State, StraightState, temporaries_offset, with_number, with_number_above, with_number_below}
 use Rattle.inline.specs.Path.{seen as seen_of}
 use Rattle.program_logic.proofs.Face as logic
+use Rattle.rv_machine.specs.declared.observation.Event.TheVariants as event
 
 -- where code and frame lie, how the frame is laid out, and how many turns are counted for each counter
 pub record Setting : Type 0 where
@@ -36,11 +37,31 @@ pub fine_right : (counts : List ℕ) (one other : Path) → AreFine counts (one 
 fine_right counts [] other h = h
 fine_right counts (x ∷ one) other h = fine_right counts one other h.1
 
+-- what no code here touches: the registers below x5, and the bytes beside the frame
+pub record Keeps (z : Setting) (s t : State) : Type 0 where
+  pub regs : (r : ℕ) → r < 5 → t.regs r ≡ s.regs r
+  pub beside : (a : ℕ) → (a < z.frame) ⊎ (z.frame + z.size ≤ a) → t.bytes a ≡ s.bytes a
+
+pub keeps_by : (z : Setting) (s t : State) → t.regs ≡ s.regs → t.bytes ≡ s.bytes → Keeps z s t
+keeps_by z s t regs bytes = record {
+  regs = λ r low. ap (λ (f : ℕ → ℕ). f r) regs;
+  beside = λ a apart. ap (λ (b : ByteMap). b a) bytes;
+}
+
+pub keeps_then : (z : Setting) (s t u : State) → Keeps z s t → Keeps z t u → Keeps z s u
+keeps_then z s t u one other = record {
+  regs = λ r low. other.regs r low ∙ one.regs r low;
+  beside = λ a apart. other.beside a apart ∙ one.beside a apart;
+}
+
 abbrev pub setting : Setting → logic.Setting
 setting z = record {
   code = z.code;
   Allows = λ e. IsInside z.frame z.size e;
   silence = tt;
+  Keeps = Keeps z;
+  keeps_still = λ s t still. keeps_by z s t still.regs still.bytes;
+  keeps_then = keeps_then z;
   Beside = StraightState;
   Mark = Mark;
   seen = λ path. seen_of z.code.profile path;
@@ -101,21 +122,39 @@ held_regs z s t base same held = record {
   data_there = λ o below. ap (λ (b : ByteMap). is_some (b (z.frame + o))) same ∙ held.data_there o below;
 }
 
--- Straight-line code that leaves x2, with accesses inside the frame.
-pub frame_runs : (z : Setting) {P : Before} (works : ℕ → Bool) (is : List Instr) (places : List ℕ) → logic.are_straight works is ≡ true → works 2 ≡ false
+-- Straight-line code that writes no register below x5, with accesses inside the frame.
+
+store_beside : (z : Setting) (a : ℕ) → (a < z.frame) ⊎ (z.frame + z.size ≤ a) → (bytes : ByteMap) (size : Size) (at v : ℕ)
+    → IsInside z.frame z.size (Some (event.Store at size)) → with_number bytes (byte_count size) at v a ≡ bytes a
+store_beside z a (inl below) bytes size at v inside =
+    with_number_below bytes (byte_count size) at v a (omega (arith, below, inside))
+store_beside z a (inr above) bytes size at v inside =
+    with_number_above bytes (byte_count size) at v a (omega (arith, above, inside))
+
+pub frame_runs : (z : Setting) {P : Before} (works : ℕ → Bool) (is : List Instr) (places : List ℕ)
+    → logic.are_straight works is ≡ true → ((r : ℕ) → r < 5 → works r ≡ false)
     → logic.AreFit (λ e. IsInside z.frame z.size e) is places
     → ((env : StraightState) (s : State) → P env s → HeldAt z s × logic.AreMet is places (logic.contents_of s))
     → Runs z (length is) logic.none is P (λ env s t. HeldAt z t × logic.Became is places s t)
-frame_runs z works is places plain base fit met =
+frame_runs z works is places plain none_low fit met =
+    let kept : (s t : State) → logic.Became is places s t → Keeps z s t = λ s t became.
+    let c = logic.contents_of s in
+    record {
+      regs = λ r low.
+          ap (λ (regs : ℕ → ℕ). regs r) became.regs ∙ logic.register_kept works is places c r plain (none_low r low);
+      beside = λ a apart.
+          ap (λ (b : ByteMap). b a) became.bytes ∙ logic.byte_kept works _ a (store_beside z a apart) is places c plain fit;
+    } in
     logic.gives
     (λ env s t fine given became.
-    let c = logic.contents_of s in
-    let held = (met env s given).0 in (
+    let held = (met env s given).0 in
+    let there = λ (a : ℕ). logic.data_kept works is places (logic.contents_of s) a plain (met env s given).1 in (
       record {
-        base = ap (λ (regs : ℕ → ℕ). regs 2) became.regs ∙ (logic.register_kept works is places c 2 plain base ∙ held.base);
+        base = (kept s t became).regs 2 (omega arith) ∙ held.base;
         data_there = λ o below.
-            ap (λ (b : ByteMap). is_some (b (z.frame + o))) became.bytes ∙ (logic.data_kept works is places c (z.frame + o) plain (met env s given).1 ∙ held.data_there o below);
+            ap (λ (b : ByteMap). is_some (b (z.frame + o))) became.bytes ∙ (there (z.frame + o) ∙ held.data_there o below);
       },
       became,
     ))
-    (logic.by_symbols works is places plain fit (λ env s given. (met env s given).1))
+    (logic.by_symbols works is places plain fit
+    (λ env s given. (met env s given).1) (λ env s t given became. kept s t became))

@@ -5,12 +5,11 @@ use Rattle.expression_code.proofs.Below.{home, nat_tests, register_count}
 -- a register that code may work on
 pub record IsFree (r : ℕ) : Type 0 where
   pub small : r < 32
-  pub low : 2 < r
+  pub low : 4 < r
   pub nonzero : r ≢ 0
-  pub not_base : r ≢ 2
 
 pub free_from : (r : ℕ) → 4 < r → r < 32 → IsFree r
-free_from r low high = record { small = high; low = omega (arith, low); nonzero = λ e. omega (arith, low, e); not_base = λ e. omega (arith, low, e) }
+free_from r low high = record { small = high; low = omega (arith, low); nonzero = λ e. omega (arith, low, e) }
 
 -- two of them
 pub record ArePair (l r : ℕ) : Type 0 where

@@ -1,9 +1,9 @@
 -- The pieces of emitted code that take words from slots, that put registers into the frame, and that compute in between.
 -- A list of such moves is run on registers and bytes by a function, and the machine on its code does that.
 use Rattle.std.proofs.Common.{◌≡◌, ◌≢◌, ℕ, ◌+◌, ◌*◌, ◌%◌, ◌^◌, ◌<◌, ◌≤◌, ◌==◌, Bool, true, false, not, ◌&&◌, cond, nat_lt, List, [], ◌∷◌, ◌++◌, length, refl, ap, ap₂, ◌∙◌, arith, eq-eqb, ne_eqb}
-use Rattle.expression_code.proofs.Below.{address_of, as_code, both_left, both_right, byte_count, ByteMap, cheaper, computing, Contents, contents_of, fun_ext, gives, idle, Instr, load_code, load_size, loaded_value, LoadOperation, lower_part, lt-ltb, ltb-true, nat_tests, none, number_at, number_or_zero, only_computes, quiet, register, register_left, registers_after, sign_extended, Size, State, store_size, StoreOperation, StraightState, sum_of, Then, upper_part, with_number, with_register, with_result}
+use Rattle.expression_code.proofs.Below.{address_of, all_straight, as_code, both_left, both_right, byte_count, ByteMap, cheaper, Contents, contents_of, fun_ext, gives, idle, Instr, load_code, load_size, loaded_value, LoadOperation, lower_part, lt-ltb, ltb-true, nat_tests, no_access_fit, no_access_met, none, number_at, number_or_zero, only_computes, quiet, register, registers_after, registers_of, sign_extended, Size, State, store_size, StoreOperation, StraightState, sum_of, Then, upper_part, with_number, with_register, with_result}
 use Rattle.expression_code.proofs.Arithmetic.{far_address, near_address, upper_fits}
-use Rattle.expression_code.proofs.Frame.{Setting, Before, After, Steps, Runs, setting, HeldAt, Held, frame_there, held_regs, frame_runs}
+use Rattle.expression_code.proofs.Frame.{Setting, Before, After, Steps, Runs, setting, HeldAt, Held, frame_there, frame_runs}
 use Rattle.rv_code.specs.declared.instructions.Instr.TheVariants as instr
 use Rattle.rv_code.specs.declared.operations.LoadOperation.TheVariants.{Lw}
 use Rattle.rv_code.specs.declared.operations.RegisterOperation.TheVariants.{Add}
@@ -41,9 +41,12 @@ move_code (take r o) = load_code r o
 move_code (put operation r o) = put_code operation r o
 move_code (does is) = is
 
--- registers beyond x2
+-- registers beyond x4
 abbrev pub is_free : ℕ → Bool
-is_free r = nat_lt 2 r
+is_free r = nat_lt 4 r
+
+pub none_low : (r : ℕ) → r < 5 → is_free r ≡ false
+none_low r low = grind (arith, nat_tests)
 
 abbrev pub is_move : Move → Bool
 is_move (take r o) = is_free r && nat_lt r 32
@@ -104,15 +107,19 @@ pub record Computed (z : Setting) (is : List Instr) (env : StraightState) (s t :
   pub registers : t.regs ≡ registers_after is s.regs
   pub same : t.bytes ≡ s.bytes
 
-pub computing_within : (z : Setting) (works : ℕ → Bool) (is : List Instr) → only_computes works is ≡ true → works 2 ≡ false → Runs z (length is) none is (Held z) (Computed z is)
-computing_within z works is plain base =
+pub computing_within : (z : Setting) (works : ℕ → Bool) (is : List Instr) → only_computes works is ≡ true
+    → ((r : ℕ) → r < 5 → works r ≡ false) → Runs z (length is) none is (Held z) (Computed z is)
+computing_within z works is plain low =
     gives
-    (λ env s t fine held done. record {
-      held = held_regs z s t (ap (λ (regs : ℕ → ℕ). regs 2) done.registers ∙ register_left works is s.regs 2 plain base) done.same held;
-      registers = done.registers;
-      same = done.same;
+    (λ env s t fine held done.
+    let c = registers_of works is (contents_of s) plain in
+    record {
+      held = done.0;
+      registers = done.1.regs ∙ ap (λ (d : Contents). d.regs) c;
+      same = done.1.bytes ∙ ap (λ (d : Contents). d.bytes) c;
     })
-    (computing works is plain)
+    (frame_runs z {P = Held z} works is [] (all_straight works is plain) low (no_access_fit works _ is plain)
+    (λ env s held. (held, no_access_met works is (contents_of s) plain)))
 
 even_at : (size : Size) (frame o : ℕ) → frame % 4 ≡ 0 → o % byte_count size ≡ 0 → (frame + o) % byte_count size ≡ 0
 even_at Byte frame o even aligned = omega (arith, even, aligned)
@@ -126,13 +133,13 @@ Addresses z rs offset a env s = HeldAt z s × (address_of s.regs rs offset ≡ z
 -- An access of so many bytes at an address that a register has.
 
 module _ (z : Setting) (rs offset a : ℕ) (rs_small : rs < 32) (offset_small : offset < 4096) where
-  pub loading : (operation : LoadOperation) (rd : ℕ) → 2 < rd → rd < 32 → a % byte_count (load_size operation) ≡ 0 → a + byte_count (load_size operation) ≤ z.size
+  pub loading : (operation : LoadOperation) (rd : ℕ) → 4 < rd → rd < 32 → a % byte_count (load_size operation) ≡ 0 → a + byte_count (load_size operation) ≤ z.size
       → Runs z 1 none (instr.Load operation rd rs offset ∷ []) (Addresses z rs offset a)
       (λ env s t. HeldAt z t × (t.regs ≡ with_register s.regs rd (loaded_value operation (number_or_zero (number_at s.bytes (byte_count (load_size operation)) (z.frame + a))))) × (t.bytes ≡ s.bytes))
   loading operation rd low small even inside =
       gives
       (λ env s t fine given done. (done.0, done.1.regs, done.1.bytes))
-      (frame_runs z {P = Addresses z rs offset a} is_free (instr.Load operation rd rs offset ∷ []) ((z.frame + a) ∷ []) (simp (lt-ltb 2 rd low, lt-ltb rd 32 small, lt-ltb rs 32 rs_small, lt-ltb offset 4096 offset_small)) refl
+      (frame_runs z {P = Addresses z rs offset a} is_free (instr.Load operation rd rs offset ∷ []) ((z.frame + a) ∷ []) (simp (lt-ltb 4 rd low, lt-ltb rd 32 small, lt-ltb rs 32 rs_small, lt-ltb offset 4096 offset_small)) none_low
       (record { even = even_at (load_size operation) z.frame a z.even even; allowed = (omega arith, omega (arith, inside)) }, tt)
       (λ env s given. (given.0, (record { address = given.1; data_there = frame_there z s given.0 (byte_count (load_size operation)) a inside }, tt))))
 
@@ -142,7 +149,7 @@ module _ (z : Setting) (rs offset a : ℕ) (rs_small : rs < 32) (offset_small : 
   storing operation rs2 small even inside =
       gives
       (λ env s t fine given done. (done.0, done.1.regs, done.1.bytes))
-      (frame_runs z {P = Addresses z rs offset a} is_free (instr.Store operation rs2 rs offset ∷ []) ((z.frame + a) ∷ []) (simp (lt-ltb rs2 32 small, lt-ltb rs 32 rs_small, lt-ltb offset 4096 offset_small)) refl
+      (frame_runs z {P = Addresses z rs offset a} is_free (instr.Store operation rs2 rs offset ∷ []) ((z.frame + a) ∷ []) (simp (lt-ltb rs2 32 small, lt-ltb rs 32 rs_small, lt-ltb offset 4096 offset_small)) none_low
       (record { even = even_at (store_size operation) z.frame a z.even even; allowed = (omega arith, omega (arith, inside)) }, tt)
       (λ env s given. (given.0, (record { address = given.1; data_there = frame_there z s given.0 (byte_count (store_size operation)) a inside }, tt))))
 
@@ -156,7 +163,7 @@ slot_code : (access : ℕ → ℕ → Instr) (r o : ℕ) (near : Bool)
 slot_code access r o true = refl
 slot_code access r o false = refl
 
-far_registers : (regs : ℕ → ℕ) (r o frame : ℕ) → 2 < r → regs 2 ≡ frame → registers_after (far_code r o) regs ≡ with_register regs r (sum_of (upper_part o * 2 ^ 12) frame)
+far_registers : (regs : ℕ → ℕ) (r o frame : ℕ) → 4 < r → regs 2 ≡ frame → registers_after (far_code r o) regs ≡ with_register regs r (sum_of (upper_part o * 2 ^ 12) frame)
 far_registers regs r o frame low base = fun_ext (λ q. grind (arith, nat_tests))
 
 near_or_far : (regs : ℕ → ℕ) (r v : ℕ) (near : Bool) → cond near regs (with_register regs r v) ≡ with_register regs r (cond near (regs r) v)
@@ -165,11 +172,11 @@ near_or_far regs r v near = fun_ext (λ q. grind (arith, nat_tests))
 anew : (regs : ℕ → ℕ) (r u v : ℕ) (near : Bool) → with_register (cond near regs (with_register regs r u)) r v ≡ with_register regs r v
 anew regs r u v near = fun_ext (λ q. grind (arith, nat_tests))
 
-source : (regs : ℕ → ℕ) (r v : ℕ) (near : Bool) → 2 < r → r ≢ 28 → register (cond near regs (with_register regs 28 v)) r ≡ regs r
+source : (regs : ℕ → ℕ) (r v : ℕ) (near : Bool) → 4 < r → r ≢ 28 → register (cond near regs (with_register regs 28 v)) r ≡ regs r
 source regs r v near low other = grind (arith, nat_tests)
 
 module _ (z : Setting) where
-  reached : (r o : ℕ) → 2 < r → r < 32 → o < z.size → (near : Bool) → nat_lt o 2048 ≡ near
+  reached : (r o : ℕ) → 4 < r → r < 32 → o < z.size → (near : Bool) → nat_lt o 2048 ≡ near
       → Runs z 2 none (cond near [] (far_code r o)) (Held z)
       (λ env s t. Addresses z (cond near 2 r) (cond near o (lower_part o)) o env t × (t.regs ≡ cond near s.regs (with_register s.regs r (sum_of (upper_part o * 2 ^ 12) z.frame))) × (t.bytes ≡ s.bytes))
   reached r o low small inside true h =
@@ -184,12 +191,12 @@ module _ (z : Setting) where
         regs,
         done.same,
       ))
-      (computing_within z is_free (far_code r o) (simp (lt-ltb 2 r low, lt-ltb r 32 small, lt-ltb (upper_part o) 1048576 (upper_fits o))) refl)
+      (computing_within z is_free (far_code r o) (simp (lt-ltb 4 r low, lt-ltb r 32 small, lt-ltb (upper_part o) 1048576 (upper_fits o))) none_low)
 
   -- one move
   pub move_runs : (m : Move) → is_move m ≡ true → IsSlot z m → Runs z (move_cost m) none (move_code m) (Held z) (Moved z (m ∷ []))
   move_runs (take r o) ok slot =
-      let low : 2 < r = grind (arith, nat_tests, ok) in
+      let low : 4 < r = grind (arith, nat_tests, ok) in
       let small : r < 32 = grind (arith, nat_tests, ok) in
       let near = nat_lt o 2048 in
       as_code (slot_code (λ rs offset. instr.Load Lw r rs offset) r o near)
@@ -206,7 +213,7 @@ module _ (z : Setting) where
       (loading z (cond near 2 r) (cond near o (lower_part o)) o (grind (arith, nat_tests)) (grind (arith, nat_tests)) Lw r low small slot.0 slot.1)
       (λ env s t held done. done.0)))
   move_runs (put operation r o) ok slot =
-      let low : 2 < r = grind (arith, nat_tests, ok) in
+      let low : 4 < r = grind (arith, nat_tests, ok) in
       let small : r < 32 = grind (arith, nat_tests, ok) in
       let other : r ≢ 28 = λ e. absurd (grind (arith, nat_tests, ok, e)) in
       let near = nat_lt o 2048 in
@@ -224,7 +231,7 @@ module _ (z : Setting) where
       (reached 28 o (omega arith) (omega arith) (omega (arith, slot.1)) near refl)
       (storing z (cond near 2 28) (cond near o (lower_part o)) o (grind (arith, nat_tests)) (grind (arith, nat_tests)) operation r small slot.0 slot.1)
       (λ env s t held done. done.0)))
-  move_runs (does is) ok slot = gives (λ env s t fine held done. record { held = done.held; regs = done.registers; bytes = done.same }) (computing_within z is_free is ok refl)
+  move_runs (does is) ok slot = gives (λ env s t fine held done. record { held = done.held; regs = done.registers; bytes = done.same }) (computing_within z is_free is ok none_low)
 
   one_more : (m : Move) (ms : List Move) (env : StraightState) (s u t : State) → Moved z (m ∷ []) env s u → Moved z ms env u t → Moved z (m ∷ ms) env s t
   one_more m ms env s u t one more =

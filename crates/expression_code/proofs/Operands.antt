@@ -10,7 +10,7 @@ use Rattle.expression_code.proofs.Events.{Moves, multiplying, dividing}
 use Rattle.expression_code.proofs.Frame.{Setting, Steps, Before, Runs, HeldAt, held_regs}
 use Rattle.expression_code.proofs.Homes.{IsBeside, next_beside, lower_apart}
 use Rattle.expression_code.proofs.Moves.{take, put, Moved, move_runs, written, unwritten, computing_within}
-use Rattle.expression_code.proofs.OperatorCode.{either_of, is_plain, base_beside, kept_beside, cut_plain, operator_plain, operator_made, product_made}
+use Rattle.expression_code.proofs.OperatorCode.{either_of, is_plain, low_beside, kept_beside, cut_plain, operator_plain, operator_made, product_made}
 use Rattle.expression_code.proofs.TermLengths.{cut_length, operator_length}
 use Rattle.expression_code.proofs.Values.{Kept, Lower, Holds, HoldsBy, kept_by, Wrote, wrote_kept, wrote_there}
 
@@ -48,7 +48,7 @@ module _ (z : Setting) (free : ℕ) (aligned : free % 4 ≡ 0) (place : ℕ) (ro
         weaken
         (λ env s fine given. given.0)
         (λ env s t fine given moved. took z spare (slot_of free place) (v env) env s t (λ e. omega (arith, low, e)) given.1 moved)
-        (move_runs z (take spare (slot_of free place)) (simp (lt-ltb 2 spare (omega (arith, low)), lt-ltb spare 32 high)) (omega (arith, aligned), omega (arith, room, ltb-false _ _ h)))
+        (move_runs z (take spare (slot_of free place)) (simp (lt-ltb 4 spare (omega (arith, low)), lt-ltb spare 32 high)) (omega (arith, aligned), omega (arith, room, ltb-false _ _ h)))
 
     pub fetch_runs : Runs z 3 none (fetch_code free place spare) (λ env s. HeldAt z s × Holds z free place s (v env)) (λ env s t. Fetched z (home place spare) spare (v env) s t)
     fetch_runs = fetch_by (nat_lt place register_count) refl
@@ -87,7 +87,7 @@ module _ (z : Setting) (place : ℕ) where
             ∙ kept_beside b.pair is plain s.regs (5 + q) (lower_apart q place 29 less small (omega arith)) (b.none_lower q less small);
         same = done.same;
       })
-      (computing_within z (either_of (home place 29) _) is plain (base_beside b.pair))
+      (computing_within z (either_of (home place 29) _) is plain (low_beside b.pair))
 
   -- An operator between two operands, in the homes of a place and of the next.
 
@@ -136,7 +136,7 @@ module _ (z : Setting) (place : ℕ) where
         (quiet
         (weaken (λ env s fine given. (given.left, given.right)) (λ env s t fine given moves. moves) one)
         (worked {P = λ env s. HeldAt z s × (registers_after rest s.regs l ≡ w env)} (next_beside place) rest plain w (λ env s given. given))
-        (λ env s t given moves. (held_regs z s t (moves.others 2 (λ e. pair.one.not_base (sym e))) moves.same given.held, value env t.regs given.left_fits given.right_fits moves.there)))
+        (λ env s t given moves. (held_regs z s t (moves.others 2 (λ e. omega (arith, pair.one.low, e))) moves.same given.held, value env t.regs given.left_fits given.right_fits moves.there)))
 
     divided_by : (n : ℕ) (some : 0 < n) (x y : ℕ) → cond (n == 0) x y ≡ y
     divided_by n some x y = rw (ne_eqb n 0 (λ e. omega (arith, some, e)))

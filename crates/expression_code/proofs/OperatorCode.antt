@@ -108,9 +108,12 @@ module _ {l r : ℕ} (pair : ArePair l r) where
   r32 : nat_lt r 32 ≡ true
   r32 = lt-ltb r 32 pair.other.small
 
-  -- any other register is as it was
-  pub base_beside : either_of l r 2 ≡ false
-  base_beside = simp (ne_eqb 2 l (λ e. pair.one.not_base (sym e)), ne_eqb 2 r (λ e. pair.other.not_base (sym e)))
+  -- neither is below x5, and any other register is as it was
+  pub low_beside : (q : ℕ) → q < 5 → either_of l r q ≡ false
+  low_beside q below =
+      let not_l = ne_eqb q l (λ e. omega (arith, pair.one.low, below, e)) in
+      let not_r = ne_eqb q r (λ e. omega (arith, pair.other.low, below, e)) in
+      simp (not_l, not_r)
 
   pub kept_beside : (is : List Instr) → only_computes (either_of l r) is ≡ true → (regs : ℕ → ℕ) (q : ℕ) → q ≢ l → q ≢ r → registers_after is regs q ≡ regs q
   kept_beside is plain regs q first second = register_left (either_of l r) is regs q plain (simp (ne_eqb q l first, ne_eqb q r second))
@@ -134,13 +137,7 @@ module _ {l r : ℕ} (pair : ArePair l r) where
   operator_plain Multiply w plain = absurd (false≢true plain)
   operator_plain Divide w plain = absurd (false≢true plain)
   operator_plain Remainder w plain = absurd (false≢true plain)
-  operator_plain Either w plain = simp (ll, rl, rr, l32, r32)
-  operator_plain Both w plain = simp (ll, rl, rr, l32, r32)
-  operator_plain ShiftLeft w plain = simp (ll, l32, r32, cut_plain w)
-  operator_plain ShiftRight w plain = simp (ll, l32, r32, cut_plain w)
-  operator_plain Add w plain = simp (ll, l32, r32, cut_plain w)
-  operator_plain Subtract w plain = simp (ll, l32, r32, cut_plain w)
-  operator_plain operator w plain = simp (ll, l32, r32)
+  operator_plain operator w plain = simp (ll, rl, rr, l32, r32, cut_plain w)
 
   pub operator_made : (operator : BinaryOperator) (w : Width) → is_plain (row_of operator).step ≡ true → (regs : ℕ → ℕ) → regs l < 2 ^ 32 → regs r < 2 ^ 32
       → registers_after (operator_code l r operator w) regs l ≡ operated operator w (regs l) (regs r)

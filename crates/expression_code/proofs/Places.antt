@@ -1,15 +1,12 @@
 -- Where variables and their elements lie: no two of them overlap, and the offsets that are listed are those that are defined.
-use Rattle.std.proofs.Common.{◌≡◌, ℕ, zero, suc, ◌+◌, ◌*◌, ◌/◌, ◌%◌, ◌<◌, ◌≤◌, ◌==◌, ◌⊎◌, inl, inr, Bool, true, false, nat_lt, List, [], ◌∷◌, ◌++◌, length, map, get_or, take, drop, Option, Some, None, slice_get, refl, sym, ap, ◌∙◌, arith, add-one, append_assoc}
-use Rattle.std.proofs.Math.Seq.{drop-cons, take-length}
-use Rattle.std.proofs.lemmas.Bool.Decides.{nat_tests}
-use Rattle.std.proofs.lemmas.Nat.{mul-le}
+use Rattle.std.proofs.Common.{◌≡◌, ℕ, zero, suc, ◌+◌, ◌*◌, ◌/◌, ◌%◌, ◌<◌, ◌≤◌, ◌==◌, ◌⊎◌, ⊎_elim, inl, inr, false, List, [], ◌∷◌, length, get_or, take, Option, Some, None, slice_get, refl, sym, ap, ◌∙◌, arith}
+use Rattle.std.proofs.Math.Seq.{take-length}
+use Rattle.expression_code.proofs.Below.{nat_tests, cases_lt, mul-le, variable_offset, result_offset, offsets_from, kind_at}
+use Rattle.expression_code.proofs.Below.{Boolean}
 use Rattle.std.proofs.lemmas.Option.{same_Some, slice_get_within, slice_get-get_or}
 pub use Rattle.expression_code.specs.Layout.{bytes_by, bytes_of, place_of}
-use Rattle.expression_code.specs.Layout.{variable_offset, result_offset, offsets_from, slots_from}
-use Rattle.expression_code.specs.TermCode.{kind_at}
-use Rattle.expression_code.proofs.Below.{declaration_of, declared_words, element_bytes, elements_by, FlatVariable, Form, held_words, Kind, Label, numbers_in, Param, Slot, words_by, words_of, WordType}
+use Rattle.expression_code.proofs.Below.{declaration_of, declared_words, element_bytes, elements_by, FlatVariable, Form, held_words, Kind, Label, numbers_in, Param, words_by, words_of, WordType}
 use Rattle.language.specs.declared.signature.Form.TheVariants.{SingleWord}
-use Rattle.language.specs.declared.signature.Kind.TheVariants.{Boolean}
 
 -- A variable's numbers lie in its words.
 
@@ -48,12 +45,9 @@ ends_before_result declared x d is =
     omega (arith, h, ap declared_words (take-length declared))
 
 -- of two numbers that differ one is less
-apart : (x y : ℕ) (P : Type 0) → (y == x) ≡ false → (y < x → P) → (x < y → P) → P
-apart x y P other one more = by_order (nat_lt y x) refl
-  where
-    by_order : (b : Bool) → nat_lt y x ≡ b → P
-    by_order true o = one (grind (arith, nat_tests))
-    by_order false o = more (grind (arith, nat_tests))
+pub apart : (x y : ℕ) (P : Type 0) → (y == x) ≡ false → (y < x → P) → (x < y → P) → P
+apart x y P other one more =
+    ⊎_elim one (λ (least : x ≤ y). more (grind (arith, nat_tests, other, least))) (cases_lt y x)
 
 -- a number of another variable lies before all of a variable's words, or behind them
 pub apart_from : (declared : List FlatVariable) (x y : ℕ) (d e : FlatVariable) (j : ℕ) → slice_get declared x ≡ Some d → slice_get declared y ≡ Some e → j < numbers_in e.elements → (y == x) ≡ false
@@ -106,24 +100,3 @@ words_held form kind label n = refl
 
 pub parameter_words : (p : Param) → held_words p.form p.kind p.length ≡ words_of (declaration_of p)
 parameter_words p = words_held p.form p.kind p.label p.length
-
--- what is pushed is the first of what is left
-pub slots_more : (low w : ℕ) (ps : List Param) (k : ℕ) (e : Param) (done : List Slot) (all : List Slot) → k < length ps
-    → w ≡ held_words (get_or ps k e).form (get_or ps k e).kind (get_or ps k e).length
-    → done ++ slots_from low (drop k ps) ≡ all
-    → (done ++ record { param = get_or ps k e; offset = low } ∷ []) ++ slots_from (low + 4 * w) (drop (k + 1) ps) ≡ all
-slots_more low w ps k e done all below is so =
-    let pushed : Slot = record { param = get_or ps k e; offset = low } in
-    append_assoc done (pushed ∷ []) (slots_from (low + 4 * w) (drop (k + 1) ps))
-    ∙ (ap (λ n. done ++ pushed ∷ slots_from (low + 4 * n) (drop (k + 1) ps)) (is ∙ parameter_words (get_or ps k e))
-    ∙ (ap (λ n. done ++ pushed ∷ slots_from (low + 4 * words_of (declaration_of (get_or ps k e))) (drop n ps)) (add-one k)
-    ∙ (ap (λ (rest : List Param). done ++ slots_from low rest) (sym (drop-cons ps k e below)) ∙ so)))
-
-pub low_more : (low w : ℕ) (ps : List Param) (k : ℕ) (e : Param) → k < length ps
-    → w ≡ held_words (get_or ps k e).form (get_or ps k e).kind (get_or ps k e).length
-    → low + 4 * declared_words (map declaration_of (drop k ps)) ≤ 65536
-    → low + 4 * w + 4 * declared_words (map declaration_of (drop (k + 1) ps)) ≤ 65536
-low_more low w ps k e below is so =
-    let next = ap (λ (rest : List Param). declared_words (map declaration_of rest)) (drop-cons ps k e below) in
-    let same = is ∙ parameter_words (get_or ps k e) in
-    rw add-one (omega (arith, so, next, same))

@@ -1,7 +1,7 @@
 -- What is known of a term: how many temporaries it has at once, how many instructions it is, and which variables it names.
 use Rattle.std.proofs.Common.{◌≡◌, ℕ, ◌+◌, ◌*◌, ◌%◌, ◌<◌, ◌≤◌, ◌==◌, Bool, true, false, cond, nat_lt, List, length, Some, arith, length-append}
 use Rattle.std.proofs.lemmas.Option.{slice_get_within}
-use Rattle.expression_code.proofs.Below.{address_code, around_code, binary, BinaryOperator, bits, constant_code, convert, cut_code, element, expr_code, fetch_code, Finish, finish_code, FlatVariable, HasType, height_of, Instr, IsAmong, keep_code, Kind, load_code, narrowed, number, of_binary, of_conversion, of_element, of_number, of_prefix, of_rotation, of_selection, of_truth, of_variable, operator_code, prefix, prefix_code, PrefixOperator, Profile, raise_code, register_count, rotate, rotate_code, row_of, scale_code, select, slot_of, step_code, store_code, term_nodes, TermTree, truth, Types, types_of, variable, Width, WordType}
+use Rattle.expression_code.proofs.Below.{address_code, around_code, binary, BinaryOperator, bits, constant_code, convert, cut_code, element, expr_code, fetch_code, Finish, finish_code, FlatVariable, HasType, height_of, Instr, IsAmong, keep_code, Kind, load_code, narrowed, of_binary, of_conversion, of_element, of_number, of_prefix, of_rotation, of_selection, of_truth, of_variable, operator_code, prefix, prefix_code, PrefixOperator, Profile, raise_code, register_count, rotate, rotate_code, row_of, scale_code, select, slot_of, step_code, store_code, term_nodes, TermTree, Types, types_of, Width, WordType}
 use Rattle.language.specs.declared.signature.Kind.TheVariants.{Boolean}
 use Rattle.language.specs.declared.tree.PrefixOperator.TheVariants as prefixes
 use Rattle.word.specs.declared.width.Width.TheVariants.{W8}
@@ -86,9 +86,6 @@ address_length r kind o =
 
 -- at most 16 instructions a node
 pub expr_length : (declared : List FlatVariable) (free place : ℕ) (e : TermTree) → length (expr_code declared free place e) ≤ 16 * term_nodes e
-expr_length declared free place (number value kind) = omega (arith, length-append {A = Instr}, constant_length, keep_length)
-expr_length declared free place (truth value) = omega (arith, length-append {A = Instr}, constant_length, keep_length)
-expr_length declared free place (variable x) = omega (arith, length-append {A = Instr}, load_length, keep_length)
 expr_length declared free place (prefix operator width operand) =
     omega (arith, length-append {A = Instr}, expr_length declared free place operand, fetch_length, prefix_length, keep_length)
 expr_length declared free place (binary source operator width one other) =
@@ -101,3 +98,4 @@ expr_length declared free place (select condition accepted otherwise) =
     omega (arith, length-append {A = Instr}, expr_length declared free place condition, expr_length declared free (place + 1) accepted, expr_length declared free (place + 2) otherwise, fetch_length, keep_length)
 expr_length declared free place (element source x size index) =
     omega (arith, length-append {A = Instr}, expr_length declared free place index, fetch_length, address_length, keep_length)
+expr_length declared free place e = omega (arith, length-append {A = Instr}, constant_length, load_length, keep_length)

@@ -145,6 +145,13 @@ pub fn offsets(alloc: Global, declared: &[FlatVariable]) -> Result<Vec<u32>, All
     Ok(offsets)
 }
 
+/// How many words the variable of a parameter takes.
+fn parameter_words(parameter: Param) -> u32
+    ensures { result ≡ words_of (declaration_of parameter) }
+{
+    parameter.words()
+}
+
 /// The parameters with their slots, whose offsets these are.
 pub fn slots(alloc: Global, parameters: &[Param]) -> Result<Vec<Slot>, AllocError>
     requires { 4 * declared_words (map declaration_of parameters.now) ≤ 65536 }
@@ -157,7 +164,7 @@ pub fn slots(alloc: Global, parameters: &[Param]) -> Result<Vec<Slot>, AllocErro
             param: *parameter,
             offset: low,
         })?;
-        low += WORD_BYTES * parameter.words();
+        low += WORD_BYTES * parameter_words(*parameter);
     }
     Ok(slots)
 }

@@ -1,6 +1,7 @@
 ghost use Rattle.std.specs.Prelude.{◌≡◌};
 ghost use Rattle.image.specs.RuleNames.{code_of, name_of};
 
+use std::alloc::AllocError;
 use std::error::Error;
 use std::fmt;
 
@@ -71,6 +72,16 @@ pub enum ImageFault {
     Field { rule: ImageRule, offset: usize },
     /// A growth was refused.
     Memory,
+}
+
+impl From<AllocError> for ImageFault {
+    ghost use Rattle.image.specs.declared.fault.ImageFault.TheVariants.{Memory};
+
+    ghost from_gives = { λ _ fault. fault ≡ Memory };
+
+    fn from(_: AllocError) -> Self {
+        ImageFault::Memory
+    }
 }
 
 /// `B4 at byte 31: truncated`, or `M1: memory`.

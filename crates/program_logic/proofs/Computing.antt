@@ -1,17 +1,13 @@
 -- Code that only computes: straight-line code without accesses. What it makes of the registers is a function of them.
-use Rattle.std.proofs.Common.{◌≡◌, ℕ, ◌+◌, ◌*◌, ◌^◌, Bool, true, false, ◌&&◌, cond, nat_lt, List, [], ◌∷◌, ◌++◌, length, Option, None, refl, sym, ap, ap₂, ◌∙◌, subst}
+use Rattle.std.proofs.Common.{◌≡◌, ℕ, ◌*◌, ◌^◌, Bool, true, false, ◌&&◌, cond, List, [], ◌∷◌, ◌++◌, Option, None, refl, sym, ap, ap₂, ◌∙◌, subst}
 use Rattle.std.proofs.lemmas.Bool.{false≢true}
-use Rattle.program_logic.proofs.Pieces.{gives}
 use Rattle.program_logic.proofs.StraightRuns.{both_left, both_right}
-use Rattle.program_logic.proofs.Symbols.{by_symbols, register_kept}
-use Rattle.program_logic.specs.Pieces.{Setting, Before, none, Runs}
-use Rattle.program_logic.specs.StraightCode.{Contents, contents_of, is_straight, are_straight, left_by, after, after_all, fit_and, AreFit, met_and, AreMet}
+use Rattle.program_logic.proofs.Symbols.{register_kept}
+use Rattle.program_logic.specs.StraightCode.{Contents, is_straight, are_straight, left_by, after, after_all, fit_and, AreFit, met_and, AreMet}
 use Rattle.rv_code.specs.declared.instructions.Instr.{Instr}
 use Rattle.rv_code.specs.declared.instructions.Instr.TheVariants.{Upper, Immediate, Shift, Register, Load, Store}
 use Rattle.rv_code.specs.declared.operations.UpperOperation.TheVariants.{Lui}
-use Rattle.rv_machine.specs.Bytes.{ByteMap}
 use Rattle.rv_machine.specs.Effects.{sign_extended, immediate_value, shift_value, register_value}
-use Rattle.rv_machine.specs.Machine.{State}
 use Rattle.rv_machine.specs.Registers.{register, with_register}
 use Rattle.rv_machine.specs.declared.observation.Event.{Event}
 
@@ -54,7 +50,7 @@ computing_straight works (Load operation rd rs1 offset) h = absurd (false≢true
 computing_straight works (Store operation rs2 rs1 offset) h = absurd (false≢true h)
 computing_straight works i h = h
 
-all_straight : (works : ℕ → Bool) (is : List Instr) → only_computes works is ≡ true → are_straight works is ≡ true
+pub all_straight : (works : ℕ → Bool) (is : List Instr) → only_computes works is ≡ true → are_straight works is ≡ true
 all_straight works [] h = refl
 all_straight works (i ∷ is) h =
     ap₂ (λ a b. a && b) (computing_straight works i (both_left (computes works i) (only_computes works is) h)) (all_straight works is (both_right (computes works i) (only_computes works is) h))
@@ -91,33 +87,19 @@ module _ (works : ℕ → Bool) where
       ap₂ (λ (places : List ℕ) (d : Contents). after_all is places d) (unread i ok) (after_one i c ok)
       ∙ registers_of is (record { regs = with_register c.regs (written_register i) (computed_value i c.regs); bytes = c.bytes }) (both_right (computes works i) (only_computes works is) h)
 
-  no_access_fit : (Allows : Option Event → Type 0) (is : List Instr) → only_computes works is ≡ true → AreFit Allows is []
+  pub no_access_fit : (Allows : Option Event → Type 0) (is : List Instr) → only_computes works is ≡ true → AreFit Allows is []
   no_access_fit Allows [] h = tt
   no_access_fit Allows (i ∷ is) h =
       let ok = both_left (computes works i) (only_computes works is) h in
       fit_one Allows i (AreFit Allows is (left_by i [])) ok
       (subst (λ (places : List ℕ). AreFit Allows is places) (sym (unread i ok)) (no_access_fit Allows is (both_right (computes works i) (only_computes works is) h)))
 
-  no_access_met : (is : List Instr) (c : Contents) → only_computes works is ≡ true → AreMet is [] c
+  pub no_access_met : (is : List Instr) (c : Contents) → only_computes works is ≡ true → AreMet is [] c
   no_access_met [] c h = tt
   no_access_met (i ∷ is) c h =
       let ok = both_left (computes works i) (only_computes works is) h in
       met_one i c (AreMet is (left_by i []) (after i 0 c)) ok
       (subst (λ (places : List ℕ). AreMet is places (after i 0 c)) (sym (unread i ok)) (no_access_met is (after i 0 c) (both_right (computes works i) (only_computes works is) h)))
-
--- the registers are those after the instructions, and nothing else has changed
-pub record Computed (is : List Instr) (s t : State) : Type 0 where
-  pub registers : t.regs ≡ registers_after is s.regs
-  pub same : t.bytes ≡ s.bytes
-
-pub computing : {z : Setting} {P : Before z} (works : ℕ → Bool) (is : List Instr) → only_computes works is ≡ true → Runs z (length is) none is P (λ env s t. Computed is s t)
-computing works is h =
-    gives
-    (λ env s t fine fit done. record {
-      registers = done.regs ∙ ap (λ (c : Contents). c.regs) (registers_of works is (contents_of s) h);
-      same = done.bytes ∙ ap (λ (c : Contents). c.bytes) (registers_of works is (contents_of s) h);
-    })
-    (by_symbols works is [] (all_straight works is h) (no_access_fit works _ is h) (λ env s fit. no_access_met works is (contents_of s) h))
 
 -- a register that none of them may write is as it was
 pub register_left : (works : ℕ → Bool) (is : List Instr) (regs : ℕ → ℕ) (q : ℕ) → only_computes works is ≡ true → works q ≡ false → registers_after is regs q ≡ regs q

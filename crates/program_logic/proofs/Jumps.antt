@@ -53,18 +53,23 @@ record Between (z : Setting) (Q : After z) (env : z.Beside) (s u : State) : Type
   still : Still s start
   done : Q env start u
 
+-- what a branch makes of a state
+pub moved_still : (s : State) (target : ℕ) → Still s (moved_to s target)
+moved_still s target = record { regs = moved_to-regs s target; bytes = moved_to-bytes s target }
+
 module _ {z : Setting} where
   jump_ends : (p halves target : ℕ) (rest : List z.Mark) → Placed z.code p (instr.Jump 0 halves ∷ []) → halves < 2 ^ 20 → jump_target p halves ≡ target → target % 4 ≡ 0
       → (s : State) → s.pc ≡ p → Ends z 1 target (always (shown_at p)) rest rest (λ t. Still s t) s
   jump_ends p halves target rest placed small to even s at =
       let there : jump_target s.pc halves ≡ target = ap (λ q. jump_target q halves) at ∙ to in
-      turn_ends None None (with_link s 0 (jump_target s.pc halves)) at
-      (jump_leads z.code s 0 halves (stands z.code p _ [] placed (omega arith, small) s at) (ap (λ q. q % 4) there ∙ even)) refl z.silence refl
-      (with_link-pc s 0 (jump_target s.pc halves) ∙ there)
-      (record {
+      let t = with_link s 0 (jump_target s.pc halves) in
+      let still : Still s t = record {
         regs = with_link-regs s 0 (jump_target s.pc halves) ∙ dropped s.regs (next s);
         bytes = with_link-bytes s 0 (jump_target s.pc halves);
-      })
+      } in
+      turn_ends None None t at
+      (jump_leads z.code s 0 halves (stands z.code p _ [] placed (omega arith, small) s at) (ap (λ q. q % 4) there ∙ even)) refl z.silence (z.keeps_still s t still) refl
+      (with_link-pc s 0 (jump_target s.pc halves) ∙ there) still
 
   -- over so many instructions
   pub over_ends : (p n : ℕ) (rest : List z.Mark) → Placed z.code p (over n ∷ []) → 2 * n + 2 < 2 ^ 19 → p + 4 + 4 * n < 2 ^ 32
@@ -90,9 +95,8 @@ module _ {z : Setting} where
         let to : branch_target p 4 ≡ p + 8 = omega (arith, below) in
         let there : branch_target s.pc 4 ≡ p + 8 = ap (λ q. branch_target q 4) at ∙ to in
         turn_ends None None (moved_to s (branch_target s.pc 4)) at
-        (branch_leads z.code s Bne r 0 4 (stands z.code p _ [] placed (small, omega arith, omega arith) s at) (some_in s.regs r nonzero some) (multiple _ p there even)) refl z.silence refl
-        (moved_to-pc s (branch_target s.pc 4) ∙ there)
-        (record { regs = moved_to-regs s (branch_target s.pc 4); bytes = moved_to-bytes s (branch_target s.pc 4) })
+        (branch_leads z.code s Bne r 0 4 (stands z.code p _ [] placed (small, omega arith, omega arith) s at) (some_in s.regs r nonzero some) (multiple _ p there even)) refl z.silence (z.keeps_still s _ (moved_still s _)) refl
+        (moved_to-pc s (branch_target s.pc 4) ∙ there) (moved_still s _)
 
     -- the register is 0
     pub pass_ends : (p : ℕ) (rest : List z.Mark) → Placed z.code p (skip r ∷ []) → (s : State) → s.pc ≡ p → s.regs r ≡ 0
@@ -101,9 +105,8 @@ module _ {z : Setting} where
         let below = placed.1 in
         let to : next s ≡ p + 4 = omega (arith, at, below) in
         turn_ends None None (moved_to s (next s)) at
-        (branch_passes z.code s Bne r 0 4 (stands z.code p _ [] placed (small, omega arith, omega arith) s at) (none_in s.regs r nonzero zero')) refl z.silence refl
-        (moved_to-pc s (next s) ∙ to)
-        (record { regs = moved_to-regs s (next s); bytes = moved_to-bytes s (next s) })
+        (branch_passes z.code s Bne r 0 4 (stands z.code p _ [] placed (small, omega arith, omega arith) s at) (none_in s.regs r nonzero zero')) refl z.silence (z.keeps_still s _ (moved_still s _)) refl
+        (moved_to-pc s (next s) ∙ to) (moved_still s _)
 
     -- Of two pieces one.
 

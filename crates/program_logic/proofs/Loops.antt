@@ -2,7 +2,7 @@
 -- is for, and of the states at the loop's begin and now, beside what the piece is run beside now.
 use Rattle.std.proofs.Common.{◌≡◌, ◌≢◌, ℕ, zero, suc, ◌+◌, ◌-◌, ◌*◌, ◌^◌, ◌<◌, ◌≤◌, ◌==◌, true, false, not, List, [], ◌∷◌, ◌++◌, length, None, refl, sym, ap, ◌∙◌, arith, length-append, append-nil, eq-eqb, ne_eqb}
 use Rattle.std.proofs.lemmas.Bool.Decides.{nat_tests}
-use Rattle.program_logic.proofs.Jumps.{shown_at, over_ends, back_ends, skip_ends, pass_ends}
+use Rattle.program_logic.proofs.Jumps.{shown_at, moved_still, over_ends, back_ends, skip_ends, pass_ends}
 use Rattle.program_logic.proofs.Pieces.{seen_then, seen_nothing, turn_ends, then_ends, ends_as, ends_to, ends_on}
 use Rattle.program_logic.proofs.PlacedLaws.{Placed-left, Placed-right, stands}
 use Rattle.program_logic.specs.Jumps.{skip, over, back, loop_code, again_code}
@@ -11,7 +11,7 @@ use Rattle.program_logic.specs.Placed.{Placed}
 use Rattle.rv_code.specs.declared.instructions.Instr.{Instr}
 use Rattle.rv_code.specs.declared.instructions.Instr.TheVariants as instr
 use Rattle.rv_code.specs.declared.operations.BranchTest.TheVariants.{Bne}
-use Rattle.program_logic.proofs.Below.{moved_to-pc, moved_to-regs, moved_to-bytes, branch_leads, branch_passes}
+use Rattle.program_logic.proofs.Below.{moved_to-pc, branch_leads, branch_passes}
 use Rattle.rv_machine.specs.Effects.{branch_target, sign_extended, sum_of}
 use Rattle.rv_machine.specs.Machine.{State, moved_to, next}
 use Rattle.rv_machine.specs.Registers.{register}
@@ -178,9 +178,8 @@ module _ {z : Setting} (r q : ℕ) (small : r < 32) (small' : q < 32) {n : ℕ} 
         ap (λ x. branch_target x (2 ^ 12 - 2 * length body)) at ∙ (back_target branch_at (length body) some near (omega arith) (omega (arith, below)) ∙ omega arith) in
         let taken : not (register s.regs r == register s.regs q) ≡ true = ap not (ne_eqb (register s.regs r) (register s.regs q) differ) in
         turn_ends None None (moved_to s (branch_target s.pc (2 ^ 12 - 2 * length body))) at
-        (branch_leads z.code s Bne r q (2 ^ 12 - 2 * length body) (stands z.code branch_at _ [] from_branch (small, small', omega (arith, some)) s at) taken (omega (arith, target, even))) refl z.silence refl
-        (moved_to-pc s (branch_target s.pc (2 ^ 12 - 2 * length body)) ∙ target)
-        (record { regs = moved_to-regs s _; bytes = moved_to-bytes s _ })
+        (branch_leads z.code s Bne r q (2 ^ 12 - 2 * length body) (stands z.code branch_at _ [] from_branch (small, small', omega (arith, some)) s at) taken (omega (arith, target, even))) refl z.silence (z.keeps_still s _ (moved_still s _)) refl
+        (moved_to-pc s (branch_target s.pc (2 ^ 12 - 2 * length body)) ∙ target) (moved_still s _)
 
     -- or on to what follows
     falls_ends : (rest : List z.Mark) (s : State) → s.pc ≡ branch_at → register s.regs r ≡ register s.regs q → Ends z 1 (branch_at + 4) (always (shown_at branch_at)) rest rest (λ t. Still s t) s
@@ -189,9 +188,8 @@ module _ {z : Setting} (r q : ℕ) (small : r < 32) (small' : q < 32) {n : ℕ} 
         let to : next s ≡ branch_at + 4 = omega (arith, at, below) in
         let untaken : not (register s.regs r == register s.regs q) ≡ false = ap not (eq-eqb (register s.regs r) (register s.regs q) alike) in
         turn_ends None None (moved_to s (next s)) at
-        (branch_passes z.code s Bne r q (2 ^ 12 - 2 * length body) (stands z.code branch_at _ [] from_branch (small, small', omega (arith, some)) s at) untaken) refl z.silence refl
-        (moved_to-pc s (next s) ∙ to)
-        (record { regs = moved_to-regs s (next s); bytes = moved_to-bytes s (next s) })
+        (branch_passes z.code s Bne r q (2 ^ 12 - 2 * length body) (stands z.code branch_at _ [] from_branch (small, small', omega (arith, some)) s at) untaken) refl z.silence (z.keeps_still s _ (moved_still s _)) refl
+        (moved_to-pc s (next s) ∙ to) (moved_still s _)
 
     again_leak : ℕ → ℕ → Leak z
     again_leak zero i = both (round_at 0 i).leak (always (shown_at branch_at))

@@ -42,15 +42,16 @@ module _ {z : Setting} where
     within = omega arith;
     shown = refl;
     inside = all_none (λ (o : Observation). z.Allows o.event);
+    keeps = z.keeps_still s s (record { regs = refl; bytes = refl });
     at = at;
     done = done;
   }
 
   -- one, which shows this event
   pub turn_ends : {p q : ℕ} {leak : Leak z} {path rest : List z.Mark} {Q : State → Type 0} {s : State} (shows known : Option Event) (t : State)
-      → s.pc ≡ p → Leads z.code 1 s (record { pc = s.pc; event = shows } ∷ []) t → shows ≡ known → z.Allows known
+      → s.pc ≡ p → Leads z.code 1 s (record { pc = s.pc; event = shows } ∷ []) t → shows ≡ known → z.Allows known → z.Keeps s t
       → leak path ≡ (record { pc = p; event = known } ∷ [], rest) → t.pc ≡ q → Q t → Ends z 1 q leak path rest Q s
-  turn_ends {p = p} {s = s} shows known t at leads same inside shown there done = record {
+  turn_ends {p = p} {s = s} shows known t at leads same inside keeps shown there done = record {
     turns = 1;
     end = t;
     seen = record { pc = p; event = known } ∷ [];
@@ -60,6 +61,7 @@ module _ {z : Setting} where
     within = omega arith;
     shown = shown;
     inside = All-one (λ (o : Observation). z.Allows o.event) (record { pc = p; event = known }) inside;
+    keeps = keeps;
     at = there;
     done = done;
   }
@@ -81,6 +83,7 @@ module _ {z : Setting} where
         within = omega (arith, i, j);
         shown = both_seen one two path middle rest e.seen f.seen e.shown f.shown;
         inside = All-append (λ (o : Observation). z.Allows o.event) e.seen f.seen e.inside f.inside;
+        keeps = z.keeps_then s e.end f.end e.keeps f.keeps;
         at = f.at;
         done = f.done;
       }
@@ -98,6 +101,7 @@ module _ {z : Setting} where
         within = omega (arith, i, more);
         shown = e.shown;
         inside = e.inside;
+        keeps = e.keeps;
         at = e.at ∙ same;
         done = give e.end e.done;
       }
@@ -118,6 +122,7 @@ module _ {z : Setting} where
     within = e.within;
     shown = same ∙ e.shown;
     inside = e.inside;
+    keeps = e.keeps;
     at = e.at;
     done = e.done;
   }

@@ -114,7 +114,7 @@ module _ (code : Code) (p : ℕ) (below : p + 4 < 2 ^ 32) (c : Contents) where
 
 -- what is asked of the rest
 
-rest_fit : (works : ℕ → Bool) (Allows : Option Event → Type 0) (i : Instr) (a : ℕ) (F : Type 0) → is_straight works i ≡ true → fit_and Allows i a F → F
+pub rest_fit : (works : ℕ → Bool) (Allows : Option Event → Type 0) (i : Instr) (a : ℕ) (F : Type 0) → is_straight works i ≡ true → fit_and Allows i a F → F
 rest_fit works Allows (Load operation rd rs1 offset) a F ok fit = fit.1
 rest_fit works Allows (Store operation rs2 rs1 offset) a F ok fit = fit.1
 rest_fit works Allows i a F ok fit = fit

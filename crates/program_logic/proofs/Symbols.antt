@@ -1,27 +1,32 @@
 -- Straight-line code as a piece, and what it keeps.
 use Rattle.std.specs.Prelude.{is_some}
-use Rattle.std.proofs.Common.{◌≡◌, ◌≢◌, ℕ, ◌+◌, ◌*◌, ◌==◌, Bool, true, false, ◌&&◌, cond, List, [], ◌∷◌, ◌++◌, length, refl, sym, ap, ap₂, ◌∙◌, subst, arith, ne_eqb}
+use Rattle.std.proofs.Common.{◌≡◌, ◌≢◌, ℕ, ◌+◌, ◌*◌, ◌==◌, Bool, true, false, ◌&&◌, cond, List, [], ◌∷◌, ◌++◌, length, Option, Some, refl, sym, ap, ap₂, ◌∙◌, subst, arith, ne_eqb}
 use Rattle.std.proofs.lemmas.Bool.{false≢true}
 use Rattle.program_logic.proofs.Pieces.{seen_nothing, ends_on}
-use Rattle.program_logic.proofs.StraightRuns.{straight_code_leads, shown_allowed, rest_met, both_left, both_right}
+use Rattle.program_logic.proofs.StraightRuns.{straight_code_leads, shown_allowed, rest_fit, rest_met, both_left, both_right}
 use Rattle.program_logic.specs.Pieces.{Setting, Before, none, always, Runs, Became}
-use Rattle.program_logic.specs.StraightCode.{Contents, contents_of, state_at, is_straight, are_straight, next_of, left_by, after, after_all, shown_by, AreFit, met_and, AreMet}
+use Rattle.program_logic.specs.StraightCode.{Contents, contents_of, state_at, is_straight, are_straight, next_of, left_by, after, after_all, shown_by, fit_and, AreFit, met_and, AreMet}
 use Rattle.rv_code.specs.declared.instructions.Instr.{Instr}
 use Rattle.rv_code.specs.declared.instructions.Instr.TheVariants.{Upper, Immediate, Shift, Register, Load, Store}
 use Rattle.rv_code.specs.declared.operations.UpperOperation.TheVariants.{Lui}
 use Rattle.program_logic.proofs.Below.{is_some-with_number}
+use Rattle.rv_machine.specs.Bytes.{ByteMap, with_number}
 use Rattle.rv_machine.specs.Effects.{store_size}
 use Rattle.rv_machine.specs.Leakage.{Leads}
 use Rattle.rv_machine.specs.Machine.{State}
 use Rattle.rv_machine.specs.Registers.{register, with_register}
 use Rattle.rv_machine.specs.Sizes.{byte_count}
+use Rattle.rv_machine.specs.declared.memory.Size.{Size}
+use Rattle.rv_machine.specs.declared.observation.Event.{Event}
+use Rattle.rv_machine.specs.declared.observation.Event.TheVariants as event
 
 module _ {z : Setting} where
   -- straight-line code with accesses at these addresses
   pub by_symbols : {P : Before z} (works : ℕ → Bool) (is : List Instr) (places : List ℕ) → are_straight works is ≡ true → AreFit z.Allows is places
       → ((env : z.Beside) (s : State) → P env s → AreMet is places (contents_of s))
+      → ((env : z.Beside) (s t : State) → P env s → Became is places s t → z.Keeps s t)
       → Runs z (length is) none is P (λ env s t. Became is places s t)
-  by_symbols works is places plain fit met = record {
+  by_symbols works is places plain fit met keeps = record {
     placed_at = λ p placed. record {
       leak = always (shown_by p is places);
       runs = λ env s rest at fine given.
@@ -36,6 +41,7 @@ module _ {z : Setting} where
             within = omega arith;
             shown = refl;
             inside = shown_allowed works z.Allows z.silence p is places plain fit;
+            keeps = keeps env s _ given (record { regs = refl; bytes = refl });
             at = refl;
             done = record { regs = refl; bytes = refl };
           })
@@ -88,6 +94,32 @@ data_kept works (i ∷ is) places c x plain met =
     let a = next_of places in
     data_kept works is (left_by i places) (after i a c) x (both_right (is_straight works i) (are_straight works is) plain) (rest_met works i a c _ ok met)
     ∙ data_after works i a c _ x ok met
+
+-- A byte that no allowed store changes is as it was.
+
+module _ (works : ℕ → Bool) (Allows : Option Event → Type 0) (x : ℕ)
+    (beside : (bytes : ByteMap) (size : Size) (a v : ℕ) → Allows (Some (event.Store a size))
+    → with_number bytes (byte_count size) a v x ≡ bytes x) where
+  byte_after : (i : Instr) (a : ℕ) (c : Contents) (F : Type 0) → is_straight works i ≡ true → fit_and Allows i a F
+      → (after i a c).bytes x ≡ c.bytes x
+  byte_after (Store operation rs2 rs1 offset) a c F ok fit =
+      beside c.bytes (store_size operation) a (register c.regs rs2) fit.0.allowed
+  byte_after (Load operation rd rs1 offset) a c F ok fit = refl
+  byte_after (Upper Lui rd immediate) a c F ok fit = refl
+  byte_after (Immediate operation rd rs1 immediate) a c F ok fit = refl
+  byte_after (Shift operation rd rs1 amount) a c F ok fit = refl
+  byte_after (Register operation rd rs1 rs2) a c F ok fit = refl
+  byte_after i a c F ok fit = absurd (false≢true ok)
+
+  pub byte_kept : (is : List Instr) (places : List ℕ) (c : Contents) → are_straight works is ≡ true
+      → AreFit Allows is places → (after_all is places c).bytes x ≡ c.bytes x
+  byte_kept [] places c plain fit = refl
+  byte_kept (i ∷ is) places c plain fit =
+      let ok = both_left (is_straight works i) (are_straight works is) plain in
+      let a = next_of places in
+      let more = both_right (is_straight works i) (are_straight works is) plain in
+      byte_kept is (left_by i places) (after i a c) more (rest_fit works Allows i a _ ok fit)
+      ∙ byte_after i a c _ ok fit
 
 -- One list, and then another.
 

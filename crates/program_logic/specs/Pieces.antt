@@ -14,12 +14,20 @@ use Rattle.rv_machine.specs.Machine.{State, Code}
 use Rattle.rv_machine.specs.declared.observation.Event.{Event}
 use Rattle.rv_machine.specs.declared.observation.Observation.{Observation}
 
--- where pieces stand, which events they may show, what they are run beside, and the marks of paths: what the observer
--- sees of a path, and when one is fine
+-- only the program counter has changed
+pub record Still (s t : State) : Type 0 where
+  pub regs : t.regs ≡ s.regs
+  pub bytes : t.bytes ≡ s.bytes
+
+-- where pieces stand, which events they may show, what they all leave alone, what they are run beside, and the marks of
+-- paths: what the observer sees of a path, and when one is fine
 pub record Setting : Type 1 where
   pub code : Code
   pub Allows : Option Event → Type 0
   pub silence : Allows None
+  pub Keeps : State → State → Type 0
+  pub keeps_still : (s t : State) → Still s t → Keeps s t
+  pub keeps_then : (s t u : State) → Keeps s t → Keeps t u → Keeps s u
   pub Beside : Type 0
   pub Mark : Type 0
   pub seen : List Mark → List Mark
@@ -63,6 +71,7 @@ pub record Ends (z : Setting) (cost q : ℕ) (leak : Leak z) (path rest : List z
   pub within : turns ≤ cost
   pub shown : leak path ≡ (seen, rest)
   pub inside : All (λ (o : Observation). z.Allows o.event) seen
+  pub keeps : z.Keeps s end
   pub at : end.pc ≡ q
   pub done : Q end
 
@@ -80,11 +89,6 @@ pub record Then (z : Setting) (Q R : After z) (env : z.Beside) (s u : State) : T
   pub middle : State
   pub first : Q env s middle
   pub second : R env middle u
-
--- only the program counter has changed
-pub record Still (s t : State) : Type 0 where
-  pub regs : t.regs ≡ s.regs
-  pub bytes : t.bytes ≡ s.bytes
 
 -- registers and bytes are those after straight-line instructions with accesses at these addresses
 pub record Became (is : List Instr) (places : List ℕ) (s t : State) : Type 0 where

@@ -3,39 +3,29 @@ use Rattle.codegen.proofs.Machine.{depth_in_all, IsGenerated, frame_of, Frame, t
 use Rattle.codegen.specs.Exact.{fields_of}
 use Rattle.codegen.proofs.BodyRuns.{is_generated}
 use Rattle.codegen.proofs.ImageLemmas.{room_frame, has_room}
-use Rattle.inline.specs.declared.flat.FlatVariable.{FlatVariable}
-use Rattle.inline.specs.FlatSize.{declared_words}
+use Rattle.codegen.proofs.Language.{FlatVariable, declared_words}
 use Rattle.codegen.proofs.generator.generate.Goals as goal
 
 pub greatest_depth-depths-requires : goal.greatest_depth-depths-requires
 greatest_depth-depths-requires c =
-    let p = c.args.straight.now in
-    let room = has_room p c.body.ensures.kept.typed c.body.ensures.kept.bounded in
-    let same = ap depth_in_all c.body.ensures.body in
-    let frame = room.frame in
-    let nodes = room.nodes in
-    omega (arith, same, frame, nodes)
+    let room = has_room c.args.straight.now c.body.ensures.kept.typed c.body.ensures.kept.bounded in
+    omega (arith, ap depth_in_all c.body.ensures.body, room.frame, room.nodes)
 
 pub offsets-requires : goal.offsets-requires
 offsets-requires c =
-    let p = c.args.straight.now in
-    let room = has_room p c.body.ensures.kept.typed c.body.ensures.kept.bounded in
-    let same = ap declared_words c.declared-declared.ensures in
-    let few = room.declared in
-    omega (arith, same, few)
+    let few = (has_room c.args.straight.now c.body.ensures.kept.typed c.body.ensures.kept.bounded).declared in
+    omega (arith, ap declared_words c.declared-declared.ensures, few)
 
 pub new-layout-requires-clause-room : goal.new-layout-requires-clause-room
 new-layout-requires-clause-room c =
     let p = c.args.straight.now in
-    let room = has_room p c.body.ensures.kept.typed c.body.ensures.kept.bounded in
     let made : List FlatVariable → ℕ → ℕ → Frame = λ declared controls depths. record { declared = declared; controls = controls; depths = depths } in
     let depths = c.greatest_depth-depths.ensures ∙ ap depth_in_all c.body.ensures.body in
     let laid : made c.declared-declared.result.now c.controls.result c.greatest_depth-depths.result ≡ frame_of p =
     ap (λ declared. made declared c.controls.result c.greatest_depth-depths.result) c.declared-declared.ensures
     ∙ ap₂ (made p.declared) c.controls.ensures depths in
     let same = ap (λ (f : Frame). temporaries_offset f.declared f.controls f.depths) laid in
-    let frame = room_frame p room in
-    omega (arith, same, frame)
+    omega (arith, same, room_frame p (has_room p c.body.ensures.kept.typed c.body.ensures.kept.bounded))
 
 pub listed-requires : goal.listed-requires
 listed-requires c =

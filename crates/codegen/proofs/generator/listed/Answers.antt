@@ -1,8 +1,7 @@
 use Rattle.std.proofs.Common.{◌≡◌, ◌+◌, ◌*◌, map, ap, ap₂, ◌∙◌}
-use Rattle.codegen.specs.private.Generated.{program_base, program_slots, step_limit}
-use Rattle.expression_code.specs.Layout.{Frame, slots_from, temporaries_offset}
+use Rattle.codegen.proofs.Machine.{program_base, program_slots, step_limit, Frame, slots_from, temporaries_offset}
+use Rattle.codegen.proofs.Machine.{word_of}
 use Rattle.codegen.proofs.ImageLemmas.{fields_allowed}
-use Rattle.rv_code.specs.Words.{word_of}
 use Rattle.codegen.proofs.generator.listed.Goals as goal
 
 pub new-requires : goal.new-requires

@@ -1,9 +1,8 @@
 use Rattle.std.proofs.Common.{◌≡◌, length, Some, sym, ap, subst, ◌∙◌}
-use Rattle.std.specs.Option.{option_map}
-use Rattle.branch_removal.specs.Straight.{StraightBlock, straight_block}
 use Rattle.codegen.proofs.Machine.{depth_in_all, Frame, HavePlaces, IsAmong}
+use Rattle.codegen.proofs.Language.{StraightBlock, straight_block, term_tree}
+use Rattle.codegen.proofs.Logic.{option_map}
 use Rattle.codegen.proofs.ImageLemmas.{result_among, body_placed}
-use Rattle.inline.specs.Flat.{term_tree}
 use Rattle.codegen.proofs.generator.program_code.Goals as goal
 
 pub statements-requires : goal.statements-requires

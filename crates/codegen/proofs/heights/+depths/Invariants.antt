@@ -1,7 +1,6 @@
 use Rattle.std.proofs.Common.{◌≡◌, ◌+◌, ◌*◌, drop, max}
-use Rattle.branch_removal.specs.Bounds.{statement_nodes, block_nodes}
-use Rattle.branch_removal.specs.Straight.{straight_tree, straight_block}
-use Rattle.codegen.specs.private.Emitted.{depth_in_all}
+use Rattle.codegen.proofs.Machine.{depth_in_all}
+use Rattle.codegen.proofs.Language.{statement_nodes, block_nodes, straight_tree, straight_block}
 use Rattle.codegen.proofs.heights.+depths.Given as goal
 
 -- the most so far and what is left give what all statements have

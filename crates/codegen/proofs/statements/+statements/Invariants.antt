@@ -1,8 +1,6 @@
 use Rattle.std.proofs.Common.{◌≡◌, ◌++◌, ◌+◌, ◌*◌, drop}
-use Rattle.branch_removal.specs.Bounds.{statement_nodes, block_nodes}
-use Rattle.branch_removal.specs.Straight.{straight_tree, straight_block}
-use Rattle.codegen.specs.private.Emitted.{block_code}
-use Rattle.codegen.specs.private.Placed.{HavePlaces}
+use Rattle.codegen.proofs.Machine.{block_code, HavePlaces}
+use Rattle.codegen.proofs.Language.{statement_nodes, block_nodes, straight_tree, straight_block}
 use Rattle.codegen.proofs.statements.+statements.Given as goal
 
 -- the code so far and that of what is left are the code of all statements

@@ -1,4 +1,4 @@
-use Rattle.std.proofs.Common.{ℕ, List, refl, subst}
+use Rattle.std.proofs.Common.{ℕ, List, subst}
 use Rattle.std.proofs.lemmas.Result.{err_from_is_err_and}
 use Rattle.std.specs.String.{string_bytes}
 use Rattle.function_text.specs.Functions.{IsFaultOf, HasTakenName}
@@ -6,13 +6,14 @@ use Rattle.function_text.specs.Texts.{AreTextsOf}
 use Rattle.hepurita.specs.Built.{Judges, IsRefusal}
 use Rattle.commands.specs.FunctionFiles.{RefusesFunction, not_accepted, taken_name}
 use Rattle.commands.specs.Judged as judged
+use Rattle.commands.specs.Judged.{Tells}
 use Rattle.commands.proofs.ImageLemmas.{handed_on}
 use Rattle.commands.proofs.functions.function_texts.Goals as goal
 
 pub returns-in_err-text-clause-refused : goal.returns-in_err-text-clause-refused
 returns-in_err-text-clause-refused g c = λ tells.
     let p = err_from_is_err_and c.from_residual.result c.from_residual.ensures.1 in
-    handed_on (RefusesFunction c.args.profile (g.F.Files.contents c.args.files.now) c.args.file.now) c.from_residual.result p.0 c.in_err-text.field-0.0 p.1 p.2
+    handed_on (RefusesFunction c.args.explain c.args.profile (g.F.Files.contents c.args.files.now) c.args.file.now) c.from_residual.result p.0 c.in_err-text.field-0.0 p.1 p.2
     (not_accepted (judged.no_text (c.in_err-text.ensures.refused tells)))
 
 pub returns-in-Ok-clause-said : goal.returns-in-Ok-clause-said
@@ -30,7 +31,9 @@ returns-in-Err-Text-clause-refused g c = λ tells.
     let why : IsRefusal (Judges c.args.profile (string_bytes c.in_ok-text.text)) refusal =
     subst (λ (t : List ℕ). IsRefusal (Judges c.args.profile t) refusal) c.as_str.ensures.value
     (subst (IsFaultOf c.args.profile c.as_str.result.now) c.in-Err-Text.field-0-is c.in-Err-Text.ensures.fault) in
-    not_accepted (judged.not_accepted refusal (c.in_ok-text.ensures.said tells) why refl)
+    let told : Tells c.args.explain (string_bytes c.in_ok-text.text) refusal c.refused.result =
+    subst (λ (t : List ℕ). Tells c.args.explain t refusal c.refused.result) c.as_str-in-Err-Text.ensures.value c.refused.ensures in
+    not_accepted (judged.not_accepted refusal (c.in_ok-text.ensures.said tells) why told)
 
 pub returns-clause-refused : goal.returns-clause-refused
 returns-clause-refused g c = λ tells.

@@ -1,11 +1,11 @@
 use Rattle.std.proofs.Common.{ℕ, List, map, refl, sym, ◌∙◌, subst}
 use Rattle.std.proofs.lemmas.Result.{err_from_is_err_and}
 use Rattle.commands.specs.Certificates.{SaysCertificate}
-use Rattle.commands.specs.Judged.{SaysStatistics}
+use Rattle.commands.specs.Costs.{SaysCosts}
 use Rattle.commands.specs.Meanings.{SaysMeaning}
 use Rattle.commands.specs.Pairs.{SaysPair, SaysList}
 use Rattle.commands.specs.Runs.{SaysRun}
-use Rattle.commands.proofs.RequestLemmas.{refuses, fails_to_print, fails_to_list}
+use Rattle.commands.proofs.RequestLemmas.{refuses, prints, fails_to_print, fails_to_list}
 use Rattle.commands.proofs.performing.answer.Goals as goal
 
 pub returns-in_err-check_text-in-Check-clause-failed : goal.returns-in_err-check_text-in-Check-clause-failed
@@ -69,8 +69,13 @@ returns-in_ok-check_text-in-Check-clause-failed g c = λ files out.
 
 pub returns-in_ok-text-in-Stat-clause-failed : goal.returns-in_ok-text-in-Stat-clause-failed
 returns-in_ok-text-in-Stat-clause-failed g c = λ files out.
-    let said = subst (λ (bytes : List ℕ). SaysStatistics c.in-Stat.profile (g.F.Files.contents c.args.files.now) c.in-Stat.file.now bytes) (sym c.as_bytes.ensures.value) (c.in_ok-text-in-Stat.ensures.said files) in
+    let said = subst (λ (bytes : List ℕ). SaysCosts c.in-Stat.profile (g.F.Files.contents c.args.files.now) c.in-Stat.file.now bytes) (sym c.as_bytes.ensures.value) (c.in_ok-text-in-Stat.ensures.said files) in
     fails_to_print _ _ c.in-Stat.is _ _ _ _ c.as_bytes.result.now 0 c.print-in-Stat.result (said, refl) refl (c.print-in-Stat.ensures.beginning out) c.print-in-Stat.ensures.fault
+
+pub returns-in_ok-text-in-Stat-clause-done : goal.returns-in_ok-text-in-Stat-clause-done
+returns-in_ok-text-in-Stat-clause-done g c = λ files out.
+    let said = subst (λ (bytes : List ℕ). SaysCosts c.in-Stat.profile (g.F.Files.contents c.args.files.now) c.in-Stat.file.now bytes) (sym c.as_bytes.ensures.value) (c.in_ok-text-in-Stat.ensures.said files) in
+    prints _ _ c.in-Stat.is _ _ _ _ c.as_bytes.result.now 0 c.print-in-Stat.result (said, refl) refl c.print-in-Stat.ensures.answer (c.print-in-Stat.ensures.whole out)
 
 pub returns-in_ok-text-in-Eval-clause-failed : goal.returns-in_ok-text-in-Eval-clause-failed
 returns-in_ok-text-in-Eval-clause-failed g c = λ files out.

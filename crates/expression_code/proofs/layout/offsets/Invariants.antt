@@ -1,6 +1,5 @@
 use Rattle.std.proofs.Common.{◌≡◌, ◌≤◌, ◌+◌, ◌*◌, ◌++◌, drop}
-use Rattle.expression_code.specs.Layout.{offsets_from}
-use Rattle.inline.specs.FlatSize.{declared_words}
+use Rattle.expression_code.proofs.Below.{offsets_from, declared_words}
 use Rattle.expression_code.proofs.layout.offsets.Given as goal
 
 abbrev pub invariant-loop-variable : goal.invariant-loop-variable

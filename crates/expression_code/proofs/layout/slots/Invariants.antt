@@ -1,7 +1,5 @@
 use Rattle.std.proofs.Common.{◌≡◌, ◌≤◌, ◌+◌, ◌*◌, ◌++◌, drop, map}
-use Rattle.expression_code.specs.Layout.{slots_from}
-use Rattle.inline.specs.Flat.{declaration_of}
-use Rattle.inline.specs.FlatSize.{declared_words}
+use Rattle.expression_code.proofs.Below.{slots_from, declaration_of, declared_words}
 use Rattle.expression_code.proofs.layout.slots.Given as goal
 
 abbrev pub invariant-loop-parameter : goal.invariant-loop-parameter

@@ -1,0 +1,47 @@
+use Rattle.std.proofs.Common.{List, ℕ, Ok, ap, subst}
+use Rattle.std.proofs.lemmas.Result.{err_from_is_err_and}
+use Rattle.std.specs.Option.{IfSome}
+use Rattle.std.specs.String.{string_bytes}
+use Rattle.image_statistics.specs.ImageText.{BeginsOtherwise, SaysFields, IsFaultOf}
+use Rattle.commands.specs.Costs.{RefusesCosts, of_source, not_read, no_source}
+use Rattle.commands.specs.declared.fault.Fault.TheVariants.{Image}
+use Rattle.commands.proofs.ImageLemmas.{handed_on}
+use Rattle.commands.proofs.MeasuringLemmas.{image_costs, other_held, image_faulty, if_ok_so, if_err_so}
+use Rattle.commands.proofs.measuring.measure_file.Goals as goal
+
+pub returns-in-Err-clause-refused : goal.returns-in-Err-clause-refused
+returns-in-Err-clause-refused g c = λ tells. not_read c.read_fault.ensures
+
+pub returns-in_err-lines-clause-refused : goal.returns-in_err-lines-clause-refused
+returns-in_err-lines-clause-refused g c = λ tells.
+    let files = g.F.Files.contents c.args.files.now in
+    let bytes = c.in-Ok.bytes.items in
+    let fault = c.in_err-lines.field-0.0 in
+    let why = subst (λ (b : List ℕ). IsFaultOf b fault) c.as_slice.ensures.value c.in_err-lines.ensures.refused in
+    let p = err_from_is_err_and c.from_residual.result c.from_residual.ensures.1 in
+    handed_on (RefusesCosts c.args.profile files c.args.file.now) c.from_residual.result p.0 (Image fault) p.1 p.2
+    (image_faulty c.args.profile files c.args.file.now bytes fault (c.in-Ok.ensures.begins tells) why)
+
+pub returns-in-Some-clause-said : goal.returns-in-Some-clause-said
+returns-in-Some-clause-said g c = λ tells.
+    let lines = string_bytes c.in-Some.lines in
+    let shown = subst (λ o. IfSome o (λ text. SaysFields c.as_slice.result.now (string_bytes text))) c.in-Some.is c.in_ok-lines.ensures.said in
+    let said = subst (λ (b : List ℕ). SaysFields b lines) c.as_slice.ensures.value shown in
+    image_costs c.args.profile (g.F.Files.contents c.args.files.now) c.args.file.now c.in-Ok.bytes.items lines
+    (c.in-Ok.ensures.begins tells) said
+
+pub returns-clause-said : goal.returns-clause-said
+returns-clause-said g c = λ tells.
+    let files = g.F.Files.contents c.args.files.now in
+    let read = c.in-Ok.ensures.begins tells in
+    let other = subst BeginsOtherwise c.as_slice.ensures.value (c.in_ok-lines.ensures.other (ap Ok c.in-None.is)) in
+    let held = other_held files c.args.file.now c.in-Ok.bytes.items read other in
+    if_ok_so c.source_costs.result (λ text said. of_source held said) (c.source_costs.ensures.said files read.whole read.held read.begun)
+
+pub returns-clause-refused : goal.returns-clause-refused
+returns-clause-refused g c = λ tells.
+    let files = g.F.Files.contents c.args.files.now in
+    let read = c.in-Ok.ensures.begins tells in
+    let other = subst BeginsOtherwise c.as_slice.ensures.value (c.in_ok-lines.ensures.other (ap Ok c.in-None.is)) in
+    let held = other_held files c.args.file.now c.in-Ok.bytes.items read other in
+    if_err_so c.source_costs.result (λ fault why. no_source held why) (c.source_costs.ensures.refused files read.whole read.held read.begun)

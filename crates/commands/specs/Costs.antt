@@ -1,0 +1,34 @@
+-- What the source or the image of a file costs, as lines, and why there are none.
+use Rattle.std.specs.Prelude.{◌≡◌, ◌≤◌, ℕ, List, Some, Err}
+use Rattle.commands.specs.Contents.{Contents}
+use Rattle.commands.specs.Images.{HoldsImage}
+use Rattle.commands.specs.Judged.{IsRefused, SaysStatistics}
+use Rattle.commands.specs.Unread.{NotRead}
+use Rattle.commands.specs.declared.fault.Fault.{Fault}
+use Rattle.commands.specs.declared.fault.Fault.TheVariants.{Image}
+use Rattle.image.specs.Reading.{reading}
+use Rattle.image.specs.declared.fault.ImageFault.TheVariants.{Field}
+use Rattle.image.specs.declared.fault.ImageRule.{ImageRule}
+use Rattle.image_fields.specs.Fields.{Fields}
+use Rattle.image_statistics.specs.ImageText.{BeginsOtherwise}
+use Rattle.statistics.specs.FieldsText.{fields_text}
+use Rattle.word.specs.declared.profile.Profile.{Profile}
+
+-- the file at a path does not begin as an image does
+abbrev pub HoldsOther : Contents → List ℕ → Type 0
+HoldsOther files path = (bytes : List ℕ) × (files path ≡ Some bytes) × BeginsOtherwise bytes
+
+-- the text is what the file costs: of an image its fields, and of all else its source
+pub data SaysCosts (profile : Profile) (files : Contents) (path : List ℕ) (text : List ℕ) : Type 0 where
+  of_image : (image : Fields) → HoldsImage files path image → text ≡ fields_text image
+      → SaysCosts profile files path text
+  of_source : HoldsOther files path → SaysStatistics profile files path text → SaysCosts profile files path text
+
+-- why it has no such text: it was not read; or it begins as an image does, and has a first fault behind the magic; or
+-- its source is refused
+pub data RefusesCosts (profile : Profile) (files : Contents) (path : List ℕ) : Fault → Type 0 where
+  not_read : {fault : Fault} → NotRead path fault → RefusesCosts profile files path fault
+  not_spelled : {bytes : List ℕ} {rule : ImageRule} {offset : ℕ} → files path ≡ Some bytes
+      → reading bytes ≡ Err (Field rule offset) → 1 ≤ offset → RefusesCosts profile files path (Image (Field rule offset))
+  no_source : {fault : Fault} → HoldsOther files path → IsRefused profile files path fault
+      → RefusesCosts profile files path fault

@@ -1,0 +1,65 @@
+// What the source or the image of a file costs.
+
+ghost use Rattle.std.specs.Prelude.{◌≡◌, ◌+◌, ℕ, List, Some, take, IsTrue, IfOk, IfErr};
+ghost use Rattle.std.specs.String.{string_bytes};
+ghost use Rattle.commands.specs.Contents.{Contents};
+ghost use Rattle.commands.specs.Costs.{SaysCosts, RefusesCosts};
+ghost use Rattle.commands.specs.Judged.{IsRefused, SaysStatistics};
+ghost use Rattle.image.specs.Limits.{longest_image};
+
+use crate::fault::Fault;
+use crate::files::Files;
+use crate::texts::{read_fault, text_fault};
+use image::LONGEST_IMAGE;
+use image_statistics::image_statistics;
+use language::Profile;
+use source_statistics::source_statistics;
+use std::alloc::Global;
+use stream_build::text_of;
+use syntax::TEXT_LIMIT;
+
+/// What the source of a file costs, for an observer, as lines. The file is read once: these are as many of its bytes as
+/// the longest image has and one more, or all, and so enough of a source too.
+fn source_costs<'a>(
+    alloc: Global,
+    file: &'a str,
+    mut bytes: Vec<u8>,
+    profile: Profile,
+) -> Result<String, Fault<'a>>
+    ensures said { (files : Contents) (whole : List ℕ) → files file.now ≡ Some whole
+        → bytes.items ≡ take (longest_image + 1) whole
+        → IfOk result (λ text. SaysStatistics profile files file.now (string_bytes text)) }
+    ensures refused { (files : Contents) (whole : List ℕ) → files file.now ≡ Some whole
+        → bytes.items ≡ take (longest_image + 1) whole
+        → IfErr result (IsRefused profile files file.now) }
+{
+    bytes.truncate(TEXT_LIMIT + 1);
+    let text = match text_of(bytes) {
+        Ok(text) => text,
+        Err(fault) => return Err(text_fault(file, fault)),
+    };
+    let lines = source_statistics(alloc, text.as_str(), profile)?;
+    Ok(lines)
+}
+
+/// What a file costs, as lines: the fields of its image, where it begins as an image does, and else its source, for an
+/// observer.
+pub fn measure_file<'a, F: Files>(
+    alloc: Global,
+    file: &'a str,
+    profile: Profile,
+    files: &F,
+) -> Result<String, Fault<'a>>
+    ensures said { IsTrue F.TELLS
+        → IfOk result (λ text. SaysCosts profile (F.contents files.now) file.now (string_bytes text)) }
+    ensures refused { IsTrue F.TELLS → IfErr result (RefusesCosts profile (F.contents files.now) file.now) }
+{
+    let bytes = match files.read(alloc, file, LONGEST_IMAGE + 1) {
+        Ok(bytes) => bytes,
+        Err(fault) => return Err(read_fault(file, fault)),
+    };
+    match image_statistics(alloc, bytes.as_slice())? {
+        Some(lines) => Ok(lines),
+        None => source_costs(alloc, file, bytes, profile),
+    }
+}
