@@ -1,7 +1,6 @@
-pub mod Steps
-pub mod Numbers
-pub mod Slots
-pub mod FormatLemmas
+pub mod Bytes
+pub mod Texts
+pub mod Codes
 pub mod Images
 pub mod Spellings
 pub mod Loop

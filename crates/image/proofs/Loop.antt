@@ -1,65 +1,65 @@
--- Reading slots or code words one after the other, as a loop does.
-use Rattle.std.proofs.Common.{◌≡◌, ℕ, suc, ◌-◌, ◌+◌, ◌≤◌, ◌<◌, List, [], ◌∷◌, ◌++◌, Result, Ok, Err, refl, sym, ap, ◌∙◌, append_assoc, arith}
+-- Reading items one after another, as a loop does.
+use Rattle.std.proofs.Common.{◌≡◌, ℕ, zero, suc, ◌-◌, ◌+◌, ◌≤◌, ◌<◌, List, [], ◌∷◌, ◌++◌, Result, Ok, Err, refl, sym, ap, subst, ◌∙◌, append_assoc, arith}
+use Rattle.std.proofs.Math.Path.{fun_ext}
 use Rattle.std.proofs.lemmas.List.{append-nil}
-use Rattle.image.specs.declared.fields.FieldFault.{FieldFault}
-use Rattle.image_fields.specs.declared.slot.Slot.{Slot}
+use Rattle.std.specs.Result.{IsErrAnd}
+use Rattle.image.specs.Format.{Format}
+use Rattle.image.specs.Reading.{one, slot_format, slots_format, words_format}
+use Rattle.image.specs.declared.fault.ImageFault.{ImageFault}
+use Rattle.image.specs.declared.field.Field.TheVariants as fields
+use Rattle.image.specs.declared.reading.Reader.{Reader}
+use Rattle.image.specs.private.Following.{FaultIs, Leads, ahead}
 use Rattle.image_fields.specs.Fields.{slot_end}
-use Rattle.image.specs.private.Parts.{◌>>=◌, number_at, slot_at, slots_at, words_at}
 
--- what was read before, and what is still read
-abbrev pub with_front : {A : Type 0} → List A → Result (List A × List ℕ) FieldFault → Result (List A × List ℕ) FieldFault
-with_front front read = read >>= λ x. Ok (front ++ x.0, x.1)
+-- a fault that is passed on, after steps that lead there
+pub passed : {T : Type 0} (format later : Format) (next : T → Format) (r : Result T ImageFault) (fault : ImageFault) (old mid new : Reader)
+    → IsErrAnd r (λ e. e ≡ fault) → ahead format old ≡ ahead later mid → FaultIs fault (ahead later mid) → Leads format next r old new
+passed format later next (Ok x) fault old mid new h same is = absurd h
+passed format later next (Err e) fault old mid new h same is =
+    subst (λ f. FaultIs f (ahead format old)) (sym h) (subst (FaultIs fault) (sym same) is)
 
-regroup : {A : Type 0} (front : List A) (item : A) (read : Result (List A × List ℕ) FieldFault) → with_front front (read >>= λ x. Ok (item ∷ x.0, x.1)) ≡ with_front (front ++ item ∷ []) read
-regroup front item (Ok x) = ap (λ items. Ok (items, x.1)) (simp append_assoc)
-regroup front item (Err f) = refl
+-- A format of so many items: of none, and of one and the others. What an item has to be may depend on what stands before.
+pub record Repeats {A S : Type 0} (each : S → (A → Format) → Format) (after : A → S) (many : ℕ → S → (List A → Format) → Format)
+    : Type 0 where
+  pub none : (s : S) (next : List A → Format) → many zero s next ≡ next []
+  pub some : (n : ℕ) (s : S) (next : List A → Format)
+      → many (suc n) s next ≡ each s (λ item. many n (after item) (λ items. next (item ∷ items)))
 
--- ---- slots
+pub slots_repeat : Repeats slot_format slot_end slots_format
+unfolding slots_format
+slots_repeat = record { none = λ _ _. refl; some = λ _ _ _. refl }
 
-pub slots_go_on : (front : List Slot) (count i low : ℕ) (bytes : List ℕ) (slot : Slot) (after : List ℕ) (total : Result (List Slot × List ℕ) FieldFault) → i < count → slot_at low bytes ≡ Ok (slot, after)
-    → with_front front (slots_at (count - i) low bytes) ≡ total → with_front (front ++ slot ∷ []) (slots_at (count - (i + 1)) (slot_end slot) after) ≡ total
-unfolding slots_at
-slots_go_on front count i low bytes slot after total lt h so_far =
-    let k : count - i ≡ suc (count - (i + 1)) = omega arith in
-    let one : with_front front (slots_at (count - i) low bytes) ≡ with_front (front ++ slot ∷ []) (slots_at (count - (i + 1)) (slot_end slot) after) = rw (k, h) (regroup front slot (slots_at (count - (i + 1)) (slot_end slot) after)) in
-    sym one ∙ so_far
+pub words_repeat : Repeats (λ (_ : ℕ). one fields.Word) (λ _. 0) (λ n (_ : ℕ). words_format n)
+unfolding words_format
+words_repeat = record { none = λ _ _. refl; some = λ _ _ _. refl }
 
-pub slots_end_early : (f : FieldFault) (front : List Slot) (count i low : ℕ) (bytes : List ℕ) (total : Result (List Slot × List ℕ) FieldFault) → i < count → slot_at low bytes ≡ Err f
-    → with_front front (slots_at (count - i) low bytes) ≡ total → total ≡ Err f
-unfolding slots_at
-slots_end_early f front count i low bytes total lt h so_far =
-    let k : count - i ≡ suc (count - (i + 1)) = omega arith in
-    let one : with_front front (slots_at (count - i) low bytes) ≡ Err f = rw (k, h) refl in
-    sym so_far ∙ one
+module _ {A S : Type 0} {each : S → (A → Format) → Format} {after : A → S} {many : ℕ → S → (List A → Format) → Format} (r : Repeats each after many) where
+  -- what is still to be read, after so many items
+  abbrev left : (count i : ℕ) → S → List A → (List A → Format) → Format
+  left count i s front next = many (count - i) s (λ items. next (front ++ items))
 
-pub slots_done : (front : List Slot) (count i low : ℕ) (bytes : List ℕ) (total : Result (List Slot × List ℕ) FieldFault) → count ≤ i → with_front front (slots_at (count - i) low bytes) ≡ total → total ≡ Ok (front, bytes)
-unfolding slots_at
-slots_done front count i low bytes total le so_far =
-    let k : count - i ≡ 0 = omega arith in
-    let one : with_front front (slots_at (count - i) low bytes) ≡ Ok (front, bytes) = rw k (ap (λ (slots : List Slot). Ok (slots, bytes)) (append-nil front)) in
-    sym so_far ∙ one
+  one_more : (count i : ℕ) (s : S) (front : List A) (next : List A → Format)
+      → i < count → left count i s front next ≡ each s (λ item. left count (i + 1) (after item) (front ++ item ∷ []) next)
+  one_more count i s front next lt =
+      let k : count - i ≡ suc (count - (i + 1)) = omega arith in
+      ap (λ n. many n s (λ items. next (front ++ items))) k
+      ∙ r.some (count - (i + 1)) s (λ items. next (front ++ items))
+      ∙ ap (each s)
+      (fun_ext (λ item. ap (many (count - (i + 1)) (after item)) (fun_ext (λ items. ap next (sym (append_assoc front (item ∷ []) items))))))
 
--- ---- code words
+  pub goes_on : (count i : ℕ) (s : S) (front : List A) (next : List A → Format) (item : A) (old new : Reader)
+      → i < count → ((k : A → Format) → ahead (each s k) old ≡ ahead (k item) new)
+      → ahead (left count i s front next) old ≡ ahead (left count (i + 1) (after item) (front ++ item ∷ []) next) new
+  goes_on count i s front next item old new lt leads = ap (λ format. ahead format old) (one_more count i s front next lt) ∙ leads _
 
-pub words_go_on : (front : List ℕ) (count i : ℕ) (bytes : List ℕ) (word : ℕ) (after : List ℕ) (total : Result (List ℕ × List ℕ) FieldFault) → i < count → number_at 4 bytes ≡ Ok (word, after)
-    → with_front front (words_at (count - i) bytes) ≡ total → with_front (front ++ word ∷ []) (words_at (count - (i + 1)) after) ≡ total
-unfolding words_at
-words_go_on front count i bytes word after total lt h so_far =
-    let k : count - i ≡ suc (count - (i + 1)) = omega arith in
-    let one : with_front front (words_at (count - i) bytes) ≡ with_front (front ++ word ∷ []) (words_at (count - (i + 1)) after) = rw (k, h) (regroup front word (words_at (count - (i + 1)) after)) in
-    sym one ∙ so_far
+  pub fails : (count i : ℕ) (s : S) (front : List A) (next : List A → Format) (fault : ImageFault) (old : Reader)
+      → i < count → ((k : A → Format) → FaultIs fault (ahead (each s k) old))
+      → FaultIs fault (ahead (left count i s front next) old)
+  fails count i s front next fault old lt leads = rw (one_more count i s front next lt) (leads _)
 
-pub words_end_early : (f : FieldFault) (front : List ℕ) (count i : ℕ) (bytes : List ℕ) (total : Result (List ℕ × List ℕ) FieldFault) → i < count → number_at 4 bytes ≡ Err f
-    → with_front front (words_at (count - i) bytes) ≡ total → total ≡ Err f
-unfolding words_at
-words_end_early f front count i bytes total lt h so_far =
-    let k : count - i ≡ suc (count - (i + 1)) = omega arith in
-    let one : with_front front (words_at (count - i) bytes) ≡ Err f = rw (k, h) refl in
-    sym so_far ∙ one
-
-pub words_done : (front : List ℕ) (count i : ℕ) (bytes : List ℕ) (total : Result (List ℕ × List ℕ) FieldFault) → count ≤ i → with_front front (words_at (count - i) bytes) ≡ total → total ≡ Ok (front, bytes)
-unfolding words_at
-words_done front count i bytes total le so_far =
-    let k : count - i ≡ 0 = omega arith in
-    let one : with_front front (words_at (count - i) bytes) ≡ Ok (front, bytes) = rw k (ap (λ (words : List ℕ). Ok (words, bytes)) (append-nil front)) in
-    sym so_far ∙ one
+  pub is_done : (count i : ℕ) (s : S) (front : List A) (next : List A → Format) (old : Reader)
+      → count ≤ i → ahead (left count i s front next) old ≡ ahead (next front) old
+  is_done count i s front next old le =
+      let k : count - i ≡ 0 = omega arith in
+      let all = λ (items : List A). next (front ++ items) in
+      ap (λ format. ahead format old) (ap (λ n. many n s all) k ∙ r.none s all ∙ ap next (append-nil front))

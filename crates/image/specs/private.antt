@@ -1,4 +1,4 @@
--- Words that the contracts of private functions cite, and no public one: the parts of an image, as the reader takes them and as the
--- writer puts them one after another.
-pub mod Parts
+-- Words that the contracts of private functions cite, and no public one: how the reader follows the format, and the
+-- bytes that the writer puts one after another.
+pub mod Following
 pub mod Spelling

@@ -11,10 +11,12 @@ pub fn allowed_fields_are_spelled()
 
 /// Fields have one spelling.
 pub fn one_spelling()
-    ensures { (one other : List ℕ) (fields : Fields) → AreBytes one → AreBytes other → Spells one fields → Spells other fields → one ≡ other }
+    ensures { (one other : List ℕ) (fields : Fields)
+        → AreBytes one → AreBytes other → Spells one fields → Spells other fields → one ≡ other }
 {}
 
 /// No spelling begins another.
 pub fn no_spelling_begins_another()
-    ensures { (bytes rest : List ℕ) (fields others : Fields) → AreBytes (bytes ++ rest) → Spells bytes fields → Spells (bytes ++ rest) others → rest ≡ [] }
+    ensures { (bytes rest : List ℕ) (fields others : Fields)
+        → AreBytes (bytes ++ rest) → Spells bytes fields → Spells (bytes ++ rest) others → rest ≡ [] }
 {}

@@ -1,12 +1,12 @@
 // Images: a program for the machine as bytes.
-// Bytes and fields determine each other: `write_fields` gives the one spelling of fields, `write` that of generated code, and
-// `read` gives the image of each spelling, and of other bytes the first fault from the left. Both are
-// stated by one format, the fields in their order.
+// Bytes and fields determine each other: `write_fields` gives the one spelling of fields, `write` that of generated
+// code, and `read` gives the image of each spelling, and of other bytes the first fault from the left. All three go by
+// one table of fields, `Field`, and so does the format by which they are stated, `specs/Reading.antt`.
 // It stands on the fields of `image_fields` and the code of `codegen`, and writes and reads numbers by `byteorder`.
 #![tactic(auto)]
 
 mod fault;
-mod fields;
+mod field;
 mod image;
 mod laws;
 mod limits;

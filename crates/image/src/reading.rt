@@ -1,80 +1,168 @@
-ghost use Rattle.std.specs.Prelude.{◌≡◌, length, IfOk};
-ghost use Rattle.image_fields.specs.Fields.{IsImage, slots_end};
-ghost use Rattle.image.specs.Reading.{IsUnlessMemory, reading};
-ghost use Rattle.image.specs.declared.reading.ReadError.TheVariants.{Memory, Fault};
-ghost use Rattle.image.specs.private.Parts.{Gives, slots_at, words_at, layout_at, code_at, layout_fields, code_fields, fields_of, all_of};
+ghost use Rattle.std.specs.Prelude.{◌≡◌, ◌≤◌, ◌<◌, ◌^◌, ◌-◌, ℕ, List, length, Option, Ok, IfOk, MatchResult, true};
+ghost use Rattle.byteorder.specs.Endian.{little_number};
+ghost use Rattle.image_fields.specs.Fields.{Fields, IsImage, slots_end};
+ghost use Rattle.image_fields.specs.declared.slot.Slot.{Slot as SlotOf};
+ghost use Rattle.image_fields.specs.declared.slot.ResultSlot.{ResultSlot as ResultSlotOf};
+ghost use Rattle.image.specs.Format.{Format, ends};
+ghost use Rattle.image.specs.Reading.{AreBytes, IsUnlessMemory, image_format, layout_end, one, reading, result_format, row, slot_format, slots_format, words_format};
+ghost use Rattle.image.specs.private.Following.{FaultIs, Leads, ahead};
 
-use crate::fields::{
-    FieldFault, fault_of, read_frame_bytes, read_max_steps, read_parameter_count, read_preamble,
-    read_returned, read_slot, read_u32, read_word_count,
-};
+use crate::field::{FORMS, Field, KINDS, LABELS, profile_of};
 use crate::limits::{PARAMETER_BYTES, WORD_BYTES};
 use crate::{Image, ImageFault, ImageRule};
+use byteorder::{ByteOrder, LittleEndian};
 use image_fields::{ImageFields, ResultSlot, Slot};
-use language::Profile;
-use std::alloc::{AllocError, AllocFailed, Global};
+use language::Param;
+use std::alloc::Global;
 
-/// Why parts that take memory were not read.
-#[derive(Debug, Drop)]
-enum ReadError {
-    Memory,
-    Fault(FieldFault),
+/// The bytes that are left to read, of so many.
+#[derive(Drop)]
+struct Reader<'a> {
+    total: usize,
+    left: &'a [u8],
 }
 
-impl From<FieldFault> for ReadError {
-    ghost from_gives = { λ fault e. e ≡ Fault fault };
+impl<'a> Reader<'a> {
+    /// A fault at the field that comes next.
+    fn fault(&self, rule: ImageRule) -> ImageFault
+        ensures { result ≡ ImageFault.Field rule (self.now.total - length self.now.left.now) }
+    {
+        ImageFault::Field {
+            rule,
+            offset: self.total.saturating_sub(self.left.len()),
+        }
+    }
 
-    fn from(fault: FieldFault) -> Self {
-        ReadError::Fault(fault)
+    /// The number in the field that comes next.
+    #[tactic(auto, unfolding(crate::specs::Format::read_by))]
+    fn take(&mut self, field: Field) -> Result<u64, ImageFault>
+        ensures leads { (next : ℕ → Format) → Leads (one field next) next result self.old self.new }
+        ensures allowed { IfOk result (λ n. (row field).allowed n ≡ true) }
+        ensures fits { IfOk result (λ n. n < 256 ^ (row field).size) }
+    {
+        let size = field.size();
+        let left = self.left;
+        if left.len() < size {
+            return Err(self.fault(ImageRule::Truncated));
+        }
+        let number = number_in(left, size);
+        if !field.allows(number) {
+            return Err(self.fault(field.rule()));
+        }
+        self.left = &left[size..];
+        Ok(number)
+    }
+
+    /// A parameter's slot, the slot before it ending at `low`.
+    #[tactic(auto, unfolding(crate::specs::Reading::slot_format))]
+    fn slot(&mut self, low: u64) -> Result<Slot, ImageFault>
+        ensures { (next : SlotOf → Format) → Leads (slot_format low next) next result self.old self.new }
+    {
+        let kind = KINDS[self.take(Field::Kind)? as usize];
+        let label = LABELS[self.take(Field::Label)? as usize];
+        let form = FORMS[self.take(Field::Form)? as usize];
+        let length = self.take(Field::Length(form))? as u16;
+        let offset = self.take(Field::Offset(low))? as u32;
+        let param = Param {
+            kind,
+            label,
+            form,
+            length,
+        };
+        Ok(Slot { param, offset })
+    }
+
+    /// So many slots.
+    fn slots(&mut self, alloc: Global, count: u64) -> Result<Vec<Slot>, ImageFault>
+        ensures { (next : List SlotOf → Format)
+            → Leads (slots_format count 0 next) (λ slots. next slots.items) result self.old self.new }
+    {
+        let room = (count as usize).min(self.left.len() / PARAMETER_BYTES);
+        let mut slots = Vec::with_capacity(alloc, room)?;
+        let mut low = 0;
+        'slots: for _ in 0..count {
+            let slot = self.slot(low)?;
+            slots.push(slot)?;
+            low = slot.end();
+        }
+        Ok(slots)
+    }
+
+    #[tactic(auto, unfolding(crate::specs::Reading::result_format))]
+    fn returned(&mut self, low: u64) -> Result<Option<ResultSlot>, ImageFault>
+        ensures { (next : Option ResultSlotOf → Format) → Leads (result_format low next) next result self.old self.new }
+    {
+        if self.take(Field::HasResult)? == 0 {
+            return Ok(None);
+        }
+        let kind = KINDS[self.take(Field::Kind)? as usize];
+        let label = LABELS[self.take(Field::Label)? as usize];
+        let offset = self.take(Field::Offset(low))? as u32;
+        Ok(Some(ResultSlot {
+            kind,
+            label,
+            offset,
+        }))
+    }
+
+    /// So many code words.
+    fn words(&mut self, alloc: Global, count: u64) -> Result<Vec<u32>, ImageFault>
+        ensures { (next : List ℕ → Format)
+            → Leads (words_format count next) (λ words. next words.items) result self.old self.new }
+    {
+        let room = (count as usize).min(self.left.len() / WORD_BYTES);
+        let mut words = Vec::with_capacity(alloc, room)?;
+        'words: for _ in 0..count {
+            words.push(self.take(Field::Word)? as u32)?;
+        }
+        Ok(words)
+    }
+
+    /// Nothing is left.
+    #[tactic(auto, unfolding(crate::specs::Format::read_by))]
+    fn end(&self) -> Result<(), ImageFault>
+        ensures { (image : Fields)
+            → MatchResult result (λ _. ahead (ends image) self.now ≡ Ok image) (λ fault. FaultIs fault (ahead (ends image) self.now)) }
+    {
+        if self.left.is_empty() {
+            Ok(())
+        } else {
+            Err(self.fault(ImageRule::TrailingBytes))
+        }
+    }
+
+    /// All fields, behind which nothing is left.
+    #[tactic(auto, unfolding(crate::specs::Reading::image_format))]
+    fn fields(&mut self, alloc: Global) -> Result<ImageFields, ImageFault>
+        requires { AreBytes self.old.left.now }
+        ensures exact { IsUnlessMemory result (ahead image_format self.old) }
+        ensures allowed { IfOk result (λ image. IsImage image) }
+    {
+        self.take(Field::Magic)?;
+        self.take(Field::Version)?;
+        let profile = profile_of(self.take(Field::Profile)?);
+        let count = self.take(Field::ParameterCount)?;
+        let slots = self.slots(alloc, count)?;
+        let low = end_of(&slots);
+        let returned = self.returned(low)?;
+        let frame_bytes = self.take(Field::FrameBytes(layout_end(low, returned)))? as u32;
+        let max_steps = self.take(Field::MaxSteps)?;
+        let count = self.take(Field::WordCount)?;
+        let words = self.words(alloc, count)?;
+        self.end()?;
+        Ok(ImageFields::new(profile, slots, returned, frame_bytes, max_steps, words))
     }
 }
 
-impl From<AllocError> for ReadError {
-    ghost from_gives = { λ _ e. e ≡ Memory };
-
-    fn from(_: AllocError) -> Self {
-        ReadError::Memory
-    }
-}
-
-impl<T: Drop> From<AllocFailed<T>> for ReadError {
-    ghost from_gives = { λ _ e. e ≡ Memory };
-
-    fn from(_: AllocFailed<T>) -> Self {
-        ReadError::Memory
-    }
-}
-
-/// So many slots.
-fn read_slots(alloc: Global, count: u16, bytes: &[u8]) -> Result<(Vec<Slot>, &[u8]), ReadError>
-    ensures { Gives (λ x. (x.0.items, x.1.now)) result (slots_at count 0 bytes.now) }
+/// The number in so many bytes, the lowest first.
+fn number_in(bytes: &[u8], size: usize) -> u64
+    requires some { 1 ≤ size }
+    requires few { size ≤ 8 }
+    requires room { size ≤ length bytes.now }
+    ensures number { result ≡ little_number size bytes.now }
+    ensures fits { result < 256 ^ size }
 {
-    let room = usize::from(count).min(bytes.len() / PARAMETER_BYTES);
-    let mut slots = Vec::with_capacity(alloc, room)?;
-    let mut low = 0;
-    let mut rest = bytes;
-    'slots: for _ in 0..count {
-        let (slot, after) = read_slot(low, rest)?;
-        slots.push(slot)?;
-        low = slot.end();
-        rest = after;
-    }
-    Ok((slots, rest))
-}
-
-/// So many code words.
-fn read_words(alloc: Global, count: u32, bytes: &[u8]) -> Result<(Vec<u32>, &[u8]), ReadError>
-    ensures { Gives (λ x. (x.0.items, x.1.now)) result (words_at count bytes.now) }
-{
-    let room = (count as usize).min(bytes.len() / WORD_BYTES);
-    let mut words = Vec::with_capacity(alloc, room)?;
-    let mut rest = bytes;
-    'words: for _ in 0..count {
-        let (word, after) = read_u32(rest)?;
-        words.push(word)?;
-        rest = after;
-    }
-    Ok((words, rest))
+    LittleEndian::read_uint(bytes, size)
 }
 
 /// Where the last of the slots ends.
@@ -87,83 +175,13 @@ fn end_of(slots: &[Slot]) -> u64
     }
 }
 
-/// Where words lie.
-#[derive(Drop)]
-struct Layout {
-    slots: Vec<Slot>,
-    returned: Option<ResultSlot>,
-    frame_bytes: u32,
-}
-
-#[tactic(auto, unfolding(crate::specs::private::Parts::layout_at))]
-fn read_layout(alloc: Global, bytes: &[u8]) -> Result<(Layout, &[u8]), ReadError>
-    ensures { Gives (λ x. (layout_fields x.0, x.1.now)) result (layout_at bytes.now) }
+/// Where the result's slot ends, or where there is none the parameters' slots, which end at `low`.
+fn layout_end(low: u64, returned: Option<ResultSlot>) -> u64
+    ensures { result ≡ layout_end low returned }
 {
-    let (count, rest) = read_parameter_count(bytes)?;
-    let (slots, rest) = read_slots(alloc, count, rest)?;
-    let low = end_of(&slots);
-    let (returned, rest) = read_returned(low, rest)?;
-    let low = match returned {
+    match returned {
         None => low,
         Some(slot) => slot.end(),
-    };
-    let (frame_bytes, rest) = read_frame_bytes(low, rest)?;
-    let layout = Layout {
-        slots,
-        returned,
-        frame_bytes,
-    };
-    Ok((layout, rest))
-}
-
-/// What runs.
-#[derive(Drop)]
-struct CodePart {
-    max_steps: u64,
-    words: Vec<u32>,
-}
-
-#[tactic(auto, unfolding(crate::specs::private::Parts::code_at))]
-fn read_code(alloc: Global, bytes: &[u8]) -> Result<(CodePart, &[u8]), ReadError>
-    ensures { Gives (λ x. (code_fields x.0, x.1.now)) result (code_at bytes.now) }
-{
-    let (max_steps, rest) = read_max_steps(bytes)?;
-    let (count, rest) = read_word_count(rest)?;
-    let (words, rest) = read_words(alloc, count, rest)?;
-    Ok((CodePart { max_steps, words }, rest))
-}
-
-#[tactic(auto, unfolding(crate::specs::private::Parts::fields_at, crate::specs::private::Parts::all_of))]
-fn read_all(alloc: Global, bytes: &[u8]) -> Result<(Profile, Layout, CodePart), ReadError>
-    ensures { Gives (λ x. fields_of x.0 (layout_fields x.1) (code_fields x.2)) result (all_of bytes.now) }
-{
-    let (profile, rest) = read_preamble(bytes)?;
-    let (layout, rest) = read_layout(alloc, rest)?;
-    let (code, rest) = read_code(alloc, rest)?;
-    if !rest.is_empty() {
-        return Err(ReadError::Fault(fault_of(ImageRule::TrailingBytes, rest)));
-    }
-    Ok((profile, layout, code))
-}
-
-/// The image of these bytes, or the first fault and the offset of its field.
-fn image_of(alloc: Global, bytes: &[u8]) -> Result<Image, ImageFault>
-    ensures { IsUnlessMemory result (reading bytes.now) }
-{
-    match read_all(alloc, bytes) {
-        Ok((profile, layout, code)) => Ok(Image::new(ImageFields::new(
-            profile,
-            layout.slots,
-            layout.returned,
-            layout.frame_bytes,
-            code.max_steps,
-            code.words,
-        ))),
-        Err(ReadError::Memory) => Err(ImageFault::Memory),
-        Err(ReadError::Fault(fault)) => Err(ImageFault::Field {
-            rule: fault.rule,
-            offset: bytes.len().saturating_sub(fault.left),
-        }),
     }
 }
 
@@ -173,5 +191,9 @@ pub fn read(alloc: Global, bytes: &[u8]) -> Result<Image, ImageFault>
     ensures exact { IsUnlessMemory result (reading bytes.now) }
     ensures allowed { IfOk result (λ image. IsImage image) }
 {
-    image_of(alloc, bytes)
+    let mut reader = Reader {
+        total: bytes.len(),
+        left: bytes,
+    };
+    Ok(Image::new(reader.fields(alloc)?))
 }

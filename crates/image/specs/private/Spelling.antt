@@ -1,17 +1,20 @@
 -- The bytes of an image, as the writer puts them: its fields in order, each number with its lowest byte first.
-use Rattle.std.specs.Prelude.{ℕ, List, [], ◌∷◌, ◌++◌, length, Option, Some, None}
+use Rattle.std.specs.Prelude.{ℕ, List, ◌++◌, length, Option, Some, None}
 use Rattle.std.specs.List.{flat_map}
 use Rattle.byteorder.specs.Endian.{little_bytes}
+use Rattle.image.specs.Limits.{magic_number, format_version}
+use Rattle.image.specs.Reading.{row}
+use Rattle.image.specs.declared.field.Field.{Field}
+use Rattle.image.specs.declared.field.Field.TheVariants as fields
+use Rattle.image_fields.specs.Fields.{Fields}
+use Rattle.image_fields.specs.declared.slot.ResultSlot.{ResultSlot}
+use Rattle.image_fields.specs.declared.slot.Slot.{Slot}
+use Rattle.language.specs.declared.signature.Form.{Form}
+use Rattle.language.specs.declared.signature.Form.TheVariants.{SingleWord, FixedArray, MutableArray}
 use Rattle.language.specs.declared.signature.Kind.{Kind}
 use Rattle.language.specs.declared.signature.Kind.TheVariants.{Boolean, Uint8, Uint16, Uint32}
 use Rattle.language.specs.declared.signature.Label.{Label}
 use Rattle.language.specs.declared.signature.Label.TheVariants.{Public, Secret}
-use Rattle.language.specs.declared.signature.Form.{Form}
-use Rattle.language.specs.declared.signature.Form.TheVariants.{SingleWord, FixedArray, MutableArray}
-use Rattle.image_fields.specs.declared.slot.Slot.{Slot}
-use Rattle.image_fields.specs.declared.slot.ResultSlot.{ResultSlot}
-use Rattle.image_fields.specs.Fields.{Fields}
-use Rattle.image.specs.Limits.{magic_number, format_version}
 use Rattle.word.specs.declared.profile.Profile.{Profile}
 use Rattle.word.specs.declared.profile.Profile.TheVariants.{P1, P2}
 
@@ -34,31 +37,34 @@ form_code SingleWord = 0
 form_code FixedArray = 1
 form_code MutableArray = 2
 
--- magic, version and profile
-abbrev pub preamble : Profile → List ℕ
-preamble profile = little_bytes 4 magic_number ++ (little_bytes 2 format_version ++ little_bytes 2 (profile_number profile))
+-- the bytes of a field with a number
+abbrev pub spelled : Field → ℕ → List ℕ
+spelled kind n = little_bytes (row kind).size n
 
 abbrev pub spelled_slot : Slot → List ℕ
 spelled_slot slot =
-    (kind_code slot.param.kind ∷ label_code slot.param.label ∷ form_code slot.param.form ∷ [])
-    ++ (little_bytes 2 slot.param.length ++ little_bytes 4 slot.offset)
+    spelled fields.Kind (kind_code slot.param.kind)
+    ++ (spelled fields.Label (label_code slot.param.label)
+    ++ (spelled fields.Form (form_code slot.param.form)
+    ++ (spelled (fields.Length slot.param.form) slot.param.length ++ spelled (fields.Offset 0) slot.offset)))
 
 -- whether there is a result, and the result's slot where there is one
 abbrev pub spelled_result : Option ResultSlot → List ℕ
-spelled_result None = 0 ∷ []
-spelled_result (Some slot) = (1 ∷ kind_code slot.kind ∷ label_code slot.label ∷ []) ++ little_bytes 4 slot.offset
+spelled_result None = spelled fields.HasResult 0
+spelled_result (Some slot) =
+    spelled fields.HasResult 1
+    ++ (spelled fields.Kind (kind_code slot.kind)
+    ++ (spelled fields.Label (label_code slot.label) ++ spelled (fields.Offset 0) slot.offset))
 
--- where words lie
-abbrev pub spelled_layout : Fields → List ℕ
-spelled_layout fields =
-    little_bytes 2 (length fields.slots)
-    ++ (flat_map spelled_slot fields.slots ++ (spelled_result fields.returned ++ little_bytes 4 fields.frame_bytes))
-
--- what runs
-abbrev pub spelled_code : Fields → List ℕ
-spelled_code fields =
-    little_bytes 8 fields.max_steps
-    ++ (little_bytes 4 (length fields.words) ++ flat_map (λ word. little_bytes 4 word) fields.words)
-
+-- from the first field to the last
 abbrev pub spelling : Fields → List ℕ
-spelling fields = preamble fields.profile ++ (spelled_layout fields ++ spelled_code fields)
+spelling image =
+    spelled fields.Magic magic_number
+    ++ (spelled fields.Version format_version
+    ++ (spelled fields.Profile (profile_number image.profile)
+    ++ (spelled fields.ParameterCount (length image.slots)
+    ++ (flat_map spelled_slot image.slots
+    ++ (spelled_result image.returned
+    ++ (spelled (fields.FrameBytes 0) image.frame_bytes
+    ++ (spelled fields.MaxSteps image.max_steps
+    ++ (spelled fields.WordCount (length image.words) ++ flat_map (spelled fields.Word) image.words))))))))

@@ -1,6 +1,6 @@
 use Rattle.std.proofs.Common.{arith}
-use Rattle.image.proofs.Images.{is_allowed}
+use Rattle.image.proofs.Bytes.{all_bytes}
 use Rattle.image.proofs.reading.read.Goals as goal
 
-pub returns-clause-allowed : goal.returns-clause-allowed
-returns-clause-allowed c = is_allowed c.args.bytes.now c.image_of.result (λ i. omega (arith, c.type_inv.bytes i)) c.image_of.ensures
+pub fields-requires : goal.fields-requires
+fields-requires c = all_bytes c.args.bytes.now (λ i. omega (arith, c.type_inv.bytes i))
