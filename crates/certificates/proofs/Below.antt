@@ -11,9 +11,10 @@ pub use Rattle.arguments.proofs.FaultLemmas.{
   fault_from-passed,
 }
 pub use Rattle.arguments.proofs.ReadLemmas.{fault_by-map, map-more}
+pub use Rattle.certified_runs.proofs.Amounts.{some_amounts, shifts_agree}
 pub use Rattle.certified_runs.proofs.FirstEntry.{entries_in_common}
 pub use Rattle.certified_runs.proofs.OneEnd.{one_end}
-pub use Rattle.certified_runs.proofs.Runs.{every_run}
+pub use Rattle.certified_runs.proofs.Runs.{itself, every_run}
 pub use Rattle.hepurita.proofs.DataLemmas.{HoldsSlot-same, bytes_within, is_some-with_argument}
 pub use Rattle.hepurita.proofs.ElementLemmas.{number_there}
 pub use Rattle.hepurita.proofs.LoadLemmas.{no_slot, slots_hold}

@@ -5,12 +5,15 @@ use Rattle.std.proofs.Math.Seq.{take-append-add}
 use Rattle.std.proofs.lemmas.Bool.{cases_lt}
 use Rattle.std.proofs.lemmas.Option.{none-some, same_Some}
 use Rattle.arguments.specs.declared.fault.ArgumentFault.{ArgumentFault}
+use Rattle.certified_runs.specs.Amounts.{ShiftsBy}
 use Rattle.certified_runs.specs.Certified.{RunEnding, same, may_differ, CertifiedRun}
 use Rattle.certified_runs.specs.End.{end_of}
 use Rattle.certified_runs.specs.Known.{Covers}
 use Rattle.certified_runs.specs.declared.certifying.CertifiedEnd.{CertifiedEnd}
 use Rattle.certified_runs.specs.declared.certifying.CertifiedEnd.TheVariants.{Same, MayDiffer}
-use Rattle.certificates.proofs.Below.{entries_in_common, one_end, every_run, differ-apart}
+use Rattle.certified_runs.specs.declared.shifts.Shifts.{Shifts}
+use Rattle.certified_runs.specs.declared.shifts.Shifts.TheVariants.{Seen}
+use Rattle.certificates.proofs.Below.{entries_in_common, one_end, every_run, itself, some_amounts, shifts_agree, differ-apart}
 use Rattle.codegen.specs.Loaded.{params_of, code_at, loaded_at}
 use Rattle.hepurita.specs.Bases.{code_base, frame_base}
 use Rattle.hepurita.specs.Paired.{Observed, Paired, compared}
@@ -29,45 +32,60 @@ use Rattle.rv_machine.specs.declared.stops.Stop.{Stop}
 use Rattle.certificates.specs.Certified.{Certified, refused, out_of_memory, certified}
 use Rattle.certificates.specs.Given.{Completes}
 use Rattle.certificates.specs.KnownImage.{known_at}
-use Rattle.certificates.specs.Promised.{AllShow, AllBegin}
+use Rattle.certificates.specs.Promised.{AllShow, AllShiftBy, AllBegin}
 use Rattle.certificates.proofs.Covered.{loaded_covered}
 
 -- The certified run that a certificate is of.
 
-abbrev RunOf : Fields → List (Option Arg) → List Observation → RunEnding → Type 0
-RunOf image given seen ending = CertifiedRun (code_at code_base image) image.max_steps (known_at code_base frame_base image given) seen ending
+abbrev RunOf : Fields → List (Option Arg) → Shifts → List Observation → RunEnding → Type 0
+RunOf image given shifts seen ending = CertifiedRun (code_at code_base image) image.max_steps (known_at code_base frame_base image given shifts) seen ending
 
-abbrev IsOneList : Fields → List (Option Arg) → Stop → ℕ → Type 0
-IsOneList image given stop entries = (seen : List Observation) × RunOf image given seen (same stop) × (length (entries_of seen) ≡ entries)
+abbrev IsOneList : Fields → List (Option Arg) → Shifts → Stop → ℕ → Type 0
+IsOneList image given shifts stop entries = (seen : List Observation) × RunOf image given shifts seen (same stop) × (length (entries_of seen) ≡ entries)
 
-abbrev IsCutAt : Fields → List (Option Arg) → ℕ → ℕ → Type 0
-IsCutAt image given entry pc = (seen : List Observation) × RunOf image given seen (may_differ pc) × (length (entries_of seen) + 1 ≡ entry)
+abbrev IsCutAt : Fields → List (Option Arg) → Shifts → ℕ → ℕ → Type 0
+IsCutAt image given shifts entry pc = (seen : List Observation) × RunOf image given shifts seen (may_differ pc) × (length (entries_of seen) + 1 ≡ entry)
 
-same_of : (image : Fields) (given : List (Option Arg)) (answer : Result CertifiedEnd RunFault) (stop : Stop) (entries : ℕ) → Certified image given answer → answer ≡ Ok (Same stop entries) → IsOneList image given stop entries
-same_of image given answer stop entries (refused first) is = cc
-same_of image given answer stop entries (out_of_memory none) is = cc
-same_of image given answer stop entries (certified {seen = seen} {ending = same how} none run) is =
+same_of : (image : Fields) (given : List (Option Arg)) (shifts : Shifts) (answer : Result CertifiedEnd RunFault) (stop : Stop) (entries : ℕ) → Certified image given shifts answer → answer ≡ Ok (Same stop entries) → IsOneList image given shifts stop entries
+same_of image given shifts answer stop entries (refused first) is = cc
+same_of image given shifts answer stop entries (out_of_memory none) is = cc
+same_of image given shifts answer stop entries (certified {seen = seen} {ending = same how} none run) is =
     let stops : how ≡ stop = cc in
-    (seen, subst (λ x. RunOf image given seen (same x)) stops run, cc)
-same_of image given answer stop entries (certified {seen = seen} {ending = may_differ pc} none run) is = cc
+    (seen, subst (λ x. RunOf image given shifts seen (same x)) stops run, cc)
+same_of image given shifts answer stop entries (certified {seen = seen} {ending = may_differ pc} none run) is = cc
 
-cut_of : (image : Fields) (given : List (Option Arg)) (answer : Result CertifiedEnd RunFault) (entry pc : ℕ) → Certified image given answer → answer ≡ Ok (MayDiffer entry pc) → IsCutAt image given entry pc
-cut_of image given answer entry pc (refused first) is = cc
-cut_of image given answer entry pc (out_of_memory none) is = cc
-cut_of image given answer entry pc (certified {seen = seen} {ending = same stop} none run) is = cc
-cut_of image given answer entry pc (certified {seen = seen} {ending = may_differ at} none run) is =
+cut_of : (image : Fields) (given : List (Option Arg)) (shifts : Shifts) (answer : Result CertifiedEnd RunFault) (entry pc : ℕ) → Certified image given shifts answer → answer ≡ Ok (MayDiffer entry pc) → IsCutAt image given shifts entry pc
+cut_of image given shifts answer entry pc (refused first) is = cc
+cut_of image given shifts answer entry pc (out_of_memory none) is = cc
+cut_of image given shifts answer entry pc (certified {seen = seen} {ending = same stop} none run) is = cc
+cut_of image given shifts answer entry pc (certified {seen = seen} {ending = may_differ at} none run) is =
     let place : at ≡ pc = cc in
-    (seen, subst (λ x. RunOf image given seen (may_differ x)) place run, cc)
+    (seen, subst (λ x. RunOf image given shifts seen (may_differ x)) place run, cc)
 
-covered : (image : Fields) (given : List (Option Arg)) (args : List Arg) → IsImage image → Completes (params_of image) given args → Covers (known_at code_base frame_base image given) (loaded_at code_base frame_base image args)
-covered image given args allowed agree = loaded_covered code_base frame_base image given args allowed (omega (arith, allowed.frame_size)) agree
+covered : (image : Fields) (given : List (Option Arg)) (shifts : Shifts) (args : List Arg) → IsImage image → Completes (params_of image) given args → Covers (known_at code_base frame_base image given shifts) (loaded_at code_base frame_base image args)
+covered image given shifts args allowed agree = loaded_covered code_base frame_base image given shifts args allowed (omega (arith, allowed.frame_size)) agree
 
 -- Runs.
 
-pub all_show : (image : Fields) (given : List (Option Arg)) (stop : Stop) (entries : ℕ) → IsImage image → Certified image given (Ok (Same stop entries)) → (seen : List Observation) × (length (entries_of seen) ≡ entries) × AllShow image given seen stop
-all_show image given stop entries allowed is =
-    let run = same_of image given (Ok (Same stop entries)) stop entries is refl in
-    (run.0, run.2, λ args shown other agree ends. every_run run.1 (covered image given args allowed agree) ends.1.0 ends.1.1)
+pub all_show : (image : Fields) (given : List (Option Arg)) (shifts : Shifts) (stop : Stop) (entries : ℕ) → IsImage image → Certified image given shifts (Ok (Same stop entries)) → (seen : List Observation) × (length (entries_of seen) ≡ entries) × AllShow image given seen stop
+all_show image given shifts stop entries allowed is =
+    let run = same_of image given shifts (Ok (Same stop entries)) stop entries is refl in
+    (run.0, run.2, λ args shown other agree ends. every_run run.1 (covered image given shifts args allowed agree) ends.1.0 ends.1.1)
+
+-- where shifts are seen, by the amounts of one list
+pub all_shift : (image : Fields) (given : List (Option Arg)) (stop : Stop) (entries : ℕ) → IsImage image → Certified image given Seen (Ok (Same stop entries)) → (amounts : List ℕ) × AllShiftBy image given amounts
+all_shift image given stop entries allowed is =
+    let code = code_at code_base image in
+    let k = known_at code_base frame_base image given Seen in
+    let run = same_of image given Seen (Ok (Same stop entries)) stop entries is refl in
+    let list = some_amounts code image.max_steps k.state in (
+      list.0,
+      λ args agree.
+          let begun = loaded_at code_base frame_base image args in
+          let own = some_amounts code image.max_steps begun in
+          let one = shifts_agree run.1 refl (covered image given Seen args allowed agree) (itself k) own.1 list.1 in
+          subst (λ amounts. ShiftsBy code image.max_steps begun amounts) one own.1,
+    )
 
 -- what begins with some entries, and then one
 first_with : (all before rest : List Entry) (one : Entry) → all ≡ before ++ one ∷ rest → take (length (before ++ one ∷ [])) all ≡ before ++ one ∷ []
@@ -76,14 +94,14 @@ first_with all before rest one is =
     ∙ ap (take (length before + 1)) is
     ∙ take-append-add before (one ∷ rest) 1
 
-pub all_begin : (image : Fields) (given : List (Option Arg)) (entry pc : ℕ) → IsImage image → Certified image given (Ok (MayDiffer entry pc)) → (before : List Entry) × (length before + 1 ≡ entry) × AllBegin image given (before ++ program_counter pc ∷ [])
-all_begin image given entry pc allowed is =
-    let run = cut_of image given (Ok (MayDiffer entry pc)) entry pc is refl in
+pub all_begin : (image : Fields) (given : List (Option Arg)) (shifts : Shifts) (entry pc : ℕ) → IsImage image → Certified image given shifts (Ok (MayDiffer entry pc)) → (before : List Entry) × (length before + 1 ≡ entry) × AllBegin image given (before ++ program_counter pc ∷ [])
+all_begin image given shifts entry pc allowed is =
+    let run = cut_of image given shifts (Ok (MayDiffer entry pc)) entry pc is refl in
     let before = entries_of run.0 in (
       before,
       run.2,
       λ args shown stop agree ends.
-          let common = entries_in_common run.1 (covered image given args allowed agree) ends.1.0 ends.1.1 in
+          let common = entries_in_common run.1 (covered image given shifts args allowed agree) ends.1.0 ends.1.1 in
           first_with (entries_of shown) before common.0 (program_counter pc) common.1,
     )
 
@@ -101,9 +119,9 @@ is_same : (one other : List Entry) (pairing : Pairing) → one ≡ other → Com
 is_same one other pairings.Same equal compares = refl
 is_same one other (pairings.Differ place) equal compares = absurd (differ-apart one other place compares equal)
 
-pub pairs_same : (image : Fields) (given : List (Option Arg)) (stop : Stop) (entries : ℕ) (one other : List Arg) (pairing : Pairing) → IsImage image → Certified image given (Ok (Same stop entries)) → Completes (params_of image) given one → Completes (params_of image) given other → Paired image one other (Ok pairing) → pairing ≡ pairings.Same
-pairs_same image given stop entries one other pairing allowed is agree agree' paired =
-    let all = (all_show image given stop entries allowed is).2 in
+pub pairs_same : (image : Fields) (given : List (Option Arg)) (shifts : Shifts) (stop : Stop) (entries : ℕ) (one other : List Arg) (pairing : Pairing) → IsImage image → Certified image given shifts (Ok (Same stop entries)) → Completes (params_of image) given one → Completes (params_of image) given other → Paired image one other (Ok pairing) → pairing ≡ pairings.Same
+pairs_same image given shifts stop entries one other pairing allowed is agree agree' paired =
+    let all = (all_show image given shifts stop entries allowed is).2 in
     let both = comparison image one other (Ok pairing) pairing paired refl in
     let first = both.2 in
     let second = both.3 in
@@ -126,9 +144,9 @@ differ_late one other n place agree first =
     (λ (late : n ≤ place). late)
     (cases_lt place n)
 
-pub pairs_differ_late : (image : Fields) (given : List (Option Arg)) (entry pc : ℕ) (one other : List Arg) (place : ℕ) → IsImage image → Certified image given (Ok (MayDiffer entry pc)) → Completes (params_of image) given one → Completes (params_of image) given other → Paired image one other (Ok (pairings.Differ place)) → entry ≤ place
-pairs_differ_late image given entry pc one other place allowed is agree agree' paired =
-    let begin = all_begin image given entry pc allowed is in
+pub pairs_differ_late : (image : Fields) (given : List (Option Arg)) (shifts : Shifts) (entry pc : ℕ) (one other : List Arg) (place : ℕ) → IsImage image → Certified image given shifts (Ok (MayDiffer entry pc)) → Completes (params_of image) given one → Completes (params_of image) given other → Paired image one other (Ok (pairings.Differ place)) → entry ≤ place
+pairs_differ_late image given shifts entry pc one other place allowed is agree agree' paired =
+    let begin = all_begin image given shifts entry pc allowed is in
     let both = comparison image one other (Ok (pairings.Differ place)) (pairings.Differ place) paired refl in
     let first = both.2 in
     let second = both.3 in
@@ -139,24 +157,24 @@ pairs_differ_late image given entry pc one other place allowed is agree agree' p
 
 -- Listings.
 
-pub listings_same : (image : Fields) (given : List (Option Arg)) (stop : Stop) (entries : ℕ) (one other : List Arg) (stop' stop'' : Stop) (bytes bytes' : List ℕ) → IsImage image → Certified image given (Ok (Same stop entries)) → Completes (params_of image) given one → Completes (params_of image) given other → IsLeak image one stop' bytes → IsLeak image other stop'' bytes' → (bytes ≡ bytes') × (stop' ≡ stop) × (stop'' ≡ stop)
-listings_same image given stop entries one other stop' stop'' bytes bytes' allowed is agree agree' (seen, ends, listed) (seen', ends', listed') =
-    let all = (all_show image given stop entries allowed is).2 in
+pub listings_same : (image : Fields) (given : List (Option Arg)) (shifts : Shifts) (stop : Stop) (entries : ℕ) (one other : List Arg) (stop' stop'' : Stop) (bytes bytes' : List ℕ) → IsImage image → Certified image given shifts (Ok (Same stop entries)) → Completes (params_of image) given one → Completes (params_of image) given other → IsLeak image one stop' bytes → IsLeak image other stop'' bytes' → (bytes ≡ bytes') × (stop' ≡ stop) × (stop'' ≡ stop)
+listings_same image given shifts stop entries one other stop' stop'' bytes bytes' allowed is agree agree' (seen, ends, listed) (seen', ends', listed') =
+    let all = (all_show image given shifts stop entries allowed is).2 in
     let first = all one seen stop' agree ends in
     let second = all other seen' stop'' agree' ends' in
     (listed ∙ ap₂ listing (first.0 ∙ sym second.0) (first.1 ∙ sym second.1) ∙ sym listed', first.1, second.1)
 
 -- Answers.
 
-pub one_certification : (image : Fields) (given : List (Option Arg)) (a b : Result CertifiedEnd RunFault) → Certified image given a → Certified image given b → a ≢ Err Memory → b ≢ Err Memory → a ≡ b
-one_certification image given a b (refused {fault} first) (refused {fault = fault'} other) m m' =
+pub one_certification : (image : Fields) (given : List (Option Arg)) (shifts : Shifts) (a b : Result CertifiedEnd RunFault) → Certified image given shifts a → Certified image given shifts b → a ≢ Err Memory → b ≢ Err Memory → a ≡ b
+one_certification image given shifts a b (refused {fault} first) (refused {fault = fault'} other) m m' =
     let one : fault ≡ fault' = same_Some fault fault' (sym first ∙ other) in
     ap (λ (f : ArgumentFault). Err (Argument f.rule f.index)) one
-one_certification image given a b (refused first) (out_of_memory none) m m' = absurd (m' refl)
-one_certification image given a b (refused first) (certified none run) m m' = absurd (none-some _ (sym none ∙ first))
-one_certification image given a b (out_of_memory none) then m m' = absurd (m refl)
-one_certification image given a b (certified none run) (refused first) m m' = absurd (none-some _ (sym none ∙ first))
-one_certification image given a b (certified none run) (out_of_memory none') m m' = absurd (m' refl)
-one_certification image given a b (certified none run) (certified none' run') m m' =
+one_certification image given shifts a b (refused first) (out_of_memory none) m m' = absurd (m' refl)
+one_certification image given shifts a b (refused first) (certified none run) m m' = absurd (none-some _ (sym none ∙ first))
+one_certification image given shifts a b (out_of_memory none) then m m' = absurd (m refl)
+one_certification image given shifts a b (certified none run) (refused first) m m' = absurd (none-some _ (sym none ∙ first))
+one_certification image given shifts a b (certified none run) (out_of_memory none') m m' = absurd (m' refl)
+one_certification image given shifts a b (certified none run) (certified none' run') m m' =
     let both = one_end run run' in
     ap₂ (λ (seen : List Observation) ending. Ok (end_of seen ending)) both.0 both.1

@@ -6,6 +6,7 @@ use Rattle.std.proofs.Math.Nat.{mul-suc}
 use Rattle.std.proofs.lemmas.Bool.{cases_eq, cases_lt, le-leb, lt-leb, lt-ltb, le-ltb, false≢true}
 use Rattle.arguments.specs.Within.{HasShape, AreWithin}
 use Rattle.certified_runs.specs.Known.{with_bytes_known, Covers}
+use Rattle.certified_runs.specs.declared.shifts.Shifts.{Shifts}
 use Rattle.codegen.specs.Loaded.{params_of, with_numbers, with_argument, with_arguments, loaded_at}
 use Rattle.hepurita.specs.Frames.{HoldsSlot}
 use Rattle.certificates.proofs.Below.{HoldsSlot-same, is_some-with_argument, slots_hold, with_number-zero, with_number-suc, with_byte_same, with_byte_other, with_number_below, with_number_above}
@@ -133,8 +134,8 @@ module _ (frame : ℕ) where
       let kept' = is_some-with_argument frame new slot (HoldsSlot-same frame old new slot same held.0) arg within.0.shape in
       same_extent old (with_argument frame new slot arg) slots fits within.1 held.1 (λ y. kept' y ∙ same y) x
 
-pub loaded_covered : (code frame : ℕ) (image : Fields) (given : List (Option Arg)) (args : List Arg) → IsImage image → frame + image.frame_bytes < 2 ^ 32 → Completes (params_of image) given args → Covers (known_at code frame image given) (loaded_at code frame image args)
-loaded_covered code frame image given args allowed below agree =
+pub loaded_covered : (code frame : ℕ) (image : Fields) (given : List (Option Arg)) (shifts : Shifts) (args : List Arg) → IsImage image → frame + image.frame_bytes < 2 ^ 32 → Completes (params_of image) given args → Covers (known_at code frame image given shifts) (loaded_at code frame image args)
+loaded_covered code frame image given shifts args allowed below agree =
     let begun = zeros frame image.frame_bytes in
     let held = slots_hold frame image.frame_bytes image.slots allowed.slots_inside below in
     record {

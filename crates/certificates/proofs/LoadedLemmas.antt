@@ -10,6 +10,7 @@ use Rattle.arguments.specs.Faults.{fault_from}
 use Rattle.arguments.specs.Within.{HasShape}
 use Rattle.certified_runs.specs.Known.{Known, with_bytes_known}
 use Rattle.certified_runs.specs.Parts.{is_known_mark, known_bytes}
+use Rattle.certified_runs.specs.declared.shifts.Shifts.{Shifts}
 use Rattle.hepurita.specs.Frames.{HoldsSlot}
 use Rattle.image_fields.specs.Fields.{slot_bytes}
 use Rattle.image_fields.specs.declared.slot.Slot.{Slot}
@@ -129,5 +130,5 @@ as_many slots given none = (fault_by-None rule_of_given (params_in slots) given 
 pub fresh_known : (frame n : ℕ) → known_bytes (zeros frame n) ≡ (λ a. is_some (zeros frame n a))
 fresh_known frame n = fun_ext (λ a. elim (nat_le frame a && nat_lt a (frame + n)) as (λ t. is_known_mark (cond t (Some 0) None) ≡ is_some {T = ℕ} (cond t (Some 0) None)) [ true ↦ refl | false ↦ refl ])
 
-pub same_known : (p p' : ℕ) (r r' : ℕ → ℕ) (b b' : ByteMap) (f f' k k' : ℕ → Bool) → p ≡ p' → r ≡ r' → b ≡ b' → f ≡ f' → k ≡ k' → ◌≡◌ {A = Known} (record { state = record { pc = p; regs = r; bytes = b }; registers = f; bytes = k }) (record { state = record { pc = p'; regs = r'; bytes = b' }; registers = f'; bytes = k' })
-same_known p p' r r' b b' f f' k k' pcs regs bytes flags known = cc
+pub same_known : (p p' : ℕ) (r r' : ℕ → ℕ) (b b' : ByteMap) (f f' k k' : ℕ → Bool) (w w' : Shifts) → p ≡ p' → r ≡ r' → b ≡ b' → f ≡ f' → k ≡ k' → w ≡ w' → ◌≡◌ {A = Known} (record { state = record { pc = p; regs = r; bytes = b }; registers = f; bytes = k; shifts = w }) (record { state = record { pc = p'; regs = r'; bytes = b' }; registers = f'; bytes = k'; shifts = w' })
+same_known p p' r r' b b' f f' k k' w w' pcs regs bytes flags known shifts = cc

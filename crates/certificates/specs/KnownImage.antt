@@ -2,6 +2,7 @@
 -- not given.
 use Rattle.std.specs.Prelude.{ℕ, ◌+◌, ◌*◌, Bool, true, false, List, [], ◌∷◌, Option, Some, None, is_some}
 use Rattle.certified_runs.specs.Known.{Known, with_bytes_known}
+use Rattle.certified_runs.specs.declared.shifts.Shifts.{Shifts}
 use Rattle.codegen.specs.Loaded.{with_argument}
 use Rattle.image_fields.specs.Fields.{Fields}
 use Rattle.image_fields.specs.declared.slot.Slot.{Slot}
@@ -43,9 +44,9 @@ known_with_given frame known (slot ∷ slots) [] = known
 known_with_given frame known (slot ∷ slots) (one ∷ given) = known_with_given frame (known_with_one frame known slot one) slots given
 
 -- loaded as an image is with arguments: all registers are known, and the frame's bytes but those of arguments that are not given, where
--- zeros stand
-abbrev pub known_at : ℕ → ℕ → Fields → List (Option Arg) → Known
-known_at code_base frame_base image given = record {
+-- zeros stand; and amounts of shifts are seen or not
+abbrev pub known_at : ℕ → ℕ → Fields → List (Option Arg) → Shifts → Known
+known_at code_base frame_base image given shifts = record {
   state = record {
     pc = code_base;
     regs = initial_registers frame_base;
@@ -53,4 +54,5 @@ known_at code_base frame_base image given = record {
   };
   registers = λ r. true;
   bytes = known_with_given frame_base (λ a. is_some (zeros frame_base image.frame_bytes a)) image.slots given;
+  shifts = shifts;
 }

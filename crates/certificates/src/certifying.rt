@@ -3,23 +3,29 @@
 ghost use Rattle.certificates.specs.Certified.{Certified};
 
 use crate::faults::first_fault;
-use crate::loading::load;
-use certified_runs::{CertifiedEnd as Certificate, certify as certify_run};
+use crate::loading::load_given;
+use certified_runs::{CertifiedEnd as Certificate, Shifts, certify as certify_run};
 use hepurita::{RunFault, code};
 use image::Image;
 use language::Arg;
 use std::alloc::Global;
 
 /// Runs an image once for all arguments that have the given values, and answers whether an observer sees the same of all of them.
-/// An argument that is not given stands for every value of its type; it may be that of a secret parameter alone. What is
-/// given is refused by its first fault, before memory is asked for, and once the image is loaded the run takes no memory.
-pub fn certify(alloc: Global, image: &Image, given: &[Option<Arg>]) -> Result<Certificate, RunFault>
-    ensures { Certified image.now given.now result }
+/// An argument that is not given stands for every value of its type; it may be that of a secret parameter alone. Where
+/// shifts are seen, the observer also sees the amount of each shift by a register. What is given is refused by its first
+/// fault, before memory is asked for, and once the image is loaded the run takes no memory.
+pub fn certify(
+    alloc: Global,
+    image: &Image,
+    given: &[Option<Arg>],
+    shifts: Shifts,
+) -> Result<Certificate, RunFault>
+    ensures { Certified image.now given.now shifts result }
 {
     if let Some(fault) = first_fault(image.slots(), given) {
         return Err(RunFault::from(fault));
     }
     let code = code(alloc, image)?;
-    let mut loaded = load(alloc, image, given)?;
+    let mut loaded = load_given(alloc, image, given, shifts)?;
     Ok(certify_run(&code, &mut loaded.run, &mut loaded.known))
 }

@@ -12,10 +12,11 @@ mod laws;
 mod loading;
 mod reading;
 
-pub use certified_runs::CertifiedEnd as Certificate;
+pub use certified_runs::{CertifiedEnd as Certificate, Shifts};
 pub use certifying::certify;
 pub use laws::{
     certificates_hold, certifications_agree, known_images_cover,
     pairs_and_listings_are_as_certified,
 };
+pub use loading::{Loaded, load_given};
 pub use reading::read_given;

@@ -11,7 +11,7 @@ ghost use Rattle.rv_machine.specs.Paged.{paged_bytes};
 ghost use Rattle.certificates.specs.Given.{fault_of_given};
 ghost use Rattle.certificates.specs.KnownImage.{argument_bytes, with_given, known_with_given, known_at};
 
-use certified_runs::KnownParts;
+use certified_runs::{KnownParts, Shifts};
 use hepurita::{CODE_BASE, FRAME_BASE, frame, put_argument};
 use image::Image;
 use image_fields::Slot;
@@ -40,6 +40,7 @@ fn forget_bytes<M: Memory>(known: &mut KnownParts<M>, at: u32, bytes: u32)
     ensures bytes { known_bytes (M.bytes known.new.marks) ≡ with_bytes_known (known_bytes (M.bytes known.old.marks)) bytes at false }
     ensures extent { (x : ℕ) → is_some (M.bytes known.new.marks x) ≡ is_some (M.bytes known.old.marks x) }
     ensures registers { known.new.registers ≡ known.old.registers }
+    ensures shifts { known.new.shifts ≡ known.old.shifts }
 {
     for index in 0..bytes {
         known.set_bytes(at + index, Size::Byte, false);
@@ -58,6 +59,7 @@ fn forget_unknown<M: Memory>(
     ensures bytes { known_bytes (M.bytes known.new.marks) ≡ known_with_given frame (known_bytes (M.bytes known.old.marks)) slots.now given.now }
     ensures extent { (x : ℕ) → is_some (M.bytes known.new.marks x) ≡ is_some (M.bytes known.old.marks x) }
     ensures registers { known.new.registers ≡ known.old.registers }
+    ensures shifts { known.new.shifts ≡ known.old.shifts }
 {
     for (index, slot) in slots.iter().enumerate() {
         if given[index].is_none() {
@@ -82,26 +84,28 @@ fn put_given<M: Memory>(memory: &mut M, frame: u32, slots: &[Slot], given: &[Opt
 
 /// A run that has not begun yet, and what is known of its state.
 #[derive(Drop)]
-pub(crate) struct Loaded {
-    pub(crate) run: Running<PagedMemory>,
-    pub(crate) known: KnownParts<PagedMemory>,
+pub struct Loaded {
+    pub run: Running<PagedMemory>,
+    pub known: KnownParts<PagedMemory>,
 }
 
-/// An image, at the standard bases, with what is given of its arguments, which has no fault.
-pub(crate) fn load(
+/// An image, at the standard bases, with what is given of its arguments, which has no fault, and zeros for the others,
+/// for an observer who sees amounts of shifts or not.
+pub fn load_given(
     alloc: Global,
     image: &Image,
     given: &[Option<Arg>],
+    shifts: Shifts,
 ) -> Result<Loaded, AllocError>
     requires { fault_of_given (params_of image.now) given.now ≡ None }
-    ensures known { IfOk result (λ loaded. known_of (state_of loaded.run.hart (paged_bytes loaded.run.memory)) loaded.known.registers (paged_bytes loaded.known.marks)
-        ≡ known_at code_base frame_base image.now given.now) }
+    ensures known { IfOk result (λ loaded. known_of (state_of loaded.run.hart (paged_bytes loaded.run.memory)) loaded.known.registers (paged_bytes loaded.known.marks) loaded.known.shifts
+        ≡ known_at code_base frame_base image.now given.now shifts) }
     ensures extent { IfOk result (λ loaded. (a : ℕ) → is_some (paged_bytes loaded.known.marks a) ≡ is_some (paged_bytes loaded.run.memory a)) }
     ensures steps { IfOk result (λ loaded. loaded.run.turns_left ≡ image.now.max_steps) }
 {
     let mut memory = frame(alloc, image)?;
     put_given(&mut memory, FRAME_BASE, image.slots(), given);
-    let mut known = KnownParts::new(frame(alloc, image)?);
+    let mut known = KnownParts::new(frame(alloc, image)?, shifts);
     forget_unknown(&mut known, FRAME_BASE, image.slots(), given);
     Ok(Loaded {
         run: Running {

@@ -104,7 +104,7 @@ abbrev pub at_same_place : Known → (ℕ → ℕ) → ByteMap → State
 at_same_place k regs bytes = at_place k.state.pc regs bytes
 
 module _ (k : Known) (regs : ℕ → ℕ) (bytes : ByteMap) (covers : Covers k (at_same_place k regs bytes)) where
-  value_covered : (rd v v' : ℕ) (now : Bool) → (now ≡ true → v' ≡ v) → Covers (record { state = with_value k.state rd v; registers = with_register_known k.registers rd now; bytes = k.bytes }) (with_value (at_same_place k regs bytes) rd v')
+  value_covered : (rd v v' : ℕ) (now : Bool) → (now ≡ true → v' ≡ v) → Covers (record { state = with_value k.state rd v; registers = with_register_known k.registers rd now; bytes = k.bytes; shifts = k.shifts }) (with_value (at_same_place k regs bytes) rd v')
   unfolding with_value
   value_covered rd v v' now value = record {
     pc = refl;
@@ -113,7 +113,7 @@ module _ (k : Known) (regs : ℕ → ℕ) (bytes : ByteMap) (covers : Covers k (
     bytes = covers.bytes;
   }
 
-  link_covered : (rd target target' : ℕ) → target' ≡ target → Covers (record { state = with_link k.state rd target; registers = with_register_known k.registers rd true; bytes = k.bytes }) (with_link (at_same_place k regs bytes) rd target')
+  link_covered : (rd target target' : ℕ) → target' ≡ target → Covers (record { state = with_link k.state rd target; registers = with_register_known k.registers rd true; bytes = k.bytes; shifts = k.shifts }) (with_link (at_same_place k regs bytes) rd target')
   unfolding with_link
   link_covered rd target target' same = record {
     pc = same;
@@ -122,11 +122,11 @@ module _ (k : Known) (regs : ℕ → ℕ) (bytes : ByteMap) (covers : Covers k (
     bytes = covers.bytes;
   }
 
-  move_covered : (target : ℕ) → Covers (record { state = moved_to k.state target; registers = k.registers; bytes = k.bytes }) (moved_to (at_same_place k regs bytes) target)
+  move_covered : (target : ℕ) → Covers (record { state = moved_to k.state target; registers = k.registers; bytes = k.bytes; shifts = k.shifts }) (moved_to (at_same_place k regs bytes) target)
   unfolding moved_to
   move_covered target = record { pc = refl; registers = covers.registers; extent = covers.extent; bytes = covers.bytes }
 
-  store_covered : (size : Size) (a v v' : ℕ) (now : Bool) → (now ≡ true → v' ≡ v) → is_some (number_at k.state.bytes (byte_count size) a) ≡ true → is_some (number_at bytes (byte_count size) a) ≡ true → Covers (record { state = with_stored k.state size a v; registers = k.registers; bytes = with_bytes_known k.bytes (byte_count size) a now }) (with_stored (at_same_place k regs bytes) size a v')
+  store_covered : (size : Size) (a v v' : ℕ) (now : Bool) → (now ≡ true → v' ≡ v) → is_some (number_at k.state.bytes (byte_count size) a) ≡ true → is_some (number_at bytes (byte_count size) a) ≡ true → Covers (record { state = with_stored k.state size a v; registers = k.registers; bytes = with_bytes_known k.bytes (byte_count size) a now; shifts = k.shifts }) (with_stored (at_same_place k regs bytes) size a v')
   unfolding with_stored
   store_covered size a v v' now value there there' = record {
     pc = refl;
@@ -137,14 +137,14 @@ module _ (k : Known) (regs : ℕ → ℕ) (bytes : ByteMap) (covers : Covers k (
 
   load_kept : (operation : LoadOperation) (rd rs1 offset a n : ℕ) (now : Bool) (value value' : Option ℕ) → registers_after (Load operation rd rs1 offset) k ≡ with_register_known k.registers rd now → is_some value' ≡ is_some value → (now ≡ true → value' ≡ value) → IsKept (Load operation rd rs1 offset) k (loaded k.state operation a rd value) (loaded (at_same_place k regs bytes) operation a rd value')
   load_kept operation rd rs1 offset a n now (Some v) (Some v') is extent same =
-      (refl, subst (λ known. Covers (record { state = with_value k.state rd (loaded_value operation v); registers = known; bytes = k.bytes }) (with_value (at_same_place k regs bytes) rd (loaded_value operation v'))) (sym is) (value_covered rd (loaded_value operation v) (loaded_value operation v') now (λ h. ap (loaded_value operation) (same_Some v' v (same h)))))
+      (refl, subst (λ known. Covers (record { state = with_value k.state rd (loaded_value operation v); registers = known; bytes = k.bytes; shifts = k.shifts }) (with_value (at_same_place k regs bytes) rd (loaded_value operation v'))) (sym is) (value_covered rd (loaded_value operation v) (loaded_value operation v') now (λ h. ap (loaded_value operation) (same_Some v' v (same h)))))
   load_kept operation rd rs1 offset a n now (Some v) None is extent same = absurd (false≢true extent)
   load_kept operation rd rs1 offset a n now None (Some v') is extent same = absurd (false≢true (sym extent))
   load_kept operation rd rs1 offset a n now None None is extent same = refl
 
   store_kept : (i : Instr) (size : Size) (a v v' : ℕ) (now : Bool) (old old' : Option ℕ) → registers_after i k ≡ k.registers → bytes_after i k ≡ with_bytes_known k.bytes (byte_count size) a now → (now ≡ true → v' ≡ v) → number_at k.state.bytes (byte_count size) a ≡ old → number_at bytes (byte_count size) a ≡ old' → is_some old' ≡ is_some old → IsKept i k (stored k.state size a v old) (stored (at_same_place k regs bytes) size a v' old')
   store_kept i size a v v' now (Some old) (Some old') is is' value there there' extent =
-      (refl, subst (λ known. Covers (record { state = with_stored k.state size a v; registers = known; bytes = bytes_after i k }) (with_stored (at_same_place k regs bytes) size a v')) (sym is) (subst (λ known. Covers (record { state = with_stored k.state size a v; registers = k.registers; bytes = known }) (with_stored (at_same_place k regs bytes) size a v')) (sym is') (store_covered size a v v' now value (ap is_some there) (ap is_some there'))))
+      (refl, subst (λ known. Covers (record { state = with_stored k.state size a v; registers = known; bytes = bytes_after i k; shifts = k.shifts }) (with_stored (at_same_place k regs bytes) size a v')) (sym is) (subst (λ known. Covers (record { state = with_stored k.state size a v; registers = k.registers; bytes = known; shifts = k.shifts }) (with_stored (at_same_place k regs bytes) size a v')) (sym is') (store_covered size a v v' now value (ap is_some there) (ap is_some there'))))
   store_kept i size a v v' now (Some old) None is is' value there there' extent = absurd (false≢true extent)
   store_kept i size a v v' now None (Some old') is is' value there there' extent = absurd (false≢true (sym extent))
   store_kept i size a v v' now None None is is' value there there' extent = refl
@@ -152,9 +152,9 @@ module _ (k : Known) (regs : ℕ → ℕ) (bytes : ByteMap) (covers : Covers k (
   branch_kept : (i : Instr) (profile : Profile) (b : Bool) (target : ℕ) → registers_after i k ≡ k.registers → bytes_after i k ≡ k.bytes → IsKept i k (ending_of profile (cond b (Branches target) Passes) k.state) (ending_of profile (cond b (Branches target) Passes) (at_same_place k regs bytes))
   unfolding ending_of
   branch_kept i profile true target is is' =
-      either_kept i k (nat_eq (target % 4) 0) _ _ _ _ (refl, subst (λ known. Covers (record { state = moved_to k.state target; registers = known; bytes = bytes_after i k }) (moved_to (at_same_place k regs bytes) target)) (sym is) (subst (λ known. Covers (record { state = moved_to k.state target; registers = k.registers; bytes = known }) (moved_to (at_same_place k regs bytes) target)) (sym is') (move_covered target))) refl
+      either_kept i k (nat_eq (target % 4) 0) _ _ _ _ (refl, subst (λ known. Covers (record { state = moved_to k.state target; registers = known; bytes = bytes_after i k; shifts = k.shifts }) (moved_to (at_same_place k regs bytes) target)) (sym is) (subst (λ known. Covers (record { state = moved_to k.state target; registers = k.registers; bytes = known; shifts = k.shifts }) (moved_to (at_same_place k regs bytes) target)) (sym is') (move_covered target))) refl
   branch_kept i profile false target is is' =
-      (refl, subst (λ known. Covers (record { state = moved_to k.state (next k.state); registers = known; bytes = bytes_after i k }) (moved_to (at_same_place k regs bytes) (next k.state))) (sym is) (subst (λ known. Covers (record { state = moved_to k.state (next k.state); registers = k.registers; bytes = known }) (moved_to (at_same_place k regs bytes) (next k.state))) (sym is') (move_covered (next k.state))))
+      (refl, subst (λ known. Covers (record { state = moved_to k.state (next k.state); registers = known; bytes = bytes_after i k; shifts = k.shifts }) (moved_to (at_same_place k regs bytes) (next k.state))) (sym is) (subst (λ known. Covers (record { state = moved_to k.state (next k.state); registers = k.registers; bytes = known; shifts = k.shifts }) (moved_to (at_same_place k regs bytes) (next k.state))) (sym is') (move_covered (next k.state))))
 
   product_kept : (profile : Profile) (known : Bool) (a b a' b' : ℕ) → decides_product profile known ≡ true → (known ≡ true → (a' ≡ a) × (b' ≡ b)) → product_shown profile a' b' ≡ product_shown profile a b
   product_kept P1 known a b a' b' h same = refl
@@ -164,7 +164,7 @@ module _ (k : Known) (regs : ℕ → ℕ) (bytes : ByteMap) (covers : Covers k (
   both_same r1 r2 h = let both = and_parts (knows k.registers r1) (knows k.registers r2) h in (covers.registers r1 both.0, covers.registers r2 both.1)
 
   -- the turn of an instruction of which all is known that decides
-  effect_kept : (profile : Profile) (i : Instr) → decides profile i k.registers ≡ true → IsKept i k (ending_of profile (effect_of i k.state.pc k.state.regs) k.state) (ending_of profile (effect_of i k.state.pc regs) (at_same_place k regs bytes))
+  effect_kept : (profile : Profile) (i : Instr) → decides profile k.shifts i k.registers ≡ true → IsKept i k (ending_of profile (effect_of i k.state.pc k.state.regs) k.state) (ending_of profile (effect_of i k.state.pc regs) (at_same_place k regs bytes))
   unfolding ending_of
   effect_kept profile (Upper operation rd immediate) h = (refl, value_covered rd _ _ true (λ e. refl))
   effect_kept profile (Jump rd offset) h =
@@ -199,7 +199,7 @@ module _ (k : Known) (regs : ℕ → ℕ) (bytes : ByteMap) (covers : Covers k (
   effect_kept profile Ebreak h = refl
 
 -- of any covered state
-pub turn_kept : (k : Known) (s : State) → Covers k s → (profile : Profile) (i : Instr) → decides profile i k.registers ≡ true → IsKept i k (ending_of profile (effect_of i k.state.pc k.state.regs) k.state) (ending_of profile (effect_of i s.pc s.regs) s)
+pub turn_kept : (k : Known) (s : State) → Covers k s → (profile : Profile) (i : Instr) → decides profile k.shifts i k.registers ≡ true → IsKept i k (ending_of profile (effect_of i k.state.pc k.state.regs) k.state) (ending_of profile (effect_of i s.pc s.regs) s)
 turn_kept k s covers profile i h =
     let same : s ≡ at_same_place k s.regs s.bytes = ap (λ (pc : ℕ). at_place pc s.regs s.bytes) covers.pc in
     let there : Covers k (at_same_place k s.regs s.bytes) = record { pc = refl; registers = covers.registers; extent = covers.extent; bytes = covers.bytes } in

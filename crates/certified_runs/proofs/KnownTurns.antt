@@ -23,6 +23,7 @@ use Rattle.word.specs.declared.profile.Profile.{Profile}
 use Rattle.certified_runs.specs.Certified as certified
 use Rattle.certified_runs.specs.Certified.{decides, registers_after, bytes_after, KnownTurn, decided, leads_on, ends}
 use Rattle.certified_runs.specs.Known.{Known}
+use Rattle.certified_runs.specs.declared.shifts.Shifts.{Shifts}
 use Rattle.certified_runs.proofs.Covering.{number_extent}
 use Rattle.certified_runs.specs.private.Changes.{accessed, StoresData}
 use Rattle.certified_runs.specs.private.Turned.{HaveOneExtent, HasTurned}
@@ -75,21 +76,21 @@ stopped_so turn stopped calm = turn
 stopped_so turn (refused shows) calm = absurd (calm refl)
 
 -- what is known is its parts
-same_known : (t : State) {r r' b b' : ℕ → Bool} → r ≡ r' → b ≡ b' → ◌≡◌ {A = Known} (record { state = t; registers = r; bytes = b }) (record { state = t; registers = r'; bytes = b' })
-same_known t same_registers same_bytes = cc
+same_known : (t : State) {r r' b b' : ℕ → Bool} {w w' : Shifts} → r ≡ r' → b ≡ b' → w ≡ w' → ◌≡◌ {A = Known} (record { state = t; registers = r; bytes = b; shifts = w }) (record { state = t; registers = r'; bytes = b'; shifts = w' })
+same_known t same_registers same_bytes same_shifts = cc
 
-module _ (code : Code) (k : Known) (i : Instr) (at : IsAt code k.state.pc i) (sure : decides code.profile i k.registers ≡ true) where
+module _ (code : Code) (k : Known) (i : Instr) (at : IsAt code k.state.pc i) (sure : decides code.profile k.shifts i k.registers ≡ true) where
   -- the turn went on, and the change of its instruction was made
-  pub has_led : (t : State) (registers bytes : ℕ → Bool) (ending : Ending) (seen : List Observation) (entries : ℕ) → Turn code k.state ending → Done k.state ending None t seen
-      → registers ≡ registers_after i k → bytes ≡ bytes_after i k → length (entries_of seen) ≡ entries → HasTurned code k (LeadsOn entries) (record { state = t; registers = registers; bytes = bytes })
-  has_led t registers bytes ending seen entries turn (went_on {o = o}) is is' many =
-      (o, subst (λ n. KnownTurn code k (leads_on o n)) (sym (same_known t is is')) (decided i at sure turn), many)
+  pub has_led : (t : State) (registers bytes : ℕ → Bool) (shifts : Shifts) (ending : Ending) (seen : List Observation) (entries : ℕ) → Turn code k.state ending → Done k.state ending None t seen
+      → registers ≡ registers_after i k → bytes ≡ bytes_after i k → shifts ≡ k.shifts → length (entries_of seen) ≡ entries → HasTurned code k (LeadsOn entries) (record { state = t; registers = registers; bytes = bytes; shifts = shifts })
+  has_led t registers bytes shifts ending seen entries turn (went_on {o = o}) is is' as_seen many =
+      (o, subst (λ n. KnownTurn code k (leads_on o n)) (sym (same_known t is is' as_seen)) (decided i at sure turn), many)
 
   -- the turn stopped
   pub has_stopped : (t : State) (next : Known) (ending : Ending) (stop : Stop) (seen : List Observation) (entries : ℕ) → Turn code k.state ending → Done k.state ending (Some stop) t seen
       → Some stop ≢ Some RecorderRefused → length (entries_of seen) ≡ entries → HasTurned code k (Ends entries stop) next
   has_stopped t next ending stop seen entries turn done calm many =
-      (seen, certified.stopped (λ j there. subst (λ x. decides code.profile x k.registers ≡ true) (one_instruction at there) sure) (stopped_so turn done calm), many)
+      (seen, certified.stopped (λ j there. subst (λ x. decides code.profile k.shifts x k.registers ≡ true) (one_instruction at there) sure) (stopped_so turn done calm), many)
 
   -- what is stored where the turn goes on is data
   pub led_stores : (marks : ByteMap) (t : State) (ending : Ending) (seen : List Observation) → HaveOneExtent marks k.state.bytes → Turn code k.state ending → Done k.state ending None t seen → StoresData marks i (accessed i k.state.regs)

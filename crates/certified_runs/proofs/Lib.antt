@@ -1,3 +1,4 @@
+pub mod Amounts
 mod Below
 pub mod Covering
 pub mod Ends

@@ -13,9 +13,9 @@ use Rattle.certified_runs.specs.Certified.{decides, known_after, KnownEnding, le
 use Rattle.certified_runs.proofs.KnownTurns.{one_instruction}
 
 -- what decides an instruction at the program counter is known or not
-unsure : (code : Code) (k : Known) (i j : Instr) → IsAt code k.state.pc i → IsAt code k.state.pc j → decides code.profile i k.registers ≡ true → decides code.profile j k.registers ≡ false → ⊥
+unsure : (code : Code) (k : Known) (i j : Instr) → IsAt code k.state.pc i → IsAt code k.state.pc j → decides code.profile k.shifts i k.registers ≡ true → decides code.profile k.shifts j k.registers ≡ false → ⊥
 unsure code k i j at at' sure unknown =
-    false≢true (sym (subst (λ x. decides code.profile x k.registers ≡ false) (sym (one_instruction at at')) unknown) ∙ sure)
+    false≢true (sym (subst (λ x. decides code.profile k.shifts x k.registers ≡ false) (sym (one_instruction at at')) unknown) ∙ sure)
 
 -- what is known has one turn
 pub KnownTurn-determined : {code : Code} {k : Known} {e f : KnownEnding} → KnownTurn code k e → KnownTurn code k f → e ≡ f
@@ -54,12 +54,12 @@ one_end {code} (turns {n = n} {next = next} {o = o} {seen = seen} turn rest) (tu
 -- Every certified run has an end.
 
 module _ (code : Code) (k : Known) where
-  turn_made : (i : Instr) → IsAt code k.state.pc i → decides code.profile i k.registers ≡ true → (ending : Ending) → Turn code k.state ending → (e : KnownEnding) × KnownTurn code k e
+  turn_made : (i : Instr) → IsAt code k.state.pc i → decides code.profile k.shifts i k.registers ≡ true → (ending : Ending) → Turn code k.state ending → (e : KnownEnding) × KnownTurn code k e
   turn_made i at sure (goes_on o t) turn = (leads_on o (known_after i k t), decided i at sure turn)
   turn_made i at sure (stops seen stop) turn =
-      (ends seen stop, stopped (λ j there. subst (λ x. decides code.profile x k.registers ≡ true) (one_instruction at there) sure) turn)
+      (ends seen stop, stopped (λ j there. subst (λ x. decides code.profile k.shifts x k.registers ≡ true) (one_instruction at there) sure) turn)
 
-  turn_asked : (i : Instr) → IsAt code k.state.pc i → (b : Bool) → decides code.profile i k.registers ≡ b → (ending : Ending) → Turn code k.state ending → (e : KnownEnding) × KnownTurn code k e
+  turn_asked : (i : Instr) → IsAt code k.state.pc i → (b : Bool) → decides code.profile k.shifts i k.registers ≡ b → (ending : Ending) → Turn code k.state ending → (e : KnownEnding) × KnownTurn code k e
   turn_asked i at true sure ending turn = turn_made i at sure ending turn
   turn_asked i at false unknown ending turn = (depends, undecided i at unknown)
 
@@ -69,7 +69,7 @@ module _ (code : Code) (k : Known) where
   turn_from (no_instruction {word = word} even is misfit) =
       (_, stopped (λ i at. absurd (misfit i at.in_range (same_Some (word_of i) word (sym at.word ∙ is)))) (no_instruction even is misfit))
   turn_from {ending} (executes i even is ok end) =
-      turn_asked i (record { aligned = even; word = is; in_range = ok }) (decides code.profile i k.registers) refl ending (executes i even is ok end)
+      turn_asked i (record { aligned = even; word = is; in_range = ok }) (decides code.profile k.shifts i k.registers) refl ending (executes i even is ok end)
 
   pub some_turn : (e : KnownEnding) × KnownTurn code k e
   some_turn = turn_from (turn_of_state code k.state).1

@@ -6,15 +6,16 @@ use Rattle.rv_machine.specs.declared.observation.Observation.{Observation}
 use Rattle.rv_machine.specs.Machine.{State, Code, IsAt}
 use Rattle.word.specs.declared.profile.Profile.{Profile}
 use Rattle.certified_runs.specs.Known.{Known, Covers}
+use Rattle.certified_runs.specs.declared.shifts.Shifts.{Shifts}
 use Rattle.certified_runs.specs.Certified.{decides, registers_after, bytes_after, known_after, KnownTurn, leads_on, decided, stopped, undecided, RunEnding, may_differ, CertifiedRun, spent, halts, cut, turns}
 use Rattle.certified_runs.proofs.Runs.{leads_kept, stop_kept}
 
 -- as much is known, of another state
 abbrev pub of_state : State → Known → Known
-of_state s k = record { state = s; registers = k.registers; bytes = k.bytes }
+of_state s k = record { state = s; registers = k.registers; bytes = k.bytes; shifts = k.shifts }
 
 module _ (k : Known) (s : State) (covers : Covers k s) where
-  registers_same : (profile : Profile) (i : Instr) → decides profile i k.registers ≡ true → registers_after i (of_state s k) ≡ registers_after i k
+  registers_same : (profile : Profile) (i : Instr) → decides profile k.shifts i k.registers ≡ true → registers_after i (of_state s k) ≡ registers_after i k
   registers_same profile (Upper operation rd immediate) sure = refl
   registers_same profile (Jump rd offset) sure = refl
   registers_same profile (JumpRegister rd rs1 offset) sure = refl
@@ -30,7 +31,7 @@ module _ (k : Known) (s : State) (covers : Covers k s) where
   registers_same profile Ecall sure = refl
   registers_same profile Ebreak sure = refl
 
-  bytes_same : (profile : Profile) (i : Instr) → decides profile i k.registers ≡ true → bytes_after i (of_state s k) ≡ bytes_after i k
+  bytes_same : (profile : Profile) (i : Instr) → decides profile k.shifts i k.registers ≡ true → bytes_after i (of_state s k) ≡ bytes_after i k
   bytes_same profile (Upper operation rd immediate) sure = refl
   bytes_same profile (Jump rd offset) sure = refl
   bytes_same profile (JumpRegister rd rs1 offset) sure = refl
@@ -46,7 +47,7 @@ module _ (k : Known) (s : State) (covers : Covers k s) where
   bytes_same profile Ecall sure = refl
   bytes_same profile Ebreak sure = refl
 
-  after_same : (profile : Profile) (i : Instr) (t u : State) → decides profile i k.registers ≡ true → of_state u (known_after i k t) ≡ known_after i (of_state s k) u
+  after_same : (profile : Profile) (i : Instr) (t u : State) → decides profile k.shifts i k.registers ≡ true → of_state u (known_after i k t) ≡ known_after i (of_state s k) u
   after_same profile i t u sure =
       let registers = registers_same profile i sure in
       let bytes = bytes_same profile i sure in
@@ -74,8 +75,8 @@ run_alike {s = s} (turns {k = k} turn rest) covers =
     turns first.1 (run_alike rest first.2)
 
 -- of two states of which the same is known
-pub known_alone : {code : Code} {budget : ℕ} {k other : Known} {seen : List Observation} {ending : RunEnding} → CertifiedRun code budget k seen ending → Covers k other.state → other.registers ≡ k.registers → other.bytes ≡ k.bytes → CertifiedRun code budget other seen ending
-known_alone {code} {budget} {k} {other} {seen} {ending} run covers registers bytes =
-    let at : (ℕ → Bool) → (ℕ → Bool) → Known = λ r b. record { state = other.state; registers = r; bytes = b } in
-    let is : of_state other.state k ≡ other = ap (λ r. at r k.bytes) (sym registers) ∙ ap (λ b. at other.registers b) (sym bytes) in
+pub known_alone : {code : Code} {budget : ℕ} {k other : Known} {seen : List Observation} {ending : RunEnding} → CertifiedRun code budget k seen ending → Covers k other.state → other.registers ≡ k.registers → other.bytes ≡ k.bytes → other.shifts ≡ k.shifts → CertifiedRun code budget other seen ending
+known_alone {code} {budget} {k} {other} {seen} {ending} run covers registers bytes shifts =
+    let at : (ℕ → Bool) → (ℕ → Bool) → Shifts → Known = λ r b w. record { state = other.state; registers = r; bytes = b; shifts = w } in
+    let is : of_state other.state k ≡ other = ap (λ r. at r k.bytes k.shifts) (sym registers) ∙ ap (λ b. at other.registers b k.shifts) (sym bytes) ∙ ap (λ w. at other.registers other.bytes w) (sym shifts) in
     subst (λ x. CertifiedRun code budget x seen ending) is (run_alike run covers)

@@ -11,6 +11,8 @@ use Rattle.rv_machine.specs.Machine.{State, Code, IsAt, goes_on, stops, Turn}
 use Rattle.rv_machine.specs.Sizes.{byte_count}
 use Rattle.word.specs.declared.profile.Profile.{Profile}
 use Rattle.word.specs.declared.profile.Profile.TheVariants.{P1, P2}
+use Rattle.certified_runs.specs.Amounts.{decides_amount}
+use Rattle.certified_runs.specs.declared.shifts.Shifts.{Shifts}
 use Rattle.certified_runs.specs.Known.{Known, knows, knows_both, knows_bytes, with_register_known, with_bytes_known}
 
 -- whether a product is known as far as the observer of this profile sees it
@@ -19,22 +21,23 @@ decides_product P1 known = true
 decides_product P2 known = known
 
 -- whether what an instruction shows, and where it leads, is decided by what is known of the registers: what a branch compares, a
--- jump goes by, an access is addressed by, a division is of, and, where its operands are seen, a product
-abbrev pub decides : Profile → Instr → (ℕ → Bool) → Bool
-decides profile (Upper operation rd immediate) known = true
-decides profile (Jump rd offset) known = true
-decides profile (JumpRegister rd rs1 offset) known = knows known rs1
-decides profile (Branch test rs1 rs2 offset) known = knows_both known rs1 rs2
-decides profile (Load operation rd rs1 offset) known = knows known rs1
-decides profile (Store operation rs2 rs1 offset) known = knows known rs1
-decides profile (Immediate operation rd rs1 immediate) known = true
-decides profile (Shift operation rd rs1 amount) known = true
-decides profile (Register operation rd rs1 rs2) known = true
-decides profile (Multiply operation rd rs1 rs2) known = decides_product profile (knows_both known rs1 rs2)
-decides profile (Divide operation rd rs1 rs2) known = knows_both known rs1 rs2
-decides profile (Fence mode before after rs1 rd) known = true
-decides profile Ecall known = true
-decides profile Ebreak known = true
+-- jump goes by, an access is addressed by, a division is of, and, where its operands are seen, a product; and by what a
+-- register is shifted, where that is seen
+abbrev pub decides : Profile → Shifts → Instr → (ℕ → Bool) → Bool
+decides profile shifts (Upper operation rd immediate) known = true
+decides profile shifts (Jump rd offset) known = true
+decides profile shifts (JumpRegister rd rs1 offset) known = knows known rs1
+decides profile shifts (Branch test rs1 rs2 offset) known = knows_both known rs1 rs2
+decides profile shifts (Load operation rd rs1 offset) known = knows known rs1
+decides profile shifts (Store operation rs2 rs1 offset) known = knows known rs1
+decides profile shifts (Immediate operation rd rs1 immediate) known = true
+decides profile shifts (Shift operation rd rs1 amount) known = true
+decides profile shifts (Register operation rd rs1 rs2) known = decides_amount shifts operation (knows known rs2)
+decides profile shifts (Multiply operation rd rs1 rs2) known = decides_product profile (knows_both known rs1 rs2)
+decides profile shifts (Divide operation rd rs1 rs2) known = knows_both known rs1 rs2
+decides profile shifts (Fence mode before after rs1 rd) known = true
+decides profile shifts Ecall known = true
+decides profile shifts Ebreak known = true
 
 -- the known registers after an instruction: what it gave a register is known where all that it is made of is
 abbrev pub registers_after : Instr → Known → ℕ → Bool
@@ -62,7 +65,7 @@ bytes_after _ k = k.bytes
 
 -- what is known after an instruction that leads to this state
 abbrev pub known_after : Instr → Known → State → Known
-known_after i k t = record { state = t; registers = registers_after i k; bytes = bytes_after i k }
+known_after i k t = record { state = t; registers = registers_after i k; bytes = bytes_after i k; shifts = k.shifts }
 
 -- how a turn ends: it shows an observation and goes on, or it stops, having shown at most one, or what it shows may depend on what is
 -- unknown
@@ -73,9 +76,9 @@ pub data KnownEnding : Type 0 where
 
 -- one turn of what is known
 pub data KnownTurn (code : Code) (k : Known) : KnownEnding → Type 0 where
-  decided : {o : Observation} {t : State} (i : Instr) → IsAt code k.state.pc i → decides code.profile i k.registers ≡ true → Turn code k.state (goes_on o t) → KnownTurn code k (leads_on o (known_after i k t))
-  stopped : {seen : List Observation} {stop : Stop} → ((i : Instr) → IsAt code k.state.pc i → decides code.profile i k.registers ≡ true) → Turn code k.state (stops seen stop) → KnownTurn code k (ends seen stop)
-  undecided : (i : Instr) → IsAt code k.state.pc i → decides code.profile i k.registers ≡ false → KnownTurn code k depends
+  decided : {o : Observation} {t : State} (i : Instr) → IsAt code k.state.pc i → decides code.profile k.shifts i k.registers ≡ true → Turn code k.state (goes_on o t) → KnownTurn code k (leads_on o (known_after i k t))
+  stopped : {seen : List Observation} {stop : Stop} → ((i : Instr) → IsAt code k.state.pc i → decides code.profile k.shifts i k.registers ≡ true) → Turn code k.state (stops seen stop) → KnownTurn code k (ends seen stop)
+  undecided : (i : Instr) → IsAt code k.state.pc i → decides code.profile k.shifts i k.registers ≡ false → KnownTurn code k depends
 
 -- how a run ends: it is the same for all that is unknown and stops so, or the turn at this program counter may depend on it
 pub data RunEnding : Type 0 where

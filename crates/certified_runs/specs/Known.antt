@@ -1,15 +1,19 @@
 -- What is known of a state of the machine: each register and each byte is known, with its number, or unknown. The
--- program counter is always known, and so are the addresses that are data.
+-- program counter is always known, and so are the addresses that are data. Beside it stands whether amounts of shifts
+-- are seen.
 use Rattle.std.specs.Prelude.{◌≡◌, ℕ, ◌+◌, ◌==◌, ◌&&◌, Bool, true, nat_le, nat_lt, is_some, if◌then◌else◌}
 use Rattle.std.proofs.Common.{zero, suc}
 use Rattle.rv_machine.specs.Machine.{State}
 use Rattle.rv_machine.specs.Registers.{register}
+use Rattle.certified_runs.specs.declared.shifts.Shifts.{Shifts}
 
--- a state, of which these registers and the bytes at these addresses are known; what it holds elsewhere does not matter
+-- a state, of which these registers and the bytes at these addresses are known; what it holds elsewhere does not matter.
+-- The observer sees the amounts of shifts by registers or not
 pub record Known : Type 0 where
   pub state : State
   pub registers : ℕ → Bool
   pub bytes : ℕ → Bool
+  pub shifts : Shifts
 
 -- whether a register is known; x0 is
 abbrev pub knows : (ℕ → Bool) → ℕ → Bool

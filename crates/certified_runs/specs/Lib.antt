@@ -1,3 +1,4 @@
+pub mod Amounts
 pub mod Certified
 pub mod End
 pub mod Known

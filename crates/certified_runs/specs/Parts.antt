@@ -3,6 +3,7 @@ use Rattle.std.specs.Prelude.{ℕ, ◌==◌, Bool, true, false, List, Option, So
 use Rattle.rv_machine.specs.Bytes.{ByteMap}
 use Rattle.rv_machine.specs.Machine.{State}
 use Rattle.certified_runs.specs.Known.{Known}
+use Rattle.certified_runs.specs.declared.shifts.Shifts.{Shifts}
 
 -- a register is known where its flag is set
 abbrev pub known_registers : List Bool → ℕ → Bool
@@ -20,6 +21,6 @@ is_known_mark None = false
 abbrev pub known_bytes : ByteMap → ℕ → Bool
 known_bytes marks a = is_known_mark (marks a)
 
--- a state of which what these flags and marks say is known
-abbrev pub known_of : State → List Bool → ByteMap → Known
-known_of s flags marks = record { state = s; registers = known_registers flags; bytes = known_bytes marks }
+-- a state of which what these flags and marks say is known, where amounts of shifts are seen or not
+abbrev pub known_of : State → List Bool → ByteMap → Shifts → Known
+known_of s flags marks shifts = record { state = s; registers = known_registers flags; bytes = known_bytes marks; shifts = shifts }

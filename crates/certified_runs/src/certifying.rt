@@ -19,7 +19,8 @@ pub enum CertifiedEnd {
     /// All that is unknown makes no difference: so many entries are shown, and then the run stops so.
     Same { stop: Stop, entries: u64 },
     /// This entry, counted from 0, is the first that may differ. It is the one after the entry for
-    /// this program counter, whose instruction goes by something that is unknown.
+    /// this program counter, whose instruction goes by something that is unknown, or, where shifts are seen, shifts by
+    /// an amount that is.
     MayDiffer { entry: u64, pc: u32 },
 }
 
@@ -37,7 +38,7 @@ pub fn certify<M: Memory>(
     requires extent { (a : ℕ) → is_some (M.bytes known.old.marks a) ≡ is_some (M.bytes run.old.memory a) }
     ensures { (seen : List Observation) × (ending : RunEnding)
         × CertifiedRun (code_of code.now) run.old.turns_left
-        (known_of (state_of run.old.hart (M.bytes run.old.memory)) known.old.registers (M.bytes known.old.marks)) seen ending
+        (known_of (state_of run.old.hart (M.bytes run.old.memory)) known.old.registers (M.bytes known.old.marks) known.old.shifts) seen ending
         × (result ≡ end_of seen ending) }
 {
     let mut entries = 0;

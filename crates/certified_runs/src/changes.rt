@@ -10,6 +10,7 @@ ghost use Rattle.certified_runs.specs.private.Changes.{accessed, StoresData};
 ghost use Rattle.certified_runs.specs.private.Turned.{HaveOneExtent};
 
 use crate::known_parts::KnownParts;
+use crate::shifts::decides_amount;
 use rv_code::Instr;
 use rv_machine::{Hart, Memory, address, load_size, store_size};
 use word::Profile;
@@ -17,7 +18,7 @@ use word::Profile;
 /// Whether what an instruction shows, and where it leads, is decided by what is known.
 #[inline(always)]
 pub(crate) fn decides<M: Memory>(profile: Profile, instr: &Instr, known: &KnownParts<M>) -> bool
-    ensures { result ≡ decides profile instr.now (known_registers known.now.registers) }
+    ensures { result ≡ decides profile known.now.shifts instr.now (known_registers known.now.registers) }
 {
     match *instr {
         Instr::Upper(_, _, _) | Instr::Jump(_, _) => true,
@@ -26,7 +27,9 @@ pub(crate) fn decides<M: Memory>(profile: Profile, instr: &Instr, known: &KnownP
         Instr::Load(_, _, rs1, _) => known.knows(rs1),
         Instr::Store(_, _, rs1, _) => known.knows(rs1),
         Instr::Immediate(_, _, _, _) | Instr::Shift(_, _, _, _) => true,
-        Instr::Register(_, _, _, _) => true,
+        Instr::Register(operation, _, _, rs2) => {
+            decides_amount(known.shifts, operation, known.knows(rs2))
+        }
         Instr::Multiply(_, _, rs1, rs2) => decides_product(profile, known.knows_both(rs1, rs2)),
         Instr::Divide(_, _, rs1, rs2) => known.knows_both(rs1, rs2),
         Instr::Fence(_, _, _, _, _) | Instr::Ecall | Instr::Ebreak => true,
@@ -64,9 +67,10 @@ pub(crate) fn accessed(instr: &Instr, hart: &Hart) -> u32
 pub(crate) fn change<M: Memory>(instr: &Instr, a: u32, known: &mut KnownParts<M>)
     requires { StoresData (M.bytes known.old.marks) instr.now a }
     ensures registers { (s : State) → a ≡ accessed instr.now s.regs → known_registers known.new.registers
-        ≡ registers_after instr.now (known_of s known.old.registers (M.bytes known.old.marks)) }
+        ≡ registers_after instr.now (known_of s known.old.registers (M.bytes known.old.marks) known.old.shifts) }
     ensures bytes { (s : State) → a ≡ accessed instr.now s.regs → known_bytes (M.bytes known.new.marks)
-        ≡ bytes_after instr.now (known_of s known.old.registers (M.bytes known.old.marks)) }
+        ≡ bytes_after instr.now (known_of s known.old.registers (M.bytes known.old.marks) known.old.shifts) }
+    ensures shifts { known.new.shifts ≡ known.old.shifts }
     ensures extent { HaveOneExtent (M.bytes known.new.marks) (M.bytes known.old.marks) }
 {
     match *instr {

@@ -7,6 +7,7 @@ ghost use Rattle.certified_runs.specs.Known.{knows, knows_both, knows_bytes, wit
 ghost use Rattle.certified_runs.specs.Parts.{known_registers, all_registers, known_bytes};
 ghost use Rattle.certified_runs.specs.private.Changes.{mark_of};
 
+use crate::shifts::Shifts;
 use rv_code::Reg;
 use rv_machine::{Memory, Size};
 
@@ -18,17 +19,21 @@ pub struct KnownParts<M> {
     /// A memory with the addresses of the run's data, which has 0 at each byte that is known, and
     /// something else at the others.
     pub marks: M,
+    /// Whether the observer sees the amounts of shifts by registers.
+    pub shifts: Shifts,
 }
 
 impl<M: Memory> KnownParts<M> {
-    /// All registers, and the bytes that these marks say.
-    pub fn new(marks: M) -> KnownParts<M>
+    /// All registers, and the bytes that these marks say, for an observer who sees shifts or not.
+    pub fn new(marks: M, shifts: Shifts) -> KnownParts<M>
         ensures registers { known_registers result.registers ≡ all_registers }
         ensures marks { result.marks ≡ marks }
+        ensures shifts { result.shifts ≡ shifts }
     {
         KnownParts {
             registers: [true; 32],
             marks,
+            shifts,
         }
     }
 
@@ -62,6 +67,7 @@ impl<M: Memory> KnownParts<M> {
         ensures registers { known_registers self.new.registers
             ≡ with_register_known (known_registers self.old.registers) rd known }
         ensures marks { self.new.marks ≡ self.old.marks }
+        ensures shifts { self.new.shifts ≡ self.old.shifts }
     {
         self.registers[rd.number() as usize] = known;
     }
@@ -76,6 +82,7 @@ impl<M: Memory> KnownParts<M> {
         ensures unchanged { result ≡ false → M.bytes self.new.marks ≡ M.bytes self.old.marks }
         ensures extent { (x : ℕ) → is_some (M.bytes self.new.marks x) ≡ is_some (M.bytes self.old.marks x) }
         ensures registers { self.new.registers ≡ self.old.registers }
+        ensures shifts { self.new.shifts ≡ self.old.shifts }
     {
         self.marks.store(a, n, mark_of(known))
     }

@@ -6,9 +6,11 @@ ghost use Rattle.rv_machine.specs.declared.stops.Stop.{Stop};
 ghost use Rattle.rv_machine.specs.Entries.{Entry, entries_of};
 ghost use Rattle.rv_machine.specs.Leakage.{Leads, Runs};
 ghost use Rattle.rv_machine.specs.Machine.{State, Code, Ending, Turn};
+ghost use Rattle.certified_runs.specs.Amounts.{ShiftsBy};
 ghost use Rattle.certified_runs.specs.Certified.{KnownEnding, KnownTurn, RunEnding, CertifiedRun};
 ghost use Rattle.certified_runs.specs.Known.{Known, Covers};
 
+use crate::shifts::Shifts;
 use rv_machine::Stop;
 
 /// Whatever is known of a state, the state itself is covered.
@@ -50,7 +52,7 @@ pub fn certified_runs_have_one_end()
 /// How a certified run ends depends on what is known alone: what the state holds elsewhere makes no difference.
 pub fn certified_runs_depend_on_what_is_known()
     ensures { (code : Code) (budget : ℕ) (k other : Known) (seen : List Observation) (ending : RunEnding)
-        → Covers k other.state → other.registers ≡ k.registers → other.bytes ≡ k.bytes
+        → Covers k other.state → other.registers ≡ k.registers → other.bytes ≡ k.bytes → other.shifts ≡ k.shifts
         → CertifiedRun code budget k seen ending → CertifiedRun code budget other seen ending }
 {}
 
@@ -69,4 +71,19 @@ pub fn runs_that_may_differ_begin_alike()
         → CertifiedRun code budget k seen (RunEnding.may_differ pc) → Covers k s
         → Runs code budget s shown stop t → stop ≢ Stop.RecorderRefused
         → (rest : List Entry) × (entries_of shown ≡ entries_of seen ++ Entry.program_counter pc ∷ rest) }
+{}
+
+/// Every run shifts registers by the amounts of one list, however it stops.
+pub fn runs_shift_by_one_list()
+    ensures some { (code : Code) (budget : ℕ) (s : State) → (amounts : List ℕ) × ShiftsBy code budget s amounts }
+    ensures one { (code : Code) (budget : ℕ) (s : State) (amounts others : List ℕ)
+        → ShiftsBy code budget s amounts → ShiftsBy code budget s others → amounts ≡ others }
+{}
+
+/// Where a certified run with shifts seen is the same for all that is unknown, the runs from any two covered states with
+/// its budget shift by the same amounts. They also show the same program counters, so the same shifts go by them.
+pub fn certified_shifts_agree()
+    ensures { (code : Code) (budget : ℕ) (k : Known) (s t : State) (seen : List Observation) (stop : Stop) (amounts others : List ℕ)
+        → CertifiedRun code budget k seen (RunEnding.same stop) → k.shifts ≡ Shifts.Seen → Covers k s → Covers k t
+        → ShiftsBy code budget s amounts → ShiftsBy code budget t others → amounts ≡ others }
 {}

@@ -7,18 +7,22 @@
 //
 // The laws say that a turn of what is known keeps covering each state that it covered, and shows what that state's turn
 // shows, or says that this may depend on what is unknown; and so do runs (`specs/Known.antt`, `specs/Certified.antt`).
+// Where the observer sees by how much registers are shifted, runs that are the same agree on that too
+// (`specs/Amounts.antt`).
 #![tactic(auto)]
 
 mod certifying;
 mod changes;
 mod known_parts;
 mod laws;
+mod shifts;
 mod turns;
 
 pub use certifying::{CertifiedEnd, certify};
 pub use known_parts::KnownParts;
 pub use laws::{
     certified_runs_cover, certified_runs_cut_short_agree, certified_runs_depend_on_what_is_known,
-    certified_runs_have_one_end, runs_that_may_differ_begin_alike, turns_keep_covering,
-    what_is_known_covers,
+    certified_runs_have_one_end, certified_shifts_agree, runs_shift_by_one_list,
+    runs_that_may_differ_begin_alike, turns_keep_covering, what_is_known_covers,
 };
+pub use shifts::Shifts;

@@ -2,7 +2,7 @@
 
 ghost use Rattle.std.specs.Prelude.{◌≡◌, ◌≤◌, length};
 
-use certified_runs::{CertifiedEnd, KnownParts, certify};
+use certified_runs::{CertifiedEnd, KnownParts, Shifts, certify};
 use rv_machine::hart::Hart;
 use rv_machine::{CodeRegion, FlatMemory, Running, Size, Stop};
 use std::alloc::{AllocError, Global};
@@ -19,11 +19,12 @@ const LOAD: u32 = 0x0001_2283;
 const ECALL: u32 = 0x0000_0073;
 
 // How the certified run of these words ends that begins with the data's address in x2 and all known but the one
-// word of data.
+// word of data, where amounts of shifts are seen or not.
 fn end_of(
     alloc: Global,
     words: &[u32],
     profile: Profile,
+    shifts: Shifts,
     budget: u64,
 ) -> Result<CertifiedEnd, AllocError>
     requires few_words { length words.now ≤ 100 }
@@ -35,7 +36,7 @@ fn end_of(
         memory: FlatMemory::new(alloc, DATA, 4)?,
         turns_left: budget,
     };
-    let mut known = KnownParts::new(FlatMemory::new(alloc, DATA, 4)?);
+    let mut known = KnownParts::new(FlatMemory::new(alloc, DATA, 4)?, shifts);
     known.set_bytes(DATA, Size::Word, false);
     Ok(certify(&code, &mut run, &mut known))
 }
@@ -82,10 +83,39 @@ const READERS: [(u32, CertifiedEnd, CertifiedEnd); 12] = [
 fn goes_by_what_is_known(rt: HostRuntime) -> Result<(), Fail> {
     for (word, one, two) in READERS {
         let words = [LOAD, word, ECALL];
-        let first = end_of(rt.alloc(), &words, Profile::P1, 10)?;
+        let first = end_of(rt.alloc(), &words, Profile::P1, Shifts::Hidden, 10)?;
         assert_eq!(rt; first, one, "{word:08x}");
-        let second = end_of(rt.alloc(), &words, Profile::P2, 10)?;
+        let second = end_of(rt.alloc(), &words, Profile::P2, Shifts::Hidden, 10)?;
         assert_eq!(rt; second, two, "{word:08x}");
+    }
+    Ok(())
+}
+
+// Shifts that read the unknown x5, and how a run ends that comes to them, where amounts are hidden and where they are
+// seen.
+const SHIFTS: [(u32, CertifiedEnd, CertifiedEnd); 6] = [
+    // sll x6, x0, x5
+    (0x0050_1333, SAME, MAY_DIFFER),
+    // srl x6, x0, x5
+    (0x0050_5333, SAME, MAY_DIFFER),
+    // sra x6, x0, x5
+    (0x4050_5333, SAME, MAY_DIFFER),
+    // sll x6, x5, x0
+    (0x0002_9333, SAME, SAME),
+    // slli x5, x5, 1
+    (0x0012_9293, SAME, SAME),
+    // add x6, x0, x5
+    (0x0050_0333, SAME, SAME),
+];
+
+#[test]
+fn goes_by_amounts_where_they_are_seen(rt: HostRuntime) -> Result<(), Fail> {
+    for (word, hidden, seen) in SHIFTS {
+        let words = [LOAD, word, ECALL];
+        let without = end_of(rt.alloc(), &words, Profile::P1, Shifts::Hidden, 10)?;
+        assert_eq!(rt; without, hidden, "{word:08x}");
+        let with = end_of(rt.alloc(), &words, Profile::P1, Shifts::Seen, 10)?;
+        assert_eq!(rt; with, seen, "{word:08x}");
     }
     Ok(())
 }
@@ -104,7 +134,13 @@ const BRANCH: u32 = 0x0002_9463;
 
 #[test]
 fn knows_what_was_stored(rt: HostRuntime) -> Result<(), Fail> {
-    let known = end_of(rt.alloc(), &[CLEAR, LOAD, BRANCH, ECALL], Profile::P1, 10)?;
+    let known = end_of(
+        rt.alloc(),
+        &[CLEAR, LOAD, BRANCH, ECALL],
+        Profile::P1,
+        Shifts::Hidden,
+        10,
+    )?;
     assert_eq!(rt;
         known,
         CertifiedEnd::Same {
@@ -116,6 +152,7 @@ fn knows_what_was_stored(rt: HostRuntime) -> Result<(), Fail> {
         rt.alloc(),
         &[CLEAR_BYTE, LOAD, BRANCH, ECALL],
         Profile::P1,
+        Shifts::Hidden,
         10,
     )?;
     assert_eq!(rt;
@@ -129,6 +166,7 @@ fn knows_what_was_stored(rt: HostRuntime) -> Result<(), Fail> {
         rt.alloc(),
         &[LOAD, CLEAR, STORE, LOAD, BRANCH, ECALL],
         Profile::P1,
+        Shifts::Hidden,
         10,
     )?;
     assert_eq!(rt;
@@ -143,7 +181,7 @@ fn knows_what_was_stored(rt: HostRuntime) -> Result<(), Fail> {
 
 #[test]
 fn stops_as_the_machine_does(rt: HostRuntime) -> Result<(), Fail> {
-    let spent = end_of(rt.alloc(), &[LOAD, BRANCH], Profile::P1, 1)?;
+    let spent = end_of(rt.alloc(), &[LOAD, BRANCH], Profile::P1, Shifts::Hidden, 1)?;
     assert_eq!(rt;
         spent,
         CertifiedEnd::Same {
@@ -151,7 +189,7 @@ fn stops_as_the_machine_does(rt: HostRuntime) -> Result<(), Fail> {
             entries: 2
         }
     );
-    let none = end_of(rt.alloc(), &[LOAD], Profile::P1, 0)?;
+    let none = end_of(rt.alloc(), &[LOAD], Profile::P1, Shifts::Hidden, 0)?;
     assert_eq!(rt;
         none,
         CertifiedEnd::Same {
@@ -160,7 +198,7 @@ fn stops_as_the_machine_does(rt: HostRuntime) -> Result<(), Fail> {
         }
     );
     // the code has ended, and the turn there shows nothing
-    let past = end_of(rt.alloc(), &[LOAD], Profile::P1, 10)?;
+    let past = end_of(rt.alloc(), &[LOAD], Profile::P1, Shifts::Hidden, 10)?;
     assert_eq!(rt;
         past,
         CertifiedEnd::Same {
@@ -168,7 +206,7 @@ fn stops_as_the_machine_does(rt: HostRuntime) -> Result<(), Fail> {
             entries: 2
         }
     );
-    let illegal = end_of(rt.alloc(), &[LOAD, 0], Profile::P1, 10)?;
+    let illegal = end_of(rt.alloc(), &[LOAD, 0], Profile::P1, Shifts::Hidden, 10)?;
     assert_eq!(rt;
         illegal,
         CertifiedEnd::Same {

@@ -10,6 +10,7 @@ loop-index-init g c = record {
   unknown = sym (none_unknown (known_bytes (g.M.Memory.bytes c.args.known.now.marks)) c.args.at);
   data_there = λ x. refl;
   registers = refl;
+  shifts = refl;
 }
 
 pub loop-index-preserved : goal.loop-index-preserved
@@ -25,4 +26,5 @@ loop-index-preserved g c =
           ∙ one_more_unknown begun c.args.at i;
       data_there = λ x. c.set_bytes.ensures.extent x ∙ c.loop-index.invariant.data_there x;
       registers = c.set_bytes.ensures.registers ∙ c.loop-index.invariant.registers;
+      shifts = c.set_bytes.ensures.shifts ∙ c.loop-index.invariant.shifts;
     }

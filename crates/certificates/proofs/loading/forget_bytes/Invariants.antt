@@ -11,4 +11,5 @@ invariant-loop-index g l =
       unknown : known_bytes (bytes l.known.marks) ≡ with_bytes_known (known_bytes (bytes l.fn.known.marks)) l.index l.at false;
       data_there : (x : ℕ) → is_some (bytes l.known.marks x) ≡ is_some (bytes l.fn.known.marks x);
       registers : l.known.registers ≡ l.fn.known.registers;
+      shifts : l.known.shifts ≡ l.fn.known.shifts;
     }

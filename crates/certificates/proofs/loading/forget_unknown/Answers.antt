@@ -36,6 +36,11 @@ loop-index-preserved g c =
       | then-is_none w ↦ ap (λ k. k.registers) w.known-is ∙ w.forget_bytes.ensures.registers
       | else-is_none w ↦ ap (λ k. k.registers) w.known-is
     ] in
+    let shifts : c.if-is_none.known.shifts ≡ c.loop-index.known.shifts =
+    elim c.if-is_none.branch [
+      | then-is_none w ↦ ap (λ k. k.shifts) w.known-is ∙ w.forget_bytes.ensures.shifts
+      | else-is_none w ↦ ap (λ k. k.shifts) w.known-is
+    ] in
     record {
       rest =
           ap (λ (k : ℕ → Bool). known_with_given frame k (drop (i + 1) slots) (drop (i + 1) given)) known
@@ -44,4 +49,5 @@ loop-index-preserved g c =
           ∙ c.loop-index.invariant.rest));
       data_there = λ x. extent x ∙ c.loop-index.invariant.data_there x;
       registers = registers ∙ c.loop-index.invariant.registers;
+      shifts = shifts ∙ c.loop-index.invariant.shifts;
     }

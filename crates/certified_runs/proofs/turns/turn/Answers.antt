@@ -27,16 +27,16 @@ returns-then-not-decides-clause-turned g c =
     let registers = known_registers c.args.known.now.registers in
     let i = c.in-Some.instr.now in
     let at = subst (λ p. IsAt code p i) c.pc.ensures c.in-Some.ensures.there in
-    (undecided i at (ap (λ p. decides p i registers) (sym c.profile.ensures) ∙ sym c.decides.ensures ∙ c.if-not-decides.true), refl)
+    (undecided i at (ap (λ p. decides p c.args.known.now.shifts i registers) (sym c.profile.ensures) ∙ sym c.decides.ensures ∙ c.if-not-decides.true), refl)
 
 pub returns-in-Some-stop-clause-turned : goal.returns-in-Some-stop-clause-turned
 returns-in-Some-stop-clause-turned g c =
     let code = code_of c.args.code.now in
     let s = state_of c.args.hart.now (g.M.Memory.bytes c.args.memory.now) in
-    let k = known_of s c.args.known.now.registers (g.M.Memory.bytes c.args.known.now.marks) in
+    let k = known_of s c.args.known.now.registers (g.M.Memory.bytes c.args.known.now.marks) c.args.known.now.shifts in
     let i = c.in-Some.instr.now in
     let at = subst (λ p. IsAt code p i) c.pc.ensures c.in-Some.ensures.there in
-    let sure = ap (λ p. decides p i k.registers) (sym c.profile.ensures) ∙ sym c.decides.ensures ∙ c.if-not-decides.false in
+    let sure = ap (λ p. decides p k.shifts i k.registers) (sym c.profile.ensures) ∙ sym c.decides.ensures ∙ c.if-not-decides.false in
     let step = c.step_unrecorded-seen in
     let t = state_of step.new.hart (g.M.Memory.bytes step.new.memory) in
     let shown = followed_by step.result.0 [] in
@@ -50,10 +50,10 @@ change-requires g c =
     let code = code_of c.args.code.now in
     let s = state_of c.args.hart.now (g.M.Memory.bytes c.args.memory.now) in
     let marks = g.M.Memory.bytes c.args.known.now.marks in
-    let k = known_of s c.args.known.now.registers marks in
+    let k = known_of s c.args.known.now.registers marks c.args.known.now.shifts in
     let i = c.in-Some.instr.now in
     let at = subst (λ p. IsAt code p i) c.pc.ensures c.in-Some.ensures.there in
-    let sure = ap (λ p. decides p i k.registers) (sym c.profile.ensures) ∙ sym c.decides.ensures ∙ c.if-not-decides.false in
+    let sure = ap (λ p. decides p k.shifts i k.registers) (sym c.profile.ensures) ∙ sym c.decides.ensures ∙ c.if-not-decides.false in
     let step = c.step_unrecorded-seen in
     let t = state_of step.new.hart (g.M.Memory.bytes step.new.memory) in
     let shown = followed_by step.result.0 [] in
@@ -65,10 +65,10 @@ pub returns-clause-turned : goal.returns-clause-turned
 returns-clause-turned g c =
     let code = code_of c.args.code.now in
     let s = state_of c.args.hart.now (g.M.Memory.bytes c.args.memory.now) in
-    let k = known_of s c.args.known.now.registers (g.M.Memory.bytes c.args.known.now.marks) in
+    let k = known_of s c.args.known.now.registers (g.M.Memory.bytes c.args.known.now.marks) c.args.known.now.shifts in
     let i = c.in-Some.instr.now in
     let at = subst (λ p. IsAt code p i) c.pc.ensures c.in-Some.ensures.there in
-    let sure = ap (λ p. decides p i k.registers) (sym c.profile.ensures) ∙ sym c.decides.ensures ∙ c.if-not-decides.false in
+    let sure = ap (λ p. decides p k.shifts i k.registers) (sym c.profile.ensures) ∙ sym c.decides.ensures ∙ c.if-not-decides.false in
     let step = c.step_unrecorded-seen in
     let t = state_of step.new.hart (g.M.Memory.bytes step.new.memory) in
     let shown = followed_by step.result.0 [] in
@@ -77,8 +77,8 @@ returns-clause-turned g c =
     let after = c.change.new.known in
     let registers = c.change.ensures.registers s c.accessed-a.ensures in
     let bytes = c.change.ensures.bytes s c.accessed-a.ensures in
-    has_led code k i at sure t (known_registers after.registers) (known_bytes (g.M.Memory.bytes after.marks)) turn.0 turn.2.0
-    c.entries_in-entries.result turn.1 turn.2.1 registers bytes many
+    has_led code k i at sure t (known_registers after.registers) (known_bytes (g.M.Memory.bytes after.marks)) after.shifts turn.0 turn.2.0
+    c.entries_in-entries.result turn.1 turn.2.1 registers bytes c.change.ensures.shifts many
 
 pub returns-clause-extent : goal.returns-clause-extent
 returns-clause-extent g c = λ a.

@@ -12,7 +12,7 @@ use Rattle.rv_machine.specs.Paged.{paged_bytes}
 use Rattle.rv_machine.specs.Registers.{initial_registers}
 use Rattle.certificates.specs.KnownImage.{with_given, known_with_given}
 use Rattle.certificates.proofs.LoadedLemmas.{fresh_known, same_known}
-use Rattle.certificates.proofs.loading.load.Goals as goal
+use Rattle.certificates.proofs.loading.load_given.Goals as goal
 
 -- each slot lies in a new frame
 held : (image : Fields) → IsImage image → (bytes : ByteMap) (slots : List Slot) → bytes ≡ zeros frame_base image.frame_bytes → slots ≡ image.slots → All (HoldsSlot frame_base bytes) slots
@@ -46,7 +46,8 @@ returns-clause-known c =
     ∙ ap (λ (xs : List Slot). known_with_given frame_base (λ a. is_some (begun a)) xs given) c.slots-2.ensures.slots)) in
     let flags = ap (λ (f : List Bool). known_registers f) c.forget_unknown.ensures.registers ∙ c.new-known.ensures.registers in
     same_known (pc_of c.new.result) code_base (regs_of c.new.result) (initial_registers frame_base) (paged_bytes c.put_given.new.memory) _ (known_registers c.forget_unknown.new.known.registers) _ (known_bytes (paged_bytes c.forget_unknown.new.known.marks)) _
-    c.new.ensures.pc c.new.ensures.registers bytes flags known
+    c.forget_unknown.new.known.shifts c.args.shifts c.new.ensures.pc c.new.ensures.registers bytes flags known
+    (c.forget_unknown.ensures.shifts ∙ c.new-known.ensures.shifts)
 
 pub returns-clause-extent : goal.returns-clause-extent
 returns-clause-extent c = λ a.

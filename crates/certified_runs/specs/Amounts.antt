@@ -1,0 +1,41 @@
+-- By how much registers are shifted: of an instruction, and of a whole run.
+use Rattle.std.specs.Prelude.{ℕ, zero, suc, ◌%◌, ◌||◌, Bool, true, false, not, List, [], ◌∷◌, ◌++◌, if◌then◌else◌}
+use Rattle.rv_code.specs.declared.instructions.Instr.{Instr}
+use Rattle.rv_code.specs.declared.instructions.Instr.TheVariants.{Register}
+use Rattle.rv_code.specs.declared.operations.RegisterOperation.{RegisterOperation}
+use Rattle.rv_code.specs.declared.operations.RegisterOperation.TheVariants.{Add, Sub, Sll, Slt, Sltu, Xor, Srl, Sra, Or, And}
+use Rattle.rv_machine.specs.declared.observation.Observation.{Observation}
+use Rattle.rv_machine.specs.declared.stops.Stop.{Stop}
+use Rattle.rv_machine.specs.Machine.{State, Code, IsAt, goes_on, stops, Turn}
+use Rattle.rv_machine.specs.Registers.{register}
+use Rattle.certified_runs.specs.declared.shifts.Shifts.{Shifts}
+use Rattle.certified_runs.specs.declared.shifts.Shifts.TheVariants.{Hidden, Seen}
+
+-- whether an operation of two registers shifts the one by the other
+abbrev pub is_shift : RegisterOperation → Bool
+is_shift Sll = true
+is_shift Srl = true
+is_shift Sra = true
+is_shift Add = false
+is_shift Sub = false
+is_shift Slt = false
+is_shift Sltu = false
+is_shift Xor = false
+is_shift Or = false
+is_shift And = false
+
+-- whether the amount that an operation shifts by, if it shifts, is known as far as the observer sees it
+abbrev pub decides_amount : Shifts → RegisterOperation → Bool → Bool
+decides_amount Hidden operation known = true
+decides_amount Seen operation known = not (is_shift operation) || known
+
+-- the amount that a shift by a register goes by, the low five bits of that register; other instructions have none
+abbrev pub amounts_of : Instr → (ℕ → ℕ) → List ℕ
+amounts_of (Register operation rd rs1 rs2) regs = if is_shift operation then register regs rs2 % 32 ∷ [] else []
+amounts_of _ regs = []
+
+-- in a run of at most so many turns that no recorder cuts short, the shifts by registers go by these amounts, one after another
+pub data ShiftsBy (code : Code) : ℕ → State → List ℕ → Type 0 where
+  spent : {s : State} → ShiftsBy code zero s []
+  halts : {n : ℕ} {s : State} {seen : List Observation} {stop : Stop} → Turn code s (stops seen stop) → ShiftsBy code (suc n) s []
+  turns : {n : ℕ} {s t : State} {o : Observation} {amounts : List ℕ} (i : Instr) → IsAt code s.pc i → Turn code s (goes_on o t) → ShiftsBy code n t amounts → ShiftsBy code (suc n) s (amounts_of i s.regs ++ amounts)
