@@ -7,7 +7,7 @@ use crate::row::Explanation;
 use crate::rows::{files, labels, limits, names_and_types, reading, runs};
 
 /// All codes, in the order of the tables.
-const CODES: [&str; 57] = [
+const CODES: [&str; 58] = [
     "X1",
     "X2",
     "X3",
@@ -52,6 +52,7 @@ const CODES: [&str; 57] = [
     "H2",
     "H3",
     "H4",
+    "V1",
     "C1",
     "C2",
     "C3",

@@ -1,4 +1,4 @@
-// Errors of images, arguments, files of harts, code from elsewhere, and functions for C.
+// Errors of images, arguments, files of harts and of vectors, code from elsewhere, and functions for C.
 
 ghost use Rattle.std.specs.Prelude.{◌≡◌, ◌↔◌, IfSome, IsSome, Contains};
 ghost use Rattle.explanations.specs.Listed.{files};
@@ -6,7 +6,7 @@ ghost use Rattle.explanations.specs.Listed.{files};
 use crate::finding::row_of;
 use crate::row::Explanation;
 
-const ROWS: [Explanation; 17] = [
+const ROWS: [Explanation; 18] = [
     Explanation {
         code: "B1",
         name: "magic",
@@ -112,6 +112,15 @@ const ROWS: [Explanation; 17] = [
         name: "too many turns",
         rule: "With this line there are more than 1048576 turns. `round N` counts as N turns of each hart,\n\
                whether it has stopped or not.",
+        violates: "",
+        mended: "",
+    },
+    Explanation {
+        code: "V1",
+        name: "line form",
+        rule: "A line of a file of vectors is `NAME: ARG .. = OUTCOME ..`: the name ends at the first `:`, and the\n\
+               arguments end at the first `=` behind it. A line that begins with `#` is a comment, and an empty\n\
+               one says nothing.",
         violates: "",
         mended: "",
     },
