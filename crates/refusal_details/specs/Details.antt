@@ -6,17 +6,27 @@ use Rattle.intervals.specs.declared.found.Cause.{Cause}
 use Rattle.intervals.specs.declared.found.Cause.TheVariants.{Index, Divisor}
 use Rattle.intervals.specs.declared.found.Finding.{Finding}
 use Rattle.intervals.specs.declared.interval.Interval.{Interval}
+use Rattle.refusal_details.specs.ExpectedLines.{SaysExpected}
 use Rattle.refusal_details.specs.Found.{Finds}
+use Rattle.refusal_details.specs.SizeLines.{declared_bytes_lines, inlined_size_lines}
 use Rattle.call_places.specs.CallPlaces.{call_places, procedure_at}
 use Rattle.language.specs.declared.refusal.Refusal.{Refusal}
 use Rattle.language.specs.declared.rule.Rule.{Rule}
-use Rattle.language.specs.declared.rule.Rule.TheVariants.{UnknownCharacter, UndeclaredName, IndexOutOfRange, DivisorMayBeZero}
+use Rattle.language.specs.declared.rule.Rule.TheVariants.{UnknownCharacter, UnexpectedToken, UndeclaredName, WidthsDiffer, WrongKind, ArrayShapeOrLabel, SecretToPublic, SecretIndex, SecretBound, SecretDivisionOperand, SecretMultiplicationOperand, InlinedSize, DeclaredBytes, IndexOutOfRange, DivisorMayBeZero}
+use Rattle.language.specs.Signature.{exported}
 use Rattle.language.specs.Tree.{ProcedureTree, ProgramTree}
+use Rattle.language.specs.Types.{empty}
 use Rattle.name_uses.specs.Nearest.{nearest}
 use Rattle.name_uses.specs.Scopes.{Seen, Use, use_in_procedures}
+use Rattle.operand_types.specs.Secrets.{secret_at, secret_line}
+use Rattle.operand_types.specs.Sites.{Site, site_at}
+use Rattle.operand_types.specs.TypeLines.{type_lines}
+use Rattle.operand_types.specs.declared.mismatch.Mismatch.{Mismatch}
+use Rattle.operand_types.specs.declared.mismatch.Mismatch.TheVariants.{Widths, Kinds, Shapes, Labels}
 use Rattle.syntax.specs.Reading.{Reads, accepted, refused}
 use Rattle.word.specs.declared.place.Place.{Place}
 use Rattle.word.specs.Places.{place_text}
+use Rattle.word.specs.declared.profile.Profile.TheVariants.{P1}
 
 -- X1: a byte order mark is named, as EF BB BF
 abbrev pub begins_with_mark : List ℕ → Bool
@@ -81,17 +91,39 @@ pub record SaysRange (at : ℕ) (program : ProgramTree) (lines : List ℕ) : Typ
   pub finds : Finds program found
   pub printed : lines ≡ finding_line found ++ calls_line at program.procedures
 
+-- T1, T2, T5, L1: the types of what is compared at the place; L1, L3, L4, L5, L7: the first secret name among the operands there
+abbrev pub site_of : ℕ → ProgramTree → Option Site
+site_of at program = site_at at [] (empty P1) program.procedures
+
+abbrev pub SaysTypes : Mismatch → ℕ → ProgramTree → List ℕ → Type 0
+SaysTypes mismatch at program lines = lines ≡ type_lines mismatch (site_of at program)
+
+abbrev pub SaysSecret : ℕ → ProgramTree → List ℕ → Type 0
+SaysSecret at program lines = lines ≡ secret_line (secret_at (site_of at program))
+
 -- of a program that violates a rule behind so many bytes
 abbrev pub SaysOfProgram : Rule → ℕ → ProgramTree → List ℕ → Type 0
 SaysOfProgram UndeclaredName at program lines = lines ≡ name_line (use_in_procedures at program.procedures)
+SaysOfProgram InlinedSize at program lines = lines ≡ inlined_size_lines (exported [] program.procedures)
+SaysOfProgram DeclaredBytes at program lines = lines ≡ declared_bytes_lines (exported [] program.procedures)
 SaysOfProgram IndexOutOfRange at program lines = SaysRange at program lines
 SaysOfProgram DivisorMayBeZero at program lines = SaysRange at program lines
+SaysOfProgram WidthsDiffer at program lines = SaysTypes Widths at program lines
+SaysOfProgram WrongKind at program lines = SaysTypes Kinds at program lines
+SaysOfProgram ArrayShapeOrLabel at program lines = SaysTypes Shapes at program lines
+SaysOfProgram SecretToPublic at program lines =
+    lines ≡ type_lines Labels (site_of at program) ++ secret_line (secret_at (site_of at program))
+SaysOfProgram SecretIndex at program lines = SaysSecret at program lines
+SaysOfProgram SecretBound at program lines = SaysSecret at program lines
+SaysOfProgram SecretDivisionOperand at program lines = SaysSecret at program lines
+SaysOfProgram SecretMultiplicationOperand at program lines = SaysSecret at program lines
 SaysOfProgram rule at program lines = lines ≡ []
 
 -- of a text that is no program
-abbrev pub text_lines : Rule → ℕ → List ℕ → List ℕ
-text_lines UnknownCharacter at text = character_line (drop at text)
-text_lines rule at text = []
+abbrev pub SaysOfText : Rule → ℕ → List ℕ → List ℕ → Type 0
+SaysOfText UnknownCharacter at text lines = lines ≡ character_line (drop at text)
+SaysOfText UnexpectedToken at text lines = SaysExpected text at lines
+SaysOfText rule at text lines = lines ≡ []
 
 -- what is said of a refusal of a source
 pub data Says (source : List ℕ) (refusal : Refusal) : List ℕ → Type 0 where
@@ -104,5 +136,5 @@ pub data Says (source : List ℕ) (refusal : Refusal) : List ℕ → Type 0 wher
   of_text : {place unread : Place} {rule : Rule} {lines : List ℕ}
       → refusal.place ≡ Some place
       → Reads source (refused rule unread)
-      → lines ≡ text_lines refusal.rule place.offset source
+      → SaysOfText refusal.rule place.offset source lines
       → Says source refusal lines

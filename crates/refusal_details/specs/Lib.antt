@@ -1,2 +1,4 @@
+pub mod ExpectedLines
 pub mod Found
+pub mod SizeLines
 pub mod Details

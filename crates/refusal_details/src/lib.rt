@@ -1,25 +1,33 @@
 // What is said of a refusal beside its rule: lines with what there is at the place, for who wrote the source.
 //
 // It promises which lines these are, by the source's tree or, where it has none, by its bytes (`specs/Details.antt`). It
-// stands on `syntax` for the tree, on `name_uses` for what is near a name, on `call_places` for calls, and on `intervals` for
-// the numbers that an index or a divisor may be: those by which it was refused.
+// stands on `syntax` for the tree, on `expected_tokens` for what may stand at a place, on `name_uses` for what is near a
+// name, on `operand_types` for types and secret names, on `call_places` for calls, on `statement_costs` for sizes, and on
+// `intervals` for the numbers that an index or a divisor may be: those by which it was refused.
 #![tactic(auto)]
 
 mod calls;
 mod characters;
+mod expectations;
 mod name_lines;
+mod operands;
 mod ranges;
+mod size_lines;
 
 ghost use Rattle.std.specs.Prelude.{◌≡◌, IfOk, IfErr};
 ghost use Rattle.std.specs.String.{string_bytes};
 ghost use Rattle.language.specs.Tree.{program_tree};
 ghost use Rattle.language.specs.WantOfMemory.{IsWantOfMemory};
-ghost use Rattle.refusal_details.specs.Details.{Says, SaysOfProgram, text_lines};
+ghost use Rattle.refusal_details.specs.Details.{Says, SaysOfProgram, SaysOfText};
 
 use crate::characters::character_line;
+use crate::expectations::expected_lines;
 use crate::name_lines::name_line;
+use crate::operands::{label_lines, secret_line, type_lines};
 use crate::ranges::range_lines;
+use crate::size_lines::{declared_bytes_lines, inlined_size_lines};
 use language::{Place, Program, Refusal, Rule};
+use operand_types::Mismatch;
 use std::alloc::Global;
 use syntax::parse;
 
@@ -51,20 +59,32 @@ fn program_lines(
     ensures said { IfOk result (λ lines. SaysOfProgram rule place.offset (program_tree program.now) (string_bytes lines)) }
     ensures memory { IfErr result (λ fault. IsWantOfMemory fault.rule fault.place) }
 {
+    let at = place.offset;
     match rule {
-        Rule::UndeclaredName => Ok(name_line(alloc, place.offset, program)?),
-        Rule::IndexOutOfRange | Rule::DivisorMayBeZero => range_lines(alloc, place.offset, program),
+        Rule::UndeclaredName => Ok(name_line(alloc, at, program)?),
+        Rule::WidthsDiffer => Ok(type_lines(alloc, Mismatch::Widths, at, program)?),
+        Rule::WrongKind => Ok(type_lines(alloc, Mismatch::Kinds, at, program)?),
+        Rule::ArrayShapeOrLabel => Ok(type_lines(alloc, Mismatch::Shapes, at, program)?),
+        Rule::SecretToPublic => Ok(label_lines(alloc, at, program)?),
+        Rule::SecretIndex | Rule::SecretBound => Ok(secret_line(alloc, at, program)?),
+        Rule::SecretDivisionOperand | Rule::SecretMultiplicationOperand => {
+            Ok(secret_line(alloc, at, program)?)
+        }
+        Rule::InlinedSize => Ok(inlined_size_lines(alloc, program)?),
+        Rule::DeclaredBytes => Ok(declared_bytes_lines(alloc, program)?),
+        Rule::IndexOutOfRange | Rule::DivisorMayBeZero => range_lines(alloc, at, program),
         _ => Ok(String::new(alloc)),
     }
 }
 
 /// What is said of a text that is no program.
 fn text_lines(alloc: Global, rule: Rule, place: Place, text: &str) -> Result<String, Refusal>
-    ensures said { IfOk result (λ lines. string_bytes lines ≡ text_lines rule place.offset text.now) }
+    ensures said { IfOk result (λ lines. SaysOfText rule place.offset text.now (string_bytes lines)) }
     ensures memory { IfErr result (λ fault. IsWantOfMemory fault.rule fault.place) }
 {
     match rule {
         Rule::UnknownCharacter => Ok(character_line(alloc, place.offset, text.as_bytes())?),
+        Rule::UnexpectedToken => expected_lines(alloc, place.offset, text),
         _ => Ok(String::new(alloc)),
     }
 }
