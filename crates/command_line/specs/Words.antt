@@ -1,14 +1,14 @@
 -- Which words of a command line are arguments, and which profile is named.
-use Rattle.std.specs.Prelude.{ℕ, Bool, if◌then◌else◌, List, [], ◌∷◌, drop, codes, Option, Some, None, slice_index_or, map}
+use Rattle.std.specs.Prelude.{ℕ, Bool, ◌||◌, if◌then◌else◌, List, [], ◌∷◌, drop, codes, Option, Some, None, slice_index_or, map}
 use Rattle.std.specs.Str.{bytes_eq}
 use Rattle.word.specs.declared.profile.Profile.{Profile}
 use Rattle.word.specs.declared.profile.Profile.TheVariants.{P1, P2}
 use Rattle.command_line.specs.declared.words.Request.{Request}
-use Rattle.command_line.specs.declared.words.Request.TheVariants.{Eval, Run, Leak, Pair, Certify}
+use Rattle.command_line.specs.declared.words.Request.TheVariants.{Eval, Run, Leak, Pair, Certify, Picture}
 
--- a flag that may stand between a command that takes arguments and its path
+-- whether a word is a flag that may stand between a command that takes arguments and its path
 abbrev pub is_flag : List ℕ → Bool
-is_flag word = bytes_eq word (codes "--explain")
+is_flag word = bytes_eq word (codes "--explain") || bytes_eq word (codes "--shifts")
 
 -- the words from the first on that is no flag
 abbrev pub behind_flags : List (List ℕ) → List (List ℕ)
@@ -34,5 +34,6 @@ arguments_of (Eval file arguments explain) = Some (map (λ word. word.now) argum
 arguments_of (Run image arguments) = Some (map (λ word. word.now) arguments.now)
 arguments_of (Leak image arguments) = Some (map (λ word. word.now) arguments.now)
 arguments_of (Pair image arguments explain) = Some (map (λ word. word.now) arguments.now)
-arguments_of (Certify image arguments) = Some (map (λ word. word.now) arguments.now)
+arguments_of (Certify image arguments shifts) = Some (map (λ word. word.now) arguments.now)
+arguments_of (Picture image arguments) = Some (map (λ word. word.now) arguments.now)
 arguments_of request = None

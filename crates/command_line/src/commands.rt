@@ -39,7 +39,7 @@ const EXPLAIN_FIRST: &str =
                              it and what to do; it stands before FILE";
 
 /// All commands, in the order of the help.
-pub(crate) static COMMANDS: [CommandRow; 13] = [
+pub(crate) static COMMANDS: [CommandRow; 15] = [
     CommandRow {
         name: "check",
         about: "Says whether a source is accepted, or names the first rule that it violates",
@@ -137,8 +137,23 @@ pub(crate) static COMMANDS: [CommandRow; 13] = [
                 where runs may begin to differ",
         words: &[
             Word::Path("IMAGE", "An image that `build` or `wrap` wrote"),
+            Word::Flag(
+                "shifts",
+                "Counts the amounts of shifts by a register as seen, for cores that shift bit by bit; it stands before IMAGE",
+            ),
             Word::Arguments(
                 "One for each parameter, as for `run`; for a secret one `?` stands for every value of its type",
+            ),
+        ],
+    },
+    CommandRow {
+        name: "picture",
+        about: "Prints a page of HTML with a picture of what an observer sees of an image: steps to the right, addresses upwards",
+        words: &[
+            Word::Path("IMAGE", "An image that `build` or `wrap` wrote"),
+            Word::Arguments(
+                "As for `certify`, for a picture of one run, with 0 for each `?`; or as for `pair`, for a picture of two runs over \
+                 each other",
             ),
         ],
     },
@@ -179,6 +194,20 @@ pub(crate) static COMMANDS: [CommandRow; 13] = [
             "Lines `hart IMAGE ARG..`, one for each image, then `turns K N` for N turns of hart K, from 0, and \
              `round N` for N times one turn of each",
         )],
+    },
+    CommandRow {
+        name: "vectors",
+        about: "Tries vectors on a source: whether it gives what each of them asks for, and whether an observer sees the same \
+                for all secrets",
+        words: &[
+            Word::Path("FILE", "The source"),
+            Word::Path(
+                "VECTORS",
+                "Lines `NAME: ARG .. = OUTCOME ..`: the arguments as for `run`, and behind `=` the result and then each `mut` \
+                 array; bytes may be written `hex:00ff..`",
+            ),
+            Word::Profile,
+        ],
     },
     CommandRow {
         name: "explain",

@@ -54,6 +54,11 @@ pub enum Request<'a> {
     Certify {
         image: &'a str,
         arguments: &'a [&'a str],
+        shifts: bool,
+    },
+    Picture {
+        image: &'a str,
+        arguments: &'a [&'a str],
     },
     List {
         image: &'a str,
@@ -68,6 +73,11 @@ pub enum Request<'a> {
     },
     Harts {
         file: &'a str,
+    },
+    Vectors {
+        file: &'a str,
+        vectors: &'a str,
+        profile: Profile,
     },
     Explain {
         explanation: Explanation,
@@ -156,6 +166,11 @@ fn asked<'a>(alloc: Global, words: &'a [&'a str]) -> Result<Request<'a>, Error>
         Some(("certify", certify)) => Ok(Request::Certify {
             image: text_of(certify, "IMAGE"),
             arguments: after_path(words),
+            shifts: certify.get_flag("shifts"),
+        }),
+        Some(("picture", picture)) => Ok(Request::Picture {
+            image: text_of(picture, "IMAGE"),
+            arguments: after_path(words),
         }),
         Some(("list", list)) => Ok(Request::List {
             image: text_of(list, "IMAGE"),
@@ -170,6 +185,11 @@ fn asked<'a>(alloc: Global, words: &'a [&'a str]) -> Result<Request<'a>, Error>
         }),
         Some(("harts", harts)) => Ok(Request::Harts {
             file: text_of(harts, "FILE"),
+        }),
+        Some(("vectors", vectors)) => Ok(Request::Vectors {
+            file: text_of(vectors, "FILE"),
+            vectors: text_of(vectors, "VECTORS"),
+            profile: profile_of(vectors),
         }),
         Some(("explain", explain)) => match explanation(text_of(explain, "CODE")) {
             Some(explanation) => Ok(Request::Explain { explanation }),
@@ -232,5 +252,5 @@ fn behind_flags<'a>(words: &'a [&'a str]) -> &'a [&'a str]
 fn is_flag(word: &str) -> bool
     ensures { result ≡ is_flag word.now }
 {
-    word == "--explain"
+    word == "--explain" || word == "--shifts"
 }

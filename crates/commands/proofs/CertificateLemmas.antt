@@ -4,6 +4,7 @@ use Rattle.std.proofs.lemmas.Option.{none-some}
 use Rattle.rv_code.specs.Words.{word_of}
 use Rattle.rv_machine.specs.Machine.{Code, word_at}
 use Rattle.rv_machine.specs.declared.observation.Observation.{Observation}
+use Rattle.certified_runs.specs.declared.shifts.Shifts.{Shifts}
 use Rattle.certified_runs.specs.Certified.{KnownEnding, depends, KnownTurn, decided, stopped, undecided, RunEnding, same, may_differ, CertifiedRun, spent, halts, cut, turns}
 use Rattle.certified_runs.specs.Known.{Known}
 use Rattle.certified_runs.specs.declared.certifying.CertifiedEnd.{CertifiedEnd}
@@ -29,14 +30,14 @@ cut_at code n k seen ending pc (cut turn) is =
     subst (λ (p : ℕ). word_at code p ≢ None) here (depends_at code k depends turn refl)
 cut_at code n k seen ending pc (turns {n = less} {next = next} {seen = rest} turn run) is = cut_at code less next rest ending pc run is
 
-stands_at : (image : Fields) (given : List (Option Arg)) (answer : Result CertifiedEnd RunFault) (entry pc : ℕ) → Certified image given answer → answer ≡ Ok (MayDiffer entry pc) → word_at (code_at code_base image) pc ≢ None
-stands_at image given answer entry pc (refused first) is = cc
-stands_at image given answer entry pc (out_of_memory none) is = cc
-stands_at image given answer entry pc (certified {ending = same stop} none run) is = cc
-stands_at image given answer entry pc (certified {seen = seen} {ending = may_differ at} none run) is =
+stands_at : (image : Fields) (given : List (Option Arg)) (shifts : Shifts) (answer : Result CertifiedEnd RunFault) (entry pc : ℕ) → Certified image given shifts answer → answer ≡ Ok (MayDiffer entry pc) → word_at (code_at code_base image) pc ≢ None
+stands_at image given shifts answer entry pc (refused first) is = cc
+stands_at image given shifts answer entry pc (out_of_memory none) is = cc
+stands_at image given shifts answer entry pc (certified {ending = same stop} none run) is = cc
+stands_at image given shifts answer entry pc (certified {seen = seen} {ending = may_differ at} none run) is =
     let there : at ≡ pc = cc in
     subst (λ (p : ℕ). word_at (code_at code_base image) p ≢ None) there (cut_at (code_at code_base image) _ _ seen (may_differ at) at run refl)
 
-pub stands_in_code : (image : Fields) (given : List (Option Arg)) (certificate : CertifiedEnd) → Certified image given (Ok certificate) → StandsInCode image certificate
-stands_in_code image given (Same stop entries) h = tt
-stands_in_code image given (MayDiffer entry pc) h = stands_at image given (Ok (MayDiffer entry pc)) entry pc h refl
+pub stands_in_code : (image : Fields) (given : List (Option Arg)) (shifts : Shifts) (certificate : CertifiedEnd) → Certified image given shifts (Ok certificate) → StandsInCode image certificate
+stands_in_code image given shifts (Same stop entries) h = tt
+stands_in_code image given shifts (MayDiffer entry pc) h = stands_at image given shifts (Ok (MayDiffer entry pc)) entry pc h refl

@@ -10,7 +10,7 @@ use Rattle.commands.specs.Unread as unread_specs
 use Rattle.commands.specs.Unread.{IsOutOfMemory, IsUnread, IsUnwritten, NotRead, unread}
 use Rattle.commands.specs.Words.{AreSpelled}
 use Rattle.commands.specs.declared.fault.Fault.{Fault}
-use Rattle.commands.specs.declared.fault.Fault.TheVariants.{Text, Explained, Image, Run, Eval, Plan, Harts, Code, Name, File}
+use Rattle.commands.specs.declared.fault.Fault.TheVariants.{Text, Explained, Image, Run, Eval, Plan, Harts, Vectors, Code, Name, File}
 use Rattle.commands.specs.declared.fault.FileFault.{FileFault}
 use Rattle.commands.specs.declared.fault.FileFault.TheVariants.{CannotRead, CannotWrite, NotUtf8}
 use Rattle.image_fields.specs.Fields.{Fields}
@@ -31,6 +31,7 @@ not_memory (Run why) memory output = let is = output.2 in cc
 not_memory (Eval why) memory output = let is = output.2 in cc
 not_memory (Plan why) memory output = let is = output.2 in cc
 not_memory (Harts why) memory output = let is = output.2 in cc
+not_memory (Vectors why) memory output = let is = output.2 in cc
 not_memory (Code rule) memory output = memory
 not_memory (Name place) memory output = memory
 not_memory (File file) memory output = memory

@@ -6,6 +6,8 @@ mod LeakFaults
 pub mod ImageLemmas
 mod Writing
 mod MeasuringLemmas
+mod PictureLemmas
 mod RequestLemmas
 mod MeaningLemmas
 mod HartLemmas
+mod VectorLemmas

@@ -1,10 +1,12 @@
 -- What is printed of a certificate.
-use Rattle.std.specs.Prelude.{◌≡◌, ◌≢◌, ℕ, ◌++◌, List, Option, Some, None, Ok, Err, codes, ⊤}
+use Rattle.std.specs.Prelude.{◌≡◌, ◌≢◌, ℕ, Bool, true, false, ◌++◌, List, Option, Some, None, Ok, Err, codes, ⊤}
 use Rattle.std.specs.Fmt.{decimal}
 use Rattle.certificates.specs.Certified.{Certified}
 use Rattle.certificates.specs.Texts.{fault_of_given_texts}
 use Rattle.certified_runs.specs.declared.certifying.CertifiedEnd.{CertifiedEnd}
 use Rattle.certified_runs.specs.declared.certifying.CertifiedEnd.TheVariants.{Same, MayDiffer}
+use Rattle.certified_runs.specs.declared.shifts.Shifts.{Shifts}
+use Rattle.certified_runs.specs.declared.shifts.Shifts.TheVariants.{Hidden, Seen}
 use Rattle.codegen.specs.Loaded.{params_of, code_at}
 use Rattle.commands.specs.Contents.{Contents}
 use Rattle.commands.specs.ImageRefusals.{RefusesImage}
@@ -37,22 +39,27 @@ abbrev pub certificate_status : CertifiedEnd → ℕ
 certificate_status (Same stop entries) = status_of stop
 certificate_status (MayDiffer entry pc) = 1
 
--- whether an observer sees the same of the file's image for all arguments that have the values which the words give
-pub record SaysCertificate (files : Contents) (path : List ℕ) (words : List (List ℕ)) (text : List ℕ) (status : ℕ) : Type 0 where
+-- whether an observer sees amounts of shifts, as the flag says
+abbrev pub shifts_seen : Bool → Shifts
+shifts_seen false = Hidden
+shifts_seen true = Seen
+
+-- whether this observer sees the same of the file's image for all arguments that have the values which the words give
+pub record SaysCertificate (shifts : Shifts) (files : Contents) (path : List ℕ) (words : List (List ℕ)) (text : List ℕ) (status : ℕ) : Type 0 where
   pub image : Fields
   pub given : List (Option Arg)
   pub certificate : CertifiedEnd
   pub held : HoldsImage files path image
   pub as_said : AreGiven (params_of image) words given
-  pub certified : Certified image given (Ok certificate)
+  pub certified : Certified image given shifts (Ok certificate)
   pub printed : PrintsCertificate image certificate text
   pub ended : status ≡ certificate_status certificate
 
 -- the certified run on what is given has this fault
-abbrev pub FaultsByCertificate : List (List ℕ) → Fields → Fault → Type 0
-FaultsByCertificate words image fault =
-    (given : List (Option Arg)) × (why : RunFault) × AreGiven (params_of image) words given × Certified image given (Err why) × (fault ≡ Run why)
+abbrev pub FaultsByCertificate : Shifts → List (List ℕ) → Fields → Fault → Type 0
+FaultsByCertificate shifts words image fault =
+    (given : List (Option Arg)) × (why : RunFault) × AreGiven (params_of image) words given × Certified image given shifts (Err why) × (fault ≡ Run why)
 
 -- why that is not answered
-abbrev pub RefusesCertificate : Contents → List ℕ → List (List ℕ) → Fault → Type 0
-RefusesCertificate files path words = RefusesImage files path (λ image. fault_of_given_texts (params_of image) words) (FaultsByCertificate words)
+abbrev pub RefusesCertificate : Shifts → Contents → List ℕ → List (List ℕ) → Fault → Type 0
+RefusesCertificate shifts files path words = RefusesImage files path (λ image. fault_of_given_texts (params_of image) words) (FaultsByCertificate shifts words)

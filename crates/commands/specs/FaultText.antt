@@ -4,7 +4,7 @@ use Rattle.std.specs.Fmt.{decimal}
 use Rattle.std.specs.String.{string_bytes}
 use Rattle.arguments.specs.Text as arguments
 use Rattle.commands.specs.declared.fault.Fault.{Fault}
-use Rattle.commands.specs.declared.fault.Fault.TheVariants.{Text, Explained, Image, Run, Eval, Plan, Harts, Code, Name, File}
+use Rattle.commands.specs.declared.fault.Fault.TheVariants.{Text, Explained, Image, Run, Eval, Plan, Harts, Vectors, Code, Name, File}
 use Rattle.commands.specs.declared.fault.FileFault.{FileFault}
 use Rattle.commands.specs.declared.fault.FileFault.TheVariants.{CannotRead, CannotWrite, NotUtf8}
 use Rattle.function_text.specs.FaultText as functions
@@ -28,6 +28,9 @@ use Rattle.source_eval.specs.FaultText.{eval_fault_text}
 use Rattle.source_eval.specs.declared.fault.EvalFault.{EvalFault}
 use Rattle.source_eval.specs.declared.fault.EvalFault.TheVariants as evaluations
 use Rattle.rv_machine.specs.Stops.{stop_name}
+use Rattle.vectors.specs.FaultText.{vectors_fault_text}
+use Rattle.vectors.specs.declared.fault.VectorsFault.{VectorsFault}
+use Rattle.vectors.specs.declared.fault.VectorsFault.TheVariants as vectors
 use Rattle.wrapping.specs.RuleNames.{rule_text}
 
 -- what failed, and the path; that of standard output is `-`
@@ -57,6 +60,7 @@ fault_line (Run fault) = run_line fault
 fault_line (Eval fault) = codes "refused: " ++ eval_fault_text fault
 fault_line (Plan fault) = codes "refused: " ++ plan_fault_text fault
 fault_line (Harts fault) = codes "refused: " ++ harts_fault_text fault
+fault_line (Vectors fault) = codes "refused: " ++ vectors_fault_text fault
 fault_line (Code rule) = codes "refused: " ++ rule_text rule
 fault_line (Name place) = codes "refused: " ++ functions.fault_text (function_faults.Name place)
 fault_line (File fault) = codes "file: " ++ file_fault_text fault
@@ -91,6 +95,10 @@ harts_status (harts.Schedule rule at) = 1
 harts_status (harts.Argument hart rule index) = 1
 harts_status harts.Memory = 4
 
+abbrev pub vectors_status : VectorsFault → ℕ
+vectors_status (vectors.Line line) = 1
+vectors_status vectors.Memory = 4
+
 -- the exit status; 3 is that of a file that failed
 abbrev pub fault_status : Fault → ℕ
 fault_status (Text refusal) = rule_status refusal.rule
@@ -100,6 +108,7 @@ fault_status (Run fault) = run_status fault
 fault_status (Eval fault) = eval_status fault
 fault_status (Plan fault) = plan_status fault
 fault_status (Harts fault) = harts_status fault
+fault_status (Vectors fault) = vectors_status fault
 fault_status (Code rule) = 1
 fault_status (Name place) = 1
 fault_status (File fault) = 3

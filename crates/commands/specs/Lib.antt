@@ -10,6 +10,7 @@ pub mod Runs
 pub mod Leaks
 pub mod Pairs
 pub mod Certificates
+pub mod Pictures
 pub mod FileTexts
 pub mod Meanings
 pub mod HartsText
@@ -20,4 +21,5 @@ pub mod WrappedCode
 pub mod TwoFiles
 pub mod FunctionFiles
 pub mod FaultText
+pub mod Vectors
 pub mod Requests

@@ -2,7 +2,7 @@
 use Rattle.std.specs.Prelude.{◌≡◌, ◌⊎◌, ℕ, List, [], ◌++◌, map, codes}
 use Rattle.command_line.specs.declared.words.Request.{Request}
 use Rattle.command_line.specs.declared.words.Request.TheVariants as requests
-use Rattle.commands.specs.Certificates.{SaysCertificate, RefusesCertificate}
+use Rattle.commands.specs.Certificates.{SaysCertificate, RefusesCertificate, shifts_seen}
 use Rattle.commands.specs.Contents.{Contents}
 use Rattle.commands.specs.Costs.{SaysCosts, RefusesCosts}
 use Rattle.commands.specs.FaultText.{fault_line, fault_status}
@@ -13,9 +13,11 @@ use Rattle.commands.specs.Judged.{IsAccepted, IsRefusedSo, IsImageOf}
 use Rattle.commands.specs.Leaks.{SaysLeak, RefusesLeak, IsOutputFault}
 use Rattle.commands.specs.Meanings.{SaysMeaning, RefusesMeaning}
 use Rattle.commands.specs.Pairs.{SaysPair, RefusesPair, SaysList}
+use Rattle.commands.specs.Pictures.{SaysPicture, RefusesPicture}
 use Rattle.commands.specs.Runs.{SaysRun, RefusesRun}
 use Rattle.commands.specs.TwoFiles.{WritesTwo, FailsToWriteTwo}
 use Rattle.commands.specs.Unread.{IsOutOfMemory}
+use Rattle.commands.specs.Vectors.{SaysVectors, RefusesVectors}
 use Rattle.commands.specs.WrappedCode.{IsImageOfCode, RefusesCode}
 use Rattle.commands.specs.Written.{WritesFile, FailsToWrite}
 use Rattle.commands.specs.declared.fault.Fault.{Fault}
@@ -33,10 +35,12 @@ Answers (requests.Eval file arguments explain) files text status = SaysMeaning f
 Answers (requests.Run image arguments) files text status = SaysRun files image.now (map (λ word. word.now) arguments.now) text × (status ≡ 0)
 Answers (requests.Leak image arguments) files text status = SaysLeak files image.now (map (λ word. word.now) arguments.now) status text
 Answers (requests.Pair image arguments explain) files text status = SaysPair explain files image.now (map (λ word. word.now) arguments.now) text × (status ≡ 0)
-Answers (requests.Certify image arguments) files text status = SaysCertificate files image.now (map (λ word. word.now) arguments.now) text status
+Answers (requests.Certify image arguments shifts) files text status = SaysCertificate (shifts_seen shifts) files image.now (map (λ word. word.now) arguments.now) text status
+Answers (requests.Picture image arguments) files text status = SaysPicture files image.now (map (λ word. word.now) arguments.now) text × (status ≡ 0)
 Answers (requests.List image) files text status = SaysList files image.now text × (status ≡ 0)
 Answers (requests.Wrap file code image frame steps profile) files text status = (text ≡ []) × (status ≡ 0)
 Answers (requests.Harts file) files text status = SaysHarts files file.now text status
+Answers (requests.Vectors file vectors profile) files text status = SaysVectors profile files file.now vectors.now text status
 Answers (requests.Explain explanation) files text status = (text ≡ explanation_text explanation ++ codes "\n") × (status ≡ 0)
 
 -- what files hold once a request is done: an image or a function's texts that were written, and else what they held
@@ -50,11 +54,13 @@ Leaves (requests.Eval file arguments explain) before after = after ≡ before
 Leaves (requests.Run image arguments) before after = after ≡ before
 Leaves (requests.Leak image arguments) before after = after ≡ before
 Leaves (requests.Pair image arguments explain) before after = after ≡ before
-Leaves (requests.Certify image arguments) before after = after ≡ before
+Leaves (requests.Certify image arguments shifts) before after = after ≡ before
+Leaves (requests.Picture image arguments) before after = after ≡ before
 Leaves (requests.List image) before after = after ≡ before
 Leaves (requests.Wrap file code image frame steps profile) before after =
     WritesFile image.now (IsImageOfCode (record { frame_bytes = frame; max_steps = steps; profile = profile }) before file.now code.now) before after
 Leaves (requests.Harts file) before after = after ≡ before
+Leaves (requests.Vectors file vectors profile) before after = after ≡ before
 Leaves (requests.Explain explanation) before after = after ≡ before
 
 -- why a request is not done, and what files hold then
@@ -69,13 +75,15 @@ Refuses (requests.Eval file arguments explain) before after fault = RefusesMeani
 Refuses (requests.Run image arguments) before after fault = RefusesRun before image.now (map (λ word. word.now) arguments.now) fault × (after ≡ before)
 Refuses (requests.Leak image arguments) before after fault = RefusesLeak before image.now (map (λ word. word.now) arguments.now) fault × (after ≡ before)
 Refuses (requests.Pair image arguments explain) before after fault = RefusesPair before image.now (map (λ word. word.now) arguments.now) fault × (after ≡ before)
-Refuses (requests.Certify image arguments) before after fault =
-    RefusesCertificate before image.now (map (λ word. word.now) arguments.now) fault × (after ≡ before)
+Refuses (requests.Certify image arguments shifts) before after fault =
+    RefusesCertificate (shifts_seen shifts) before image.now (map (λ word. word.now) arguments.now) fault × (after ≡ before)
+Refuses (requests.Picture image arguments) before after fault = RefusesPicture before image.now (map (λ word. word.now) arguments.now) fault × (after ≡ before)
 Refuses (requests.List image) before after fault = NoImage before image.now fault × (after ≡ before)
 Refuses (requests.Wrap file code image frame steps profile) before after fault =
     let asked : Asked = record { frame_bytes = frame; max_steps = steps; profile = profile } in
     FailsToWrite image.now (IsImageOfCode asked before file.now code.now) (RefusesCode asked before file.now code.now) before after fault
 Refuses (requests.Harts file) before after fault = after ≡ before
+Refuses (requests.Vectors file vectors profile) before after fault = RefusesVectors profile before file.now vectors.now fault × (after ≡ before)
 Refuses (requests.Explain explanation) before after fault = IsOutOfMemory fault × (after ≡ before)
 
 -- bytes went out, all of them, or where a call failed a beginning of them

@@ -1,7 +1,7 @@
 -- Faults of a command: a file was not read, or memory was refused.
 use Rattle.std.specs.Prelude.{◌≡◌, ℕ, List}
 use Rattle.commands.specs.declared.fault.Fault.{Fault}
-use Rattle.commands.specs.declared.fault.Fault.TheVariants.{Text, Explained, Image, Run, Eval, Plan, Harts, Code, Name, File}
+use Rattle.commands.specs.declared.fault.Fault.TheVariants.{Text, Explained, Image, Run, Eval, Plan, Harts, Vectors, Code, Name, File}
 use Rattle.commands.specs.declared.fault.FileFault.{FileFault}
 use Rattle.commands.specs.declared.fault.FileFault.TheVariants.{CannotRead, CannotWrite, NotUtf8}
 use Rattle.harts.specs.declared.fault.HartsFault.TheVariants as harts
@@ -10,6 +10,7 @@ use Rattle.hepurita.specs.declared.fault.RunFault.TheVariants as runs
 use Rattle.image.specs.declared.fault.ImageFault.TheVariants as images
 use Rattle.language.specs.WantOfMemory.{IsWantOfMemory}
 use Rattle.source_eval.specs.declared.fault.EvalFault.TheVariants as evaluations
+use Rattle.vectors.specs.declared.fault.VectorsFault.TheVariants as vectors
 
 -- memory was refused
 abbrev pub IsOutOfMemory : Fault → Type 0
@@ -20,6 +21,7 @@ IsOutOfMemory (Run fault) = fault ≡ runs.Memory
 IsOutOfMemory (Eval fault) = fault ≡ evaluations.Memory
 IsOutOfMemory (Plan fault) = fault ≡ plans.Memory
 IsOutOfMemory (Harts fault) = fault ≡ harts.Memory
+IsOutOfMemory (Vectors fault) = fault ≡ vectors.Memory
 IsOutOfMemory (Code rule) = ⊥
 IsOutOfMemory (Name place) = ⊥
 IsOutOfMemory (File fault) = ⊥

@@ -3,7 +3,7 @@
 ghost use Rattle.std.specs.Prelude.{◌≡◌, ◌≢◌, ◌≤◌, ◌++◌, ℕ, List, Some, None, map, codes, IsTrue, IfOk, IfErr};
 ghost use Rattle.std.specs.Fmt.{decimal};
 ghost use Rattle.codegen.specs.Loaded.{code_at};
-ghost use Rattle.commands.specs.Certificates.{StandsInCode, PrintsCertificate, certificate_status, SaysCertificate, RefusesCertificate};
+ghost use Rattle.commands.specs.Certificates.{StandsInCode, PrintsCertificate, certificate_status, shifts_seen, SaysCertificate, RefusesCertificate};
 ghost use Rattle.hepurita.specs.Bases.{code_base};
 ghost use Rattle.listing.specs.Code.{IsLineAt};
 ghost use Rattle.listing.specs.Lines.{stop_line};
@@ -13,7 +13,7 @@ use crate::fault::Fault;
 use crate::files::Files;
 use crate::images::{image_of, status_of};
 use crate::performing::MAY_DIFFER;
-use certificates::{Certificate, certify, read_given};
+use certificates::{Certificate, Shifts, certify, read_given};
 use hepurita::params;
 use image::Image;
 use listing::{line_at, stop_line};
@@ -21,27 +21,39 @@ use rv_machine::Stop;
 use std::alloc::{AllocError, Global};
 
 /// Whether an observer sees the same of an image for all values of the arguments that are not given, as lines, and the
-/// exit status.
+/// exit status. With `shifts` the observer also sees by how much registers are shifted.
 pub fn certify_image<'a, F: Files>(
     alloc: Global,
     path: &'a str,
     arguments: &[&str],
+    shifts: bool,
     files: &F,
 ) -> Result<(Vec<u8>, u8), Fault<'a>>
     ensures known { IfOk result (λ said. said.1 ≤ 5) }
-    ensures said { IsTrue F.TELLS → IfOk result (λ said. SaysCertificate (F.contents files.now) path.now (map (λ word. word.now) arguments.now) said.0.items said.1) }
-    ensures refused { IsTrue F.TELLS → IfErr result (RefusesCertificate (F.contents files.now) path.now (map (λ word. word.now) arguments.now)) }
+    ensures said { IsTrue F.TELLS → IfOk result (λ said. SaysCertificate (shifts_seen shifts) (F.contents files.now) path.now (map (λ word. word.now) arguments.now) said.0.items said.1) }
+    ensures refused { IsTrue F.TELLS → IfErr result (RefusesCertificate (shifts_seen shifts) (F.contents files.now) path.now (map (λ word. word.now) arguments.now)) }
 {
     let image = image_of(alloc, path, files)?;
     let params = params(alloc, &image)?;
     let given = read_given(alloc, params.as_slice(), arguments)?;
-    let certificate = certify(alloc, &image, given.as_slice())?;
+    let certificate = certify(alloc, &image, given.as_slice(), shifts_seen(shifts))?;
     let text = text_of(alloc, &image, certificate)?;
     Ok((text, status_of_certificate(certificate)))
 }
 
+/// Whether the observer sees amounts of shifts.
+fn shifts_seen(shifts: bool) -> Shifts
+    ensures { result ≡ shifts_seen shifts }
+{
+    if shifts { Shifts::Seen } else { Shifts::Hidden }
+}
+
 /// A certificate as lines: `same` and the stop, or where runs may begin to differ and the line of the word there.
-fn text_of(alloc: Global, image: &Image, certificate: Certificate) -> Result<Vec<u8>, AllocError>
+pub fn text_of(
+    alloc: Global,
+    image: &Image,
+    certificate: Certificate,
+) -> Result<Vec<u8>, AllocError>
     requires { StandsInCode image.now certificate }
     ensures { IfOk result (λ text. PrintsCertificate image.now certificate text.items) }
 {

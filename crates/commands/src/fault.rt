@@ -1,6 +1,6 @@
 ghost use Rattle.std.specs.Prelude.{◌≡◌};
 ghost use Rattle.commands.specs.Unread.{IsOutOfMemory};
-ghost use Rattle.commands.specs.declared.fault.Fault.TheVariants.{Text, Image, Run, Eval, Plan, Harts, File};
+ghost use Rattle.commands.specs.declared.fault.Fault.TheVariants.{Text, Image, Run, Eval, Plan, Harts, Vectors, File};
 
 use arguments::ArgumentFault;
 use function_text::FunctionFault;
@@ -12,6 +12,7 @@ use language::{Place, Refusal, Rule};
 use source_eval::EvalFault;
 use std::alloc::{AllocError, AllocFailed};
 use std::fmt;
+use vectors::VectorsFault;
 use wrapping::CodeRule;
 
 /// What a file failed by, with its path; that of standard output is `-`.
@@ -49,6 +50,7 @@ pub enum Fault<'a> {
     Eval(EvalFault),
     Plan(PlanFault),
     Harts(HartsFault),
+    Vectors(VectorsFault),
     Code(CodeRule),
     /// The export has a name that C or an assembler cannot take; it stands there.
     Name(Place),
@@ -88,6 +90,8 @@ impl Fault<'_> {
             Fault::Harts(HartsFault::Schedule { .. }) => 1,
             Fault::Harts(HartsFault::Argument { .. }) => 1,
             Fault::Harts(HartsFault::Memory) => 4,
+            Fault::Vectors(VectorsFault::Line { .. }) => 1,
+            Fault::Vectors(VectorsFault::Memory) => 4,
             Fault::Code(_) => 1,
             Fault::Name(_) => 1,
             Fault::File(_) => 3,
@@ -124,6 +128,7 @@ impl fmt::Display for Fault<'_> {
                 write!(f, "refused: {fault}")
             }
             Fault::Harts(HartsFault::Memory) => f.write_str("refused: M1: memory"),
+            Fault::Vectors(fault) => write!(f, "refused: {fault}"),
             Fault::Code(rule) => write!(f, "refused: {rule}"),
             Fault::Name(place) => {
                 let fault: FunctionFault<Refusal> = FunctionFault::Name(*place);
@@ -179,6 +184,14 @@ impl From<HartsFault> for Fault<'_> {
 
     fn from(fault: HartsFault) -> Self {
         Fault::Harts(fault)
+    }
+}
+
+impl From<VectorsFault> for Fault<'_> {
+    ghost from_gives = { λ inner fault. fault ≡ Vectors inner };
+
+    fn from(fault: VectorsFault) -> Self {
+        Fault::Vectors(fault)
     }
 }
 

@@ -178,7 +178,7 @@ fn pairing_lines(
 }
 
 /// A comparison as a line.
-fn pairing_line(alloc: Global, pairing: Pairing) -> Result<String, AllocError>
+pub fn pairing_line(alloc: Global, pairing: Pairing) -> Result<String, AllocError>
     ensures { IfOk result (λ text. string_bytes text ≡ pairing_text pairing) }
 {
     match pairing {
@@ -189,7 +189,11 @@ fn pairing_line(alloc: Global, pairing: Pairing) -> Result<String, AllocError>
 
 /// The two lists of arguments that words spell, of which the first half is the first. The words are
 /// counted on from one list to the other.
-fn both_args(alloc: Global, params: &[Param], arguments: &[&str]) -> Result<(Args, Args), RunFault>
+pub fn both_args(
+    alloc: Global,
+    params: &[Param],
+    arguments: &[&str],
+) -> Result<(Args, Args), RunFault>
     requires { length params.now ≤ most_parameters }
     ensures found { IfOk result (λ both. AreBothSpelled params.now (map (λ word. word.now) arguments.now) both.0 both.1) }
     ensures refused { IfErr result (IsFaultOfWords (fault_of_both params.now (map (λ word. word.now) arguments.now))) }

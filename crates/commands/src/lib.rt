@@ -15,8 +15,10 @@ mod images;
 mod measuring;
 mod outcome;
 mod performing;
+mod picturing;
 mod side_by_side;
 mod texts;
+mod trying;
 
 pub use command_line::Request;
 pub use fault::{Fault, FileFault};

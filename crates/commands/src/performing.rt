@@ -13,8 +13,10 @@ use crate::foreign_code::wrap_code;
 use crate::functions::write_function;
 use crate::images::{leak_image, list_image, pair_image, run_image};
 use crate::measuring::measure_file;
+use crate::picturing::picture_image;
 use crate::side_by_side::{run_side_by_side, whole_text};
 use crate::texts::{build_image, check_text};
+use crate::trying::try_file;
 use command_line::{NoRequest, Request, parse};
 use language::Refusal;
 use std::alloc::Global;
@@ -180,9 +182,17 @@ fn answer<'a, F: Files, O: Sink>(
             let text = pair_image(alloc, image, arguments, explain, files)?;
             print(out, text.as_slice(), DONE)
         }
-        Request::Certify { image, arguments } => {
-            let (text, status) = certify_image(alloc, image, arguments, files)?;
+        Request::Certify {
+            image,
+            arguments,
+            shifts,
+        } => {
+            let (text, status) = certify_image(alloc, image, arguments, shifts, files)?;
             print(out, text.as_slice(), status)
+        }
+        Request::Picture { image, arguments } => {
+            let page = picture_image(alloc, image, arguments, files)?;
+            print(out, page.as_slice(), DONE)
         }
         Request::List { image } => {
             let lines = list_image(alloc, image, files)?;
@@ -205,6 +215,14 @@ fn answer<'a, F: Files, O: Sink>(
             Ok(DONE)
         }
         Request::Harts { file } => answer_harts(alloc, file, files, text, out),
+        Request::Vectors {
+            file,
+            vectors,
+            profile,
+        } => {
+            let (text, status) = try_file(alloc, file, vectors, profile, files)?;
+            print(out, text.as_bytes(), status)
+        }
         Request::Explain { explanation } => {
             let lines = format!(in alloc; "{explanation}\n")?;
             print(out, lines.as_bytes(), DONE)

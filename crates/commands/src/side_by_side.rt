@@ -1,12 +1,13 @@
 // Harts side by side, as a file says.
 
-ghost use Rattle.std.specs.Prelude.{◌≡◌, ◌≤◌, ◌++◌, Some, length, map, vec_len, IsTrue, IfOk, OnOk};
+ghost use Rattle.std.specs.Prelude.{◌≡◌, ◌≤◌, ◌++◌, Some, length, map, vec_len, IsTrue, IfOk, IfErr, OnOk};
 ghost use Rattle.std.specs.List.{AllZip};
 ghost use Rattle.std.specs.String.{string_bytes};
 ghost use Rattle.codegen.specs.Loaded.{params_of};
 ghost use Rattle.hepurita.specs.Bases.{most_images};
 ghost use Rattle.harts.specs.Frames.{job_of};
 ghost use Rattle.harts_file.specs.Jobs.{hart_of};
+ghost use Rattle.commands.specs.FileTexts.{NoWholeText};
 ghost use Rattle.commands.specs.Harts.{IsJobOf, SaysPlan};
 ghost use Rattle.commands.specs.HartsText.{behind, turns_text, ended_line, ended_text, ends_text, harts_text, is_well, status_of_ends};
 ghost use Rattle.commands.specs.OutcomeText.{outcome_text};
@@ -33,6 +34,7 @@ pub fn whole_text<'a, F: Files>(
     files: &F,
 ) -> Result<String, Fault<'a>>
     ensures said { IsTrue F.TELLS → IfOk result (λ text. F.contents files.now file.now ≡ Some (string_bytes text)) }
+    ensures refused { IsTrue F.TELLS → IfErr result (NoWholeText (F.contents files.now) file.now) }
 {
     let bytes = match files.read(alloc, file, usize::MAX) {
         Ok(bytes) => bytes,

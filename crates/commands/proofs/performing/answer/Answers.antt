@@ -1,10 +1,12 @@
 use Rattle.std.proofs.Common.{ℕ, List, map, refl, sym, ◌∙◌, subst}
 use Rattle.std.proofs.lemmas.Result.{err_from_is_err_and}
-use Rattle.commands.specs.Certificates.{SaysCertificate}
+use Rattle.commands.specs.Certificates.{SaysCertificate, shifts_seen}
 use Rattle.commands.specs.Costs.{SaysCosts}
 use Rattle.commands.specs.Meanings.{SaysMeaning}
 use Rattle.commands.specs.Pairs.{SaysPair, SaysList}
+use Rattle.commands.specs.Pictures.{SaysPicture}
 use Rattle.commands.specs.Runs.{SaysRun}
+use Rattle.commands.specs.Vectors.{SaysVectors}
 use Rattle.commands.proofs.RequestLemmas.{refuses, prints, fails_to_print, fails_to_list}
 use Rattle.commands.proofs.performing.answer.Goals as goal
 
@@ -47,6 +49,16 @@ pub returns-in_err-text-in-Certify-clause-failed : goal.returns-in_err-text-in-C
 returns-in_err-text-in-Certify-clause-failed g c = λ files out.
     let p = err_from_is_err_and c.from_residual-in_err-text-in-Certify.result c.from_residual-in_err-text-in-Certify.ensures.1 in
     refuses _ _ c.in-Certify.is _ _ _ c.from_residual-in_err-text-in-Certify.result p.0 c.in_err-text-in-Certify.field-0.0 p.1 p.2 (c.in_err-text-in-Certify.ensures.refused files, refl)
+
+pub returns-in_err-page-in-Picture-clause-failed : goal.returns-in_err-page-in-Picture-clause-failed
+returns-in_err-page-in-Picture-clause-failed g c = λ files out.
+    let p = err_from_is_err_and c.from_residual-in_err-page-in-Picture.result c.from_residual-in_err-page-in-Picture.ensures.1 in
+    refuses _ _ c.in-Picture.is _ _ _ c.from_residual-in_err-page-in-Picture.result p.0 c.in_err-page-in-Picture.field-0.0 p.1 p.2 (c.in_err-page-in-Picture.ensures.refused files, refl)
+
+pub returns-in_err-text-in-Vectors-clause-failed : goal.returns-in_err-text-in-Vectors-clause-failed
+returns-in_err-text-in-Vectors-clause-failed g c = λ files out.
+    let p = err_from_is_err_and c.from_residual-in_err-text-in-Vectors.result c.from_residual-in_err-text-in-Vectors.ensures.1 in
+    refuses _ _ c.in-Vectors.is _ _ _ c.from_residual-in_err-text-in-Vectors.result p.0 c.in_err-text-in-Vectors.field-0.0 p.1 p.2 (c.in_err-text-in-Vectors.ensures.refused files, refl)
 
 pub returns-in_err-lines-in-List-clause-failed : goal.returns-in_err-lines-in-List-clause-failed
 returns-in_err-lines-in-List-clause-failed g c = λ files out.
@@ -94,8 +106,23 @@ returns-in_ok-text-in-Pair-clause-failed g c = λ files out.
 
 pub returns-in_ok-text-in-Certify-clause-failed : goal.returns-in_ok-text-in-Certify-clause-failed
 returns-in_ok-text-in-Certify-clause-failed g c = λ files out.
-    let said = subst (λ (bytes : List ℕ). SaysCertificate (g.F.Files.contents c.args.files.now) c.in-Certify.image.now (map (λ word. word.now) c.in-Certify.arguments.now) bytes c.in_ok-text-in-Certify.status) (sym c.as_slice-in-Certify.ensures.value) (c.in_ok-text-in-Certify.ensures.said files) in
+    let said = subst (λ (bytes : List ℕ). SaysCertificate (shifts_seen c.in-Certify.shifts) (g.F.Files.contents c.args.files.now) c.in-Certify.image.now (map (λ word. word.now) c.in-Certify.arguments.now) bytes c.in_ok-text-in-Certify.status) (sym c.as_slice-in-Certify.ensures.value) (c.in_ok-text-in-Certify.ensures.said files) in
     fails_to_print _ _ c.in-Certify.is _ _ _ _ c.as_slice-in-Certify.result.now c.in_ok-text-in-Certify.status c.print-in-Certify.result said refl (c.print-in-Certify.ensures.beginning out) c.print-in-Certify.ensures.fault
+
+pub returns-in_ok-page-in-Picture-clause-failed : goal.returns-in_ok-page-in-Picture-clause-failed
+returns-in_ok-page-in-Picture-clause-failed g c = λ files out.
+    let said = subst (λ (bytes : List ℕ). SaysPicture (g.F.Files.contents c.args.files.now) c.in-Picture.image.now (map (λ word. word.now) c.in-Picture.arguments.now) bytes) (sym c.as_slice-in-Picture.ensures.value) (c.in_ok-page-in-Picture.ensures.said files) in
+    fails_to_print _ _ c.in-Picture.is _ _ _ _ c.as_slice-in-Picture.result.now 0 c.print-in-Picture.result (said, refl) refl (c.print-in-Picture.ensures.beginning out) c.print-in-Picture.ensures.fault
+
+pub returns-in_ok-text-in-Vectors-clause-failed : goal.returns-in_ok-text-in-Vectors-clause-failed
+returns-in_ok-text-in-Vectors-clause-failed g c = λ files out.
+    let said = subst (λ (bytes : List ℕ). SaysVectors c.in-Vectors.profile (g.F.Files.contents c.args.files.now) c.in-Vectors.file.now c.in-Vectors.vectors.now bytes c.in_ok-text-in-Vectors.status) (sym c.as_bytes-in-Vectors.ensures.value) (c.in_ok-text-in-Vectors.ensures.said files) in
+    fails_to_print _ _ c.in-Vectors.is _ _ _ _ c.as_bytes-in-Vectors.result.now c.in_ok-text-in-Vectors.status c.print-in-Vectors.result said refl (c.print-in-Vectors.ensures.beginning out) c.print-in-Vectors.ensures.fault
+
+pub returns-in_ok-text-in-Vectors-clause-done : goal.returns-in_ok-text-in-Vectors-clause-done
+returns-in_ok-text-in-Vectors-clause-done g c = λ files out.
+    let said = subst (λ (bytes : List ℕ). SaysVectors c.in-Vectors.profile (g.F.Files.contents c.args.files.now) c.in-Vectors.file.now c.in-Vectors.vectors.now bytes c.in_ok-text-in-Vectors.status) (sym c.as_bytes-in-Vectors.ensures.value) (c.in_ok-text-in-Vectors.ensures.said files) in
+    prints _ _ c.in-Vectors.is _ _ _ _ c.as_bytes-in-Vectors.result.now c.in_ok-text-in-Vectors.status c.print-in-Vectors.result said refl c.print-in-Vectors.ensures.answer (c.print-in-Vectors.ensures.whole out)
 
 pub returns-in_ok-lines-in-List-clause-failed : goal.returns-in_ok-lines-in-List-clause-failed
 returns-in_ok-lines-in-List-clause-failed g c = λ files out.

@@ -1,0 +1,47 @@
+use Rattle.std.proofs.Common.{◌≡◌, ◌++◌, List, ℕ, Option, Ok, Err, map, refl, ap₂, ◌∙◌, subst, inl}
+use Rattle.std.proofs.lemmas.Result.{err_from_is_err_and}
+use Rattle.certificates.specs.Certified.{Certified}
+use Rattle.certificates.specs.Texts.{fault_of_given_texts}
+use Rattle.certified_runs.specs.declared.shifts.Shifts.TheVariants.{Hidden}
+use Rattle.image_pictures.specs.Drawn.{DrawsOne}
+use Rattle.language.specs.declared.signature.Param.{Param}
+use Rattle.language.specs.declared.values.Arg.{Arg}
+use Rattle.commands.specs.Pictures.{RefusesOne, before_certificate}
+use Rattle.commands.specs.Words.{IsFaultOfWords}
+use Rattle.commands.proofs.CertificateLemmas.{stands_in_code}
+use Rattle.commands.proofs.PictureLemmas.{handed}
+use Rattle.commands.proofs.WordLemmas.{fault_of_words, given_from}
+use Rattle.commands.proofs.picturing.picture_of_one.Goals as goal
+
+pub returns-in_err-given-clause-refused : goal.returns-in_err-given-clause-refused
+returns-in_err-given-clause-refused c =
+    let words = map (λ word. word.now) c.args.arguments.now in
+    let why = c.in_err-given.field-0.0 in
+    let p = err_from_is_err_and c.from_residual.result c.from_residual.ensures.1 in
+    handed (RefusesOne c.args.image.now words) c.from_residual.result p.0 why p.1 p.2
+    (inl (subst (λ (params : List Param). IsFaultOfWords (fault_of_given_texts params words) why) c.requires.params
+    (fault_of_words _ why (Err why) refl c.in_err-given.ensures.fault c.in_err-given.ensures.unstopped)))
+
+pub text_of-requires : goal.text_of-requires
+text_of-requires c = stands_in_code c.args.image.now c.as_slice.result.now Hidden c.in_ok-certificate.certificate c.in_ok-certificate.ensures
+
+pub returns-clause-said : goal.returns-clause-said
+returns-clause-said c =
+    let image = c.args.image.now in
+    let given = c.in_ok-given.given.items in
+    let certificate = c.in_ok-certificate.certificate in
+    let told = c.in_ok-told.told.items in
+    let page = c.in_ok-page.page.items in
+    let whole : c.as_slice-4.result.now ≡ before_certificate ++ told =
+    c.as_slice-4.ensures.value ∙ c.in_ok-extend_from_slice.ensures.items ∙ ap₂ (λ (a b : List ℕ). a ++ b) c.in_ok-said.ensures.items c.as_slice-2.ensures.value in
+    record {
+      given = given;
+      certificate = certificate;
+      told = told;
+      as_said = given_from c.args.arguments.now (λ word. word.now) c.requires.params c.in_ok-given.ensures.faultless c.in_ok-given.ensures.found;
+      certified = subst (λ (xs : List (Option Arg)). Certified image xs Hidden (Ok certificate)) c.as_slice.ensures.value c.in_ok-certificate.ensures;
+      printed = c.in_ok-told.ensures;
+      drawn =
+          subst (λ (xs : List (Option Arg)). DrawsOne image xs (before_certificate ++ told) page) c.as_slice-3.ensures.value
+          (subst (λ (said : List ℕ). DrawsOne image c.as_slice-3.result.now said page) whole c.in_ok-page.ensures.exact);
+    }

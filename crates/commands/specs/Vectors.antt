@@ -1,0 +1,45 @@
+-- What is printed of the vectors of a file, tried on the source of another, and why there is nothing.
+use Rattle.std.specs.Prelude.{◌≡◌, ℕ, ◌==◌, if◌then◌else◌, List, Some, Ok, Err}
+use Rattle.std.specs.Str.{IsUtf8}
+use Rattle.commands.specs.Contents.{Contents}
+use Rattle.commands.specs.FileTexts.{HoldsText, NoText, NoWholeText}
+use Rattle.commands.specs.Unread.{IsOutOfMemory}
+use Rattle.commands.specs.declared.fault.Fault.{Fault}
+use Rattle.commands.specs.declared.fault.Fault.TheVariants.{Text, Vectors}
+use Rattle.hepurita.specs.Built.{Judges, IsRefusal}
+use Rattle.language.specs.declared.refusal.Refusal.{Refusal}
+use Rattle.vectors.specs.Lines.{NamedVector, vectors_in}
+use Rattle.vectors.specs.Verdicts.{IsReport}
+use Rattle.vectors.specs.declared.fault.VectorsFault.TheVariants.{Line}
+use Rattle.word.specs.declared.profile.Profile.{Profile}
+
+-- the exit status: 0 where none failed, else 1
+abbrev pub status_of_failures : ℕ → ℕ
+status_of_failures failures = if failures == 0 then 0 else 1
+
+-- one file holds a source, and all bytes of the other are the text of these vectors
+pub record HoldVectors (files : Contents) (path list source : List ℕ) (vectors : List NamedVector) : Type 0 where
+  pub lines : List ℕ
+  pub held : HoldsText files path source
+  pub lines_held : files list ≡ Some lines
+  pub is_text : IsUtf8 lines
+  pub said : vectors_in lines ≡ Ok vectors
+
+-- what is printed of them, and the exit status
+pub record SaysVectors (profile : Profile) (files : Contents) (path list text : List ℕ) (status : ℕ) : Type 0 where
+  pub source : List ℕ
+  pub vectors : List NamedVector
+  pub failures : ℕ
+  pub held : HoldVectors files path list source vectors
+  pub report : IsReport profile source vectors text failures
+  pub ended : status ≡ status_of_failures failures
+
+-- why nothing is: the source is asked for first, then the vectors, and then whether the source is accepted
+pub data RefusesVectors (profile : Profile) (files : Contents) (path list : List ℕ) : Fault → Type 0 where
+  no_source : {fault : Fault} → NoText files path fault → RefusesVectors profile files path list fault
+  no_lines : {source : List ℕ} {fault : Fault} → HoldsText files path source → NoWholeText files list fault → RefusesVectors profile files path list fault
+  no_vectors : {source lines : List ℕ} {line : ℕ} → HoldsText files path source → files list ≡ Some lines → vectors_in lines ≡ Err line
+      → RefusesVectors profile files path list (Vectors (Line line))
+  not_accepted : {source : List ℕ} {vectors : List NamedVector} {refusal : Refusal} → HoldVectors files path list source vectors
+      → IsRefusal (Judges profile source) refusal → RefusesVectors profile files path list (Text refusal)
+  no_memory : {fault : Fault} → IsOutOfMemory fault → RefusesVectors profile files path list fault

@@ -1,0 +1,102 @@
+// The picture of an image's runs.
+
+ghost use Rattle.std.specs.Prelude.{◌≡◌, map, IsTrue, IfOk, IfErr};
+ghost use Rattle.codegen.specs.Loaded.{params_of};
+ghost use Rattle.image_fields.specs.Fields.{IsImage};
+ghost use Rattle.commands.specs.Pictures.{PicturesOne, PicturesTwo, PicturesImage, RefusesOne, RefusesTwo, RefusesLists, SaysPicture, RefusesPicture};
+
+use crate::certifying::text_of;
+use crate::fault::Fault;
+use crate::files::Files;
+use crate::images::{both_args, image_of, pairing_line};
+use certificates::{Shifts, certify, read_given};
+use hepurita::{RunFault, pair, params};
+use image::Image;
+use image_pictures::{picture_of_given, picture_of_pair};
+use language::Param;
+use std::alloc::Global;
+
+/// What is said before a certificate.
+const BEFORE_CERTIFICATE: &[u8] =
+    b"One run, with 0 for each ?. For all values of each ?, certify says:\n";
+
+/// What is said before a comparison.
+const BEFORE_PAIRING: &[u8] = b"Two runs, one over the other. pair says:\n";
+
+/// The page of an image's runs: as many words as parameters are one list of arguments, where `?` stands for any value of a
+/// secret parameter, and others are two lists, of which the first half is the first.
+pub fn picture_image<'a, F: Files>(
+    alloc: Global,
+    path: &'a str,
+    arguments: &[&str],
+    files: &F,
+) -> Result<Vec<u8>, Fault<'a>>
+    ensures said { IsTrue F.TELLS → IfOk result (λ page. SaysPicture (F.contents files.now) path.now (map (λ word. word.now) arguments.now) page.items) }
+    ensures refused { IsTrue F.TELLS → IfErr result (RefusesPicture (F.contents files.now) path.now (map (λ word. word.now) arguments.now)) }
+{
+    let image = image_of(alloc, path, files)?;
+    let params = params(alloc, &image)?;
+    let page = picture_of_lists(alloc, &image, params.as_slice(), arguments)?;
+    Ok(page)
+}
+
+/// The page of one list of arguments, or of two.
+fn picture_of_lists(
+    alloc: Global,
+    image: &Image,
+    params: &[Param],
+    arguments: &[&str],
+) -> Result<Vec<u8>, RunFault>
+    requires allowed { IsImage image.now }
+    requires params { params.now ≡ params_of image.now }
+    ensures said { IfOk result (λ page. PicturesImage image.now (map (λ word. word.now) arguments.now) page.items) }
+    ensures refused { IfErr result (RefusesLists image.now (map (λ word. word.now) arguments.now)) }
+{
+    if arguments.len() == params.len() {
+        picture_of_one(alloc, image, params, arguments)
+    } else {
+        picture_of_two(alloc, image, params, arguments)
+    }
+}
+
+/// The page of one list of arguments.
+fn picture_of_one(
+    alloc: Global,
+    image: &Image,
+    params: &[Param],
+    arguments: &[&str],
+) -> Result<Vec<u8>, RunFault>
+    requires allowed { IsImage image.now }
+    requires params { params.now ≡ params_of image.now }
+    ensures said { IfOk result (λ page. PicturesOne image.now (map (λ word. word.now) arguments.now) page.items) }
+    ensures refused { IfErr result (RefusesOne image.now (map (λ word. word.now) arguments.now)) }
+{
+    let given = read_given(alloc, params, arguments)?;
+    let certificate = certify(alloc, image, given.as_slice(), Shifts::Hidden)?;
+    let told = text_of(alloc, image, certificate)?;
+    let mut said = Vec::from_slice(alloc, BEFORE_CERTIFICATE)?;
+    said.extend_from_slice(told.as_slice())?;
+    let page = picture_of_given(alloc, image, given.as_slice(), said.as_slice())?;
+    Ok(page)
+}
+
+/// The page of two lists of arguments.
+fn picture_of_two(
+    alloc: Global,
+    image: &Image,
+    params: &[Param],
+    arguments: &[&str],
+) -> Result<Vec<u8>, RunFault>
+    requires allowed { IsImage image.now }
+    requires params { params.now ≡ params_of image.now }
+    ensures said { IfOk result (λ page. PicturesTwo image.now (map (λ word. word.now) arguments.now) page.items) }
+    ensures refused { IfErr result (RefusesTwo image.now (map (λ word. word.now) arguments.now)) }
+{
+    let (one, other) = both_args(alloc, params, arguments)?;
+    let pairing = pair(alloc, image, &one, &other)?;
+    let told = pairing_line(alloc, pairing)?;
+    let mut said = Vec::from_slice(alloc, BEFORE_PAIRING)?;
+    said.extend_from_slice(told.as_bytes())?;
+    let page = picture_of_pair(alloc, image, &one, &other, said.as_slice())?;
+    Ok(page)
+}
