@@ -10,13 +10,22 @@ use Rattle.refusal_details.specs.Found.{Finds}
 use Rattle.call_places.specs.CallPlaces.{call_places, procedure_at}
 use Rattle.language.specs.declared.refusal.Refusal.{Refusal}
 use Rattle.language.specs.declared.rule.Rule.{Rule}
-use Rattle.language.specs.declared.rule.Rule.TheVariants.{UnknownCharacter, UndeclaredName, IndexOutOfRange, DivisorMayBeZero}
+use Rattle.language.specs.declared.rule.Rule.TheVariants.{UnknownCharacter, UndeclaredName, WidthsDiffer, WrongKind, ArrayShapeOrLabel, SecretToPublic, PublicAssignedUnderSecretControl, CallAssignsPublicUnderSecretControl, SecretIndex, SecretBound, SecretDivisionOperand, SecretMultiplicationOperand, IndexOutOfRange, DivisorMayBeZero}
 use Rattle.language.specs.Tree.{ProcedureTree, ProgramTree}
+use Rattle.language.specs.Types.{empty}
 use Rattle.name_uses.specs.Nearest.{nearest}
 use Rattle.name_uses.specs.Scopes.{Seen, Use, use_in_procedures}
+use Rattle.operand_types.specs.Controls.{control_line, under_at}
+use Rattle.operand_types.specs.Literals.{literal_at, literal_line}
+use Rattle.operand_types.specs.Secrets.{secret_at, secret_line}
+use Rattle.operand_types.specs.Sites.{Site, site_at}
+use Rattle.operand_types.specs.TypeLines.{type_lines}
+use Rattle.operand_types.specs.declared.mismatch.Mismatch.{Mismatch}
+use Rattle.operand_types.specs.declared.mismatch.Mismatch.TheVariants.{Widths, Kinds, Shapes, Labels}
 use Rattle.syntax.specs.Reading.{Reads, accepted, refused}
 use Rattle.word.specs.declared.place.Place.{Place}
 use Rattle.word.specs.Places.{place_text}
+use Rattle.word.specs.declared.profile.Profile.TheVariants.{P1}
 
 -- X1: a byte order mark is named, as EF BB BF
 abbrev pub begins_with_mark : List ℕ → Bool
@@ -81,11 +90,40 @@ pub record SaysRange (at : ℕ) (program : ProgramTree) (lines : List ℕ) : Typ
   pub finds : Finds program found
   pub printed : lines ≡ finding_line found ++ calls_line at program.procedures
 
+-- T1, T2, T5, L1: the types of what is compared at the place; T1: how a number is written there; L1, L3, L4, L5, L7: the first secret name among the operands there
+abbrev pub site_of : ℕ → ProgramTree → Option Site
+site_of at program = site_at at [] (empty P1) program.procedures
+
+abbrev pub SaysTypes : Mismatch → ℕ → ProgramTree → List ℕ → Type 0
+SaysTypes mismatch at program lines = lines ≡ type_lines mismatch (site_of at program)
+
+abbrev pub SaysSecret : ℕ → ProgramTree → List ℕ → Type 0
+SaysSecret at program lines = lines ≡ secret_line (secret_at (site_of at program))
+
+-- L2, L6: the innermost `if` with a secret condition, and the first secret name in that
+abbrev pub control_lines : ProgramTree → Option Place → List ℕ
+control_lines program None = []
+control_lines program (Some place) = control_line place ++ secret_line (secret_at (site_of place.offset program))
+
+abbrev pub SaysControl : ℕ → ProgramTree → List ℕ → Type 0
+SaysControl at program lines = lines ≡ control_lines program (under_at (site_of at program))
+
 -- of a program that violates a rule behind so many bytes
 abbrev pub SaysOfProgram : Rule → ℕ → ProgramTree → List ℕ → Type 0
 SaysOfProgram UndeclaredName at program lines = lines ≡ name_line (use_in_procedures at program.procedures)
 SaysOfProgram IndexOutOfRange at program lines = SaysRange at program lines
 SaysOfProgram DivisorMayBeZero at program lines = SaysRange at program lines
+SaysOfProgram WidthsDiffer at program lines = lines ≡ type_lines Widths (site_of at program) ++ literal_line (literal_at (site_of at program))
+SaysOfProgram WrongKind at program lines = SaysTypes Kinds at program lines
+SaysOfProgram ArrayShapeOrLabel at program lines = SaysTypes Shapes at program lines
+SaysOfProgram SecretToPublic at program lines =
+    lines ≡ type_lines Labels (site_of at program) ++ secret_line (secret_at (site_of at program))
+SaysOfProgram PublicAssignedUnderSecretControl at program lines = SaysControl at program lines
+SaysOfProgram CallAssignsPublicUnderSecretControl at program lines = SaysControl at program lines
+SaysOfProgram SecretIndex at program lines = SaysSecret at program lines
+SaysOfProgram SecretBound at program lines = SaysSecret at program lines
+SaysOfProgram SecretDivisionOperand at program lines = SaysSecret at program lines
+SaysOfProgram SecretMultiplicationOperand at program lines = SaysSecret at program lines
 SaysOfProgram rule at program lines = lines ≡ []
 
 -- of a text that is no program

@@ -1,13 +1,15 @@
 // What is said of a refusal beside its rule: lines with what there is at the place, for who wrote the source.
 //
 // It promises which lines these are, by the source's tree or, where it has none, by its bytes (`specs/Details.antt`). It
-// stands on `syntax` for the tree, on `name_uses` for what is near a name, on `call_places` for calls, and on `intervals` for
-// the numbers that an index or a divisor may be: those by which it was refused.
+// stands on `syntax` for the tree, on `name_uses` for what is near a name, on `operand_types` for types and secret names, on
+// `call_places` for calls, and on `intervals` for the numbers that an index or a divisor may be: those by which it was
+// refused.
 #![tactic(auto)]
 
 mod calls;
 mod characters;
 mod name_lines;
+mod operands;
 mod ranges;
 
 ghost use Rattle.std.specs.Prelude.{◌≡◌, IfOk, IfErr};
@@ -18,8 +20,10 @@ ghost use Rattle.refusal_details.specs.Details.{Says, SaysOfProgram, text_lines}
 
 use crate::characters::character_line;
 use crate::name_lines::name_line;
+use crate::operands::{control_lines, label_lines, secret_line, type_lines, width_lines};
 use crate::ranges::range_lines;
 use language::{Place, Program, Refusal, Rule};
+use operand_types::Mismatch;
 use std::alloc::Global;
 use syntax::parse;
 
@@ -51,9 +55,21 @@ fn program_lines(
     ensures said { IfOk result (λ lines. SaysOfProgram rule place.offset (program_tree program.now) (string_bytes lines)) }
     ensures memory { IfErr result (λ fault. IsWantOfMemory fault.rule fault.place) }
 {
+    let at = place.offset;
     match rule {
-        Rule::UndeclaredName => Ok(name_line(alloc, place.offset, program)?),
-        Rule::IndexOutOfRange | Rule::DivisorMayBeZero => range_lines(alloc, place.offset, program),
+        Rule::UndeclaredName => Ok(name_line(alloc, at, program)?),
+        Rule::WidthsDiffer => Ok(width_lines(alloc, at, program)?),
+        Rule::WrongKind => Ok(type_lines(alloc, Mismatch::Kinds, at, program)?),
+        Rule::ArrayShapeOrLabel => Ok(type_lines(alloc, Mismatch::Shapes, at, program)?),
+        Rule::SecretToPublic => Ok(label_lines(alloc, at, program)?),
+        Rule::PublicAssignedUnderSecretControl | Rule::CallAssignsPublicUnderSecretControl => {
+            Ok(control_lines(alloc, at, program)?)
+        }
+        Rule::SecretIndex | Rule::SecretBound => Ok(secret_line(alloc, at, program)?),
+        Rule::SecretDivisionOperand | Rule::SecretMultiplicationOperand => {
+            Ok(secret_line(alloc, at, program)?)
+        }
+        Rule::IndexOutOfRange | Rule::DivisorMayBeZero => range_lines(alloc, at, program),
         _ => Ok(String::new(alloc)),
     }
 }

@@ -1,0 +1,5 @@
+pub mod ArgumentLemmas
+pub mod AroundLemmas
+pub mod NodeLemmas
+pub mod SiteLemmas
+pub mod TreeLemmas

@@ -1,0 +1,10 @@
+pub mod Controls
+pub mod Found
+pub mod FoundSecret
+pub mod Literals
+pub mod Mismatches
+pub mod Nodes
+pub mod Secrets
+pub mod Sites
+pub mod TypeLines
+pub mod TypeTexts

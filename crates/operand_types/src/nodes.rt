@@ -1,0 +1,180 @@
+// What stands at a place.
+
+ghost use Rattle.std.specs.Prelude.{◌≡◌, is_some, map};
+ghost use Rattle.std.specs.Option.{option_map};
+ghost use Rattle.language.specs.Tree.{block_tree, call_tree, expr_tree, procedure_tree, return_tree, right_tree, statement_tree, written};
+ghost use Rattle.operand_types.specs.Found.{node};
+ghost use Rattle.operand_types.specs.Nodes.{expr_at, exprs_at, here, node_at, node_in, node_in_call, node_in_procedure, node_in_return, node_in_right, of_expr, values_tree};
+
+use language::{
+    ArrayDeclaration, Call, ElementAssignment, Expr, Place, Procedure, Return, RightSide,
+    Statement, WordType,
+};
+
+/// A node of which rules are asked.
+#[derive(Clone, Copy, Debug)]
+pub enum Node<'p, 'a> {
+    Expr(&'p Expr<'a>),
+    Call(&'p Call<'a>),
+    Statement(&'p Statement<'a>),
+    /// The element that is assigned to, at its `[`.
+    Target(&'p ElementAssignment<'a>),
+    /// A `return`, and the type of the procedure's result.
+    Return(Option<WordType>, &'p Return<'a>),
+}
+
+/// This, where its place is behind so many bytes.
+fn here<T: Copy>(at: u32, place: Place, what: T) -> Option<T>
+    ensures { result ≡ here at place what }
+{
+    if place.offset == at { Some(what) } else { None }
+}
+
+/// The expression at a place.
+fn expr_at<'p, 'a>(at: u32, expr: &'p Expr<'a>) -> Option<&'p Expr<'a>>
+    ensures { option_map (λ found. expr_tree found.now) result ≡ expr_at at (expr_tree expr.now) }
+{
+    match expr {
+        Expr::Number(place, _, _) => here(at, *place, expr),
+        Expr::Truth(place, _) => here(at, *place, expr),
+        Expr::Name(place, _) => here(at, *place, expr),
+        Expr::Prefix(place, _, operand) => here(at, *place, expr).or(expr_at(at, operand)),
+        Expr::Binary(place, _, left, right) => {
+            here(at, *place, expr).or(expr_at(at, left).or(expr_at(at, right)))
+        }
+        Expr::Rotate(place, operand, _) => here(at, *place, expr).or(expr_at(at, operand)),
+        Expr::Convert(place, _, operand) => here(at, *place, expr).or(expr_at(at, operand)),
+        Expr::Select(place, condition, accepted, otherwise) => {
+            let arms = expr_at(at, accepted).or(expr_at(at, otherwise));
+            here(at, *place, expr).or(expr_at(at, condition).or(arms))
+        }
+        Expr::Element(place, _, _, index) => here(at, *place, expr).or(expr_at(at, index)),
+    }
+}
+
+/// The one of some expressions that is at a place.
+fn exprs_at<'p, 'a>(at: u32, exprs: &'p [Expr<'a>]) -> Option<&'p Expr<'a>>
+    ensures { option_map (λ found. expr_tree found.now) result ≡ exprs_at at (map expr_tree exprs.now) }
+{
+    for expr in exprs {
+        if let Some(found) = expr_at(at, expr) {
+            return Some(found);
+        }
+    }
+    None
+}
+
+/// The node that is an expression.
+fn of_expr<'p, 'a>(expr: Option<&'p Expr<'a>>) -> Option<Node<'p, 'a>>
+    ensures { option_map node result ≡ option_map of_expr (option_map (λ found. expr_tree found.now) expr.entry) }
+{
+    match expr {
+        Some(expr) => Some(Node::Expr(expr)),
+        None => None,
+    }
+}
+
+/// The node at a place in a call.
+fn node_in_call<'p, 'a>(at: u32, call: &'p Call<'a>) -> Option<Node<'p, 'a>>
+    ensures { option_map node result ≡ node_in_call at (call_tree call.now) }
+{
+    let arguments = of_expr(exprs_at(at, call.arguments.as_slice()));
+    here(at, call.place, Node::Call(call)).or(arguments)
+}
+
+/// The node at a place in a right side.
+fn node_in_right<'p, 'a>(at: u32, right: &'p RightSide<'a>) -> Option<Node<'p, 'a>>
+    ensures { option_map node result ≡ node_in_right at (right_tree right.now) }
+{
+    match right {
+        RightSide::Call(call) => node_in_call(at, call),
+        RightSide::Value(expr) => of_expr(expr_at(at, expr)),
+    }
+}
+
+/// The node at a place in an array's first values, where they are written.
+fn node_in_values<'p, 'a>(at: u32, array: &'p ArrayDeclaration<'a>) -> Option<Node<'p, 'a>>
+    ensures { option_map node result ≡ option_map of_expr (exprs_at at (written (values_tree array.now.values))) }
+{
+    match &array.values {
+        Some(values) => of_expr(exprs_at(at, values.as_slice())),
+        None => None,
+    }
+}
+
+/// The node at a place in a statement.
+#[cycle(nodes)]
+fn node_at<'p, 'a>(at: u32, statement: &'p Statement<'a>) -> Option<Node<'p, 'a>>
+    ensures { option_map node result ≡ node_at at (statement_tree statement.now) }
+{
+    let whole = Node::Statement(statement);
+    match statement {
+        Statement::Declare(it) => here(at, it.place, whole).or(node_in_right(at, &it.value)),
+        Statement::DeclareArray(it) => here(at, it.place, whole).or(node_in_values(at, it)),
+        Statement::Assign(it) => here(at, it.place, whole).or(node_in_right(at, &it.value)),
+        Statement::AssignElement(it) => {
+            let inside = of_expr(expr_at(at, &it.index)).or(node_in_right(at, &it.value));
+            here(at, it.place, whole).or(here(at, it.bracket, Node::Target(it)).or(inside))
+        }
+        Statement::Call(it) => node_in_call(at, it),
+        Statement::If(place, condition, accepted, otherwise) => {
+            let arms = node_in(at, accepted.as_slice()).or(node_in(at, otherwise.as_slice()));
+            here(at, *place, whole).or(of_expr(expr_at(at, condition)).or(arms))
+        }
+        Statement::For(place, _, low, high, body) => {
+            let inside = of_expr(expr_at(at, high)).or(node_in(at, body.as_slice()));
+            here(at, *place, whole).or(of_expr(expr_at(at, low)).or(inside))
+        }
+    }
+}
+
+/// The node at a place in statements.
+#[cycle(nodes)]
+fn node_in<'p, 'a>(at: u32, block: &'p [Statement<'a>]) -> Option<Node<'p, 'a>>
+    ensures { option_map node result ≡ node_in at (block_tree block.now) }
+{
+    for statement in block {
+        if let Some(found) = node_at(at, statement) {
+            return Some(found);
+        }
+    }
+    None
+}
+
+/// Whether a node of a statement is at a place.
+pub fn is_at(at: u32, statement: &Statement<'_>) -> bool
+    ensures { result ≡ is_some (node_at at (statement_tree statement.now)) }
+{
+    node_at(at, statement).is_some()
+}
+
+/// Whether a node of statements is.
+pub fn is_in(at: u32, block: &[Statement<'_>]) -> bool
+    ensures { result ≡ is_some (node_in at (block_tree block.now)) }
+{
+    node_in(at, block).is_some()
+}
+
+/// The node at a place in the `return` of a procedure.
+fn node_in_return<'p, 'a>(
+    at: u32,
+    wanted: Option<WordType>,
+    returned: &'p Option<Return<'a>>,
+) -> Option<Node<'p, 'a>>
+    ensures { option_map node result ≡ node_in_return at wanted (option_map return_tree returned.now) }
+{
+    match returned {
+        Some(it) => here(at, it.place, Node::Return(wanted, it)).or(of_expr(expr_at(
+            at, &it.value,
+        ))),
+        None => None,
+    }
+}
+
+/// The node at a place in a procedure.
+pub fn node_in_procedure<'p, 'a>(at: u32, procedure: &'p Procedure<'a>) -> Option<Node<'p, 'a>>
+    ensures { option_map node result ≡ node_in_procedure at (procedure_tree procedure.now) }
+{
+    let returned = node_in_return(at, procedure.result, &procedure.returned);
+    node_in(at, procedure.body.as_slice()).or(returned)
+}

@@ -1,0 +1,69 @@
+// The node at a place of a program, with what is in scope there.
+
+ghost use Rattle.std.specs.Prelude.{◌≡◌, [], IfOk};
+ghost use Rattle.std.specs.Option.{option_map};
+ghost use Rattle.language.specs.Tree.{procedure_tree, program_tree};
+ghost use Rattle.language.specs.Types.{empty};
+ghost use Rattle.operand_types.specs.Found.{site};
+ghost use Rattle.operand_types.specs.Sites.{around_in, in_body, site_at};
+
+use crate::around::{Around, enter_block, enter_parameters, enter_procedure};
+use crate::nodes::{Node, node_in_procedure};
+use crate::scope::Scope;
+use language::{Procedure, Profile, Program};
+use names::Names;
+use std::alloc::{AllocError, Global};
+
+/// A node, what is in scope there, and the procedures before the one that it is in.
+#[derive(Drop)]
+pub struct Site<'p, 'a> {
+    pub node: Node<'p, 'a>,
+    pub around: Around<'a>,
+    pub earlier: &'p [Procedure<'a>],
+}
+
+/// What is in scope at a place in a procedure, whose own name and those of the earlier ones are in this scope.
+fn around_in<'a>(
+    alloc: Global,
+    at: u32,
+    scope: Scope<'a>,
+    procedure: &Procedure<'a>,
+) -> Result<Around<'a>, AllocError>
+    ensures { IfOk result (λ around. around ≡ around_in at (in_body scope.entry (procedure_tree procedure.now)) (procedure_tree procedure.now).body) }
+{
+    let places = Names::new(alloc);
+    let mut around = Around {
+        scope,
+        places,
+        under: None,
+    };
+    enter_parameters(&mut around, procedure.parameters.as_slice())?;
+    enter_block(at, &mut around, procedure.body.as_slice())?;
+    Ok(around)
+}
+
+/// The node that stands behind so many bytes of the source, for an observer.
+pub fn site_at<'p, 'a>(
+    alloc: Global,
+    at: u32,
+    profile: Profile,
+    program: &'p Program<'a>,
+) -> Result<Option<Site<'p, 'a>>, AllocError>
+    ensures { IfOk result (λ found. option_map site found ≡ site_at at [] (empty profile) (program_tree program.now).procedures) }
+{
+    let mut scope = Scope::new(alloc, profile);
+    let procedures = program.procedures();
+    for (index, procedure) in procedures.iter().enumerate() {
+        let earlier = &procedures[..index];
+        enter_procedure(&mut scope, earlier, procedure)?;
+        if let Some(node) = node_in_procedure(at, procedure) {
+            let around = around_in(alloc, at, scope, procedure)?;
+            return Ok(Some(Site {
+                node,
+                around,
+                earlier,
+            }));
+        }
+    }
+    Ok(None)
+}
