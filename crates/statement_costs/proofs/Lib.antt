@@ -1,0 +1,6 @@
+mod Below
+mod Lookup
+pub mod TreeLemmas
+pub mod CountLemmas
+pub mod PartLemmas
+pub mod GreatestLemmas
