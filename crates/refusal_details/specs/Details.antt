@@ -7,10 +7,12 @@ use Rattle.intervals.specs.declared.found.Cause.TheVariants.{Index, Divisor}
 use Rattle.intervals.specs.declared.found.Finding.{Finding}
 use Rattle.intervals.specs.declared.interval.Interval.{Interval}
 use Rattle.refusal_details.specs.Found.{Finds}
+use Rattle.refusal_details.specs.SizeLines.{declared_bytes_lines, inlined_size_lines}
 use Rattle.call_places.specs.CallPlaces.{call_places, procedure_at}
 use Rattle.language.specs.declared.refusal.Refusal.{Refusal}
 use Rattle.language.specs.declared.rule.Rule.{Rule}
-use Rattle.language.specs.declared.rule.Rule.TheVariants.{UnknownCharacter, UndeclaredName, IndexOutOfRange, DivisorMayBeZero}
+use Rattle.language.specs.declared.rule.Rule.TheVariants.{UnknownCharacter, UndeclaredName, InlinedSize, DeclaredBytes, IndexOutOfRange, DivisorMayBeZero}
+use Rattle.language.specs.Signature.{exported}
 use Rattle.language.specs.Tree.{ProcedureTree, ProgramTree}
 use Rattle.name_uses.specs.Nearest.{nearest}
 use Rattle.name_uses.specs.Scopes.{Seen, Use, use_in_procedures}
@@ -84,6 +86,8 @@ pub record SaysRange (at : ℕ) (program : ProgramTree) (lines : List ℕ) : Typ
 -- of a program that violates a rule behind so many bytes
 abbrev pub SaysOfProgram : Rule → ℕ → ProgramTree → List ℕ → Type 0
 SaysOfProgram UndeclaredName at program lines = lines ≡ name_line (use_in_procedures at program.procedures)
+SaysOfProgram InlinedSize at program lines = lines ≡ inlined_size_lines (exported [] program.procedures)
+SaysOfProgram DeclaredBytes at program lines = lines ≡ declared_bytes_lines (exported [] program.procedures)
 SaysOfProgram IndexOutOfRange at program lines = SaysRange at program lines
 SaysOfProgram DivisorMayBeZero at program lines = SaysRange at program lines
 SaysOfProgram rule at program lines = lines ≡ []

@@ -1,14 +1,15 @@
 // What is said of a refusal beside its rule: lines with what there is at the place, for who wrote the source.
 //
 // It promises which lines these are, by the source's tree or, where it has none, by its bytes (`specs/Details.antt`). It
-// stands on `syntax` for the tree, on `name_uses` for what is near a name, on `call_places` for calls, and on `intervals` for
-// the numbers that an index or a divisor may be: those by which it was refused.
+// stands on `syntax` for the tree, on `name_uses` for what is near a name, on `call_places` for calls, on `statement_costs`
+// for sizes, and on `intervals` for the numbers that an index or a divisor may be: those by which it was refused.
 #![tactic(auto)]
 
 mod calls;
 mod characters;
 mod name_lines;
 mod ranges;
+mod size_lines;
 
 ghost use Rattle.std.specs.Prelude.{◌≡◌, IfOk, IfErr};
 ghost use Rattle.std.specs.String.{string_bytes};
@@ -19,6 +20,7 @@ ghost use Rattle.refusal_details.specs.Details.{Says, SaysOfProgram, text_lines}
 use crate::characters::character_line;
 use crate::name_lines::name_line;
 use crate::ranges::range_lines;
+use crate::size_lines::{declared_bytes_lines, inlined_size_lines};
 use language::{Place, Program, Refusal, Rule};
 use std::alloc::Global;
 use syntax::parse;
@@ -53,6 +55,8 @@ fn program_lines(
 {
     match rule {
         Rule::UndeclaredName => Ok(name_line(alloc, place.offset, program)?),
+        Rule::InlinedSize => Ok(inlined_size_lines(alloc, program)?),
+        Rule::DeclaredBytes => Ok(declared_bytes_lines(alloc, program)?),
         Rule::IndexOutOfRange | Rule::DivisorMayBeZero => range_lines(alloc, place.offset, program),
         _ => Ok(String::new(alloc)),
     }
