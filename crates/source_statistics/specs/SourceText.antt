@@ -1,5 +1,5 @@
 -- What a source costs, as lines.
-use Rattle.std.specs.Prelude.{◌≡◌, ℕ, List, ◌++◌, codes}
+use Rattle.std.specs.Prelude.{◌≡◌, ℕ, List, [], ◌++◌, codes, Option, None, Some}
 use Rattle.std.specs.Fmt.{decimal}
 use Rattle.hepurita.specs.Built.{Judges, accepts}
 use Rattle.hepurita.specs.Exact.{image_for}
@@ -8,18 +8,42 @@ use Rattle.inline.specs.Numbering.{flattened}
 use Rattle.intervals.specs.Ranged.{RangedProgram}
 use Rattle.intervals.specs.Work.{ranged}
 use Rattle.language.specs.Tree.{ProcedureTree, ProgramTree}
+use Rattle.statement_costs.specs.Costs.{cost_of}
+use Rattle.statement_costs.specs.declared.costs.Cost.{Cost}
+use Rattle.statement_costs.specs.declared.costs.Limit.TheVariants.{Nodes, Bodies, DeclaredBytes}
+use Rattle.statement_costs.specs.declared.costs.Part.{Part}
 use Rattle.statistics.specs.FieldsText.{fields_text}
 use Rattle.word.specs.declared.profile.Profile.{Profile}
+use Rattle.word.specs.Places.{place_text}
 
 -- the nodes of a body, its work, and the fields of an image
 abbrev pub costs_text : RangedProgram → Fields → List ℕ
 costs_text body fields =
     codes "nodes " ++ decimal body.flat.nodes ++ codes "\nwork " ++ decimal body.work ++ codes "\n" ++ fields_text fields
 
--- the source is accepted, and the text has what its passes counted and the fields of its image
+-- the first of the parts that have most of something: how much, and where it stands
+abbrev pub most_line : List ℕ → Option Part → List ℕ
+most_line name None = []
+most_line name (Some p) = codes "most " ++ (name ++ (codes " " ++ (decimal p.cost ++ (codes " at " ++ (place_text p.place ++ codes "\n")))))
+
+-- of an export behind the procedures that it may call: the bodies that are open at once, the declared bytes, and the parts with
+-- most nodes and most declared bytes
+abbrev pub size_text : Cost → Cost → Cost → List ℕ
+size_text nodes bodies bytes =
+    codes "bodies " ++ (decimal bodies.whole ++ (codes "\ndeclared_bytes " ++ (decimal bytes.whole ++ (codes "\n"
+    ++ (most_line (codes "nodes") nodes.costliest ++ most_line (codes "declared_bytes") bytes.costliest)))))
+
+abbrev pub size_lines : List ProcedureTree → ProcedureTree → List ℕ
+size_lines before p = size_text (cost_of Nodes before p) (cost_of Bodies before p) (cost_of DeclaredBytes before p)
+
+abbrev pub export_lines : Option (List ProcedureTree × ProcedureTree) → List ℕ
+export_lines None = []
+export_lines (Some export) = size_lines export.0 export.1
+
+-- the source is accepted, and the text has what its passes counted, the fields of its image and the sizes of its export
 pub record SaysCosts (profile : Profile) (source text : List ℕ) : Type 0 where
   pub program : ProgramTree
   pub before : List ProcedureTree
   pub export : ProcedureTree
   pub judged : Judges profile source (accepts program before export)
-  pub printed : text ≡ costs_text (ranged (flattened profile before export)) (image_for profile before export)
+  pub printed : text ≡ costs_text (ranged (flattened profile before export)) (image_for profile before export) ++ size_lines before export

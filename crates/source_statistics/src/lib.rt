@@ -1,20 +1,25 @@
-// What an accepted source costs, as lines: its nodes and its work, which have limits, and then the fields of its image.
+// What an accepted source costs, as lines: its nodes and its work, which have limits, then the fields of its image, and
+// then what else has a limit: the bodies that are open at once and the declared bytes, with the parts that have most.
 //
 // It promises that these are the numbers that the passes used to judge the source, and the fields of the one image that
 // is built of it (`specs/SourceText.antt`); and that a source is refused exactly as `build` refuses it. It stands on the
-// passes and on `statistics`.
+// passes, on `statistics` and on `statement_costs`.
 #![tactic(auto)]
 
-ghost use Rattle.std.specs.Prelude.{◌≡◌, List, IfOk, IfErr};
+mod sizes;
+
+ghost use Rattle.std.specs.Prelude.{◌≡◌, [], List, ◌++◌, IfOk, IfErr};
 ghost use Rattle.std.specs.String.{string_bytes};
 ghost use Rattle.branch_removal.specs.Exact.{straight_of};
 ghost use Rattle.codegen.specs.Exact.{fields_of};
 ghost use Rattle.hepurita.specs.Built.{IsSmall, Judges, JudgesProgram, IsRefusal};
 ghost use Rattle.inline.specs.Numbering.{flattened};
+ghost use Rattle.language.specs.Signature.{exported};
 ghost use Rattle.language.specs.Tree.{ProcedureTree, program_tree};
 ghost use Rattle.language.specs.WantOfMemory.{IsWantOfMemory};
-ghost use Rattle.source_statistics.specs.SourceText.{costs_text, SaysCosts};
+ghost use Rattle.source_statistics.specs.SourceText.{costs_text, export_lines, SaysCosts};
 
+use crate::sizes::push_sizes;
 use branch_removal::remove;
 use codegen::generate;
 use inline::{Flat, inline};
@@ -34,7 +39,7 @@ pub fn source_statistics(alloc: Global, source: &str, profile: Profile) -> Resul
     let program = parse(alloc, source)?;
     let flat = flat_of(alloc, &program, profile)?;
     let ranged = check_ranges(alloc, &flat)?;
-    costs(alloc, &ranged)
+    costs(alloc, &ranged, &program)
 }
 
 /// The export of a program that violates no rule on names, types and labels, with the bodies that it calls as one body
@@ -47,8 +52,18 @@ fn flat_of(alloc: Global, program: &Program<'_>, profile: Profile) -> Result<Fla
     inline(alloc, &checked)
 }
 
+/// The lines of a body with what was counted for it, and of the program whose export it is. Only memory refuses them.
+fn costs(alloc: Global, ranged: &Ranged<'_>, program: &Program<'_>) -> Result<String, Refusal>
+    ensures said { IfOk result (λ text. string_bytes text ≡ costs_text ranged.now (fields_of (straight_of ranged.now)) ++ export_lines (exported [] (program_tree program.now).procedures)) }
+    ensures memory { IfErr result (λ refusal. IsWantOfMemory refusal.rule refusal.place) }
+{
+    let mut text = body_costs(alloc, ranged)?;
+    push_sizes(alloc, &mut text, program)?;
+    Ok(text)
+}
+
 /// The lines of a body with what was counted for it. Only memory refuses them.
-fn costs(alloc: Global, ranged: &Ranged<'_>) -> Result<String, Refusal>
+fn body_costs(alloc: Global, ranged: &Ranged<'_>) -> Result<String, Refusal>
     ensures said { IfOk result (λ text. string_bytes text ≡ costs_text ranged.now (fields_of (straight_of ranged.now))) }
     ensures memory { IfErr result (λ refusal. IsWantOfMemory refusal.rule refusal.place) }
 {

@@ -1,17 +1,19 @@
-use Rattle.std.proofs.Common.{ap, subst, ◌∙◌, ◌≡◌, length, inl, IfOk}
+use Rattle.std.proofs.Common.{ap, subst, ◌∙◌, ◌≡◌, List, [], ◌++◌, length, inl, IfOk, Option}
 use Rattle.std.proofs.lemmas.Result.{err_from_is_err_and, IfOk-weaker, IfErr-weaker}
 use Rattle.std.specs.String.{string_bytes}
 use Rattle.branch_removal.specs.Exact.{straight_of}
 use Rattle.codegen.specs.Exact.{fields_of}
 use Rattle.inline.specs.Flat.{FlatProgram}
+use Rattle.inline.specs.Numbering.{flattened}
 use Rattle.intervals.specs.Ranged.{RangedProgram}
 use Rattle.intervals.specs.Ranges.{range_violations}
 use Rattle.intervals.specs.Work.{ranged, work_violations}
-use Rattle.language.specs.Tree.{program_tree}
+use Rattle.language.specs.Signature.{exported}
+use Rattle.language.specs.Tree.{ProcedureTree, program_tree}
 use Rattle.hepurita.specs.Built.{fine, readable}
 use Rattle.hepurita.specs.Exact.{image_for}
 use Rattle.source_statistics.proofs.Below.{refusal_of_text, refusal_of_program, refusal_of_ranges, grammatical_export, same_violations}
-use Rattle.source_statistics.specs.SourceText.{costs_text}
+use Rattle.source_statistics.specs.SourceText.{costs_text, export_lines}
 use Rattle.source_statistics.proofs.source_statistics.Goals as goal
 
 pub returns-in_err-program-clause-refused : goal.returns-in_err-program-clause-refused
@@ -44,5 +46,8 @@ returns-clause-said c =
     let in_time = ap (λ vs. length vs) one ∙ subst (λ (f : FlatProgram). length (work_violations f) ≡ 0) made.3 c.in_ok-ranged.ensures.worked in
     let is = c.in_ok-ranged.ensures.accepted ∙ ap ranged made.3 in
     let judged = readable c.in_ok-program.ensures.accepted (fine made.2 in_range in_time) in
-    let printed = subst (λ (r : RangedProgram). IfOk c.costs.result (λ text. string_bytes text ≡ costs_text r (fields_of (straight_of r)))) is c.costs.ensures.said in
+    let export = exported [] (program_tree c.in_ok-program.program).procedures in
+    let by_body = subst (λ (r : RangedProgram). IfOk c.costs.result (λ text. string_bytes text ≡ costs_text r (fields_of (straight_of r)) ++ export_lines export)) is c.costs.ensures.said in
+    let body = ranged (flattened c.args.profile made.0 made.1) in
+    let printed = subst (λ (o : Option (List ProcedureTree × ProcedureTree)). IfOk c.costs.result (λ text. string_bytes text ≡ costs_text body (fields_of (straight_of body)) ++ export_lines o)) made.2.well_formed.is_export by_body in
     IfOk-weaker c.costs.result _ _ (λ text exact. record { program = program_tree c.in_ok-program.program; before = made.0; export = made.1; judged = judged; printed = exact }) printed
