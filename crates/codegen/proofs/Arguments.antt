@@ -8,7 +8,8 @@ use Rattle.codegen.proofs.Language.{IsWithinKind, numbers_in, declaration_of, Te
 use Rattle.codegen.proofs.Language.{array_of, arrays_from, declared_words, types_of, Types, IsResult, Form, SingleWord}
 use Rattle.codegen.proofs.Language.{FixedArray, MutableArray, Kind, Boolean, Label, Param, WordType, Arg, Word, Array}
 use Rattle.codegen.proofs.Language.{element_bytes, array_words, bits_of, Profile}
-use Rattle.codegen.proofs.Logic.{length-replicate, take-append-drop, All-replicate, number_at_same, place_within, Ready}
+use Rattle.codegen.proofs.Logic.{length-replicate, take-append-drop, All-replicate, number_at_same, place_within}
+use Rattle.codegen.proofs.Slots.{Laid}
 use Rattle.codegen.proofs.Logic.{same_Some, none-some, bytes_by, bytes_of, place_of, Setting, place_ends, option_map}
 use Rattle.inline.specs.FlatSize as flat_size
 use Rattle.codegen.proofs.Numbers.{numbers_beside, number_data, numbers_data, numbers_there, zero_byte, zero_number}
@@ -197,14 +198,14 @@ module _ (z : Setting) (ps : List Param) (args : List Arg) (first : take (length
       (λ is below inside. laid z.frame z.size (zeros z.frame z.size) 0 ps args more x d i within (λ o low. blank o) is below (omega (arith, inside)))
 
   -- the beginning of a run
-  pub loaded : Ready z (record { variables = given z.declared args; controls = λ c. false }) s
+  pub loaded : Laid z (record { variables = given z.declared args; controls = λ c. false }) s
   loaded = record {
     held = record {
       base = base;
       data_there = λ o inside. ap (λ (b : ByteMap). is_some (b (z.frame + o))) bytes ∙ arguments_data z.frame (zeros z.frame z.size) 0 ps args (z.frame + o) (ap is_some (blank o inside));
     };
     fits = subst (λ (ds : List FlatVariable). Fits (types_of z.code.profile ds) (given ds args)) (parameters_first ps z.declared first) (given_fits z.code.profile ps args more within);
-    variables_there = λ x d i is below.
+    slots_there = λ x d i is below.
         let from : place_of z.declared x d i ≡ 0 + place_of z.declared x d i = omega arith in
         ap (λ (b : ByteMap). number_at b (bytes_of d) (z.frame + place_of z.declared x d i)) bytes
         ∙ ap (λ o. number_at (with_arguments z.frame (zeros z.frame z.size) (slots_from 0 ps) args) (bytes_of d) (z.frame + o)) from
@@ -234,18 +235,19 @@ LiesAt bytes d at vs =
 
 -- one parameter's slot
 array_is : (frame : ℕ) (bytes : ByteMap) (kind : Kind) (label : Label) (n low : ℕ) (form : Form) (vs : List ℕ)
-    → LiesAt bytes (declaration_of (record { kind = kind; label = label; form = form; length = n })) (frame + low) vs
+    → ((size : ℕ) → (declaration_of (record { kind = kind; label = label; form = form; length = n })).elements ≡ Some size → LiesAt bytes (declaration_of (record { kind = kind; label = label; form = form; length = n })) (frame + low) vs)
     → array_in frame bytes form (record { param = record { kind = kind; label = label; form = form; length = n }; offset = low }) ≡ array_of form vs
 array_is frame bytes kind label n low SingleWord vs lies = refl
 array_is frame bytes kind label n low FixedArray vs lies = refl
 array_is frame bytes kind label n low MutableArray vs lies =
-    let long = lies.0 in
+    let here = lies n refl in
+    let long = here.0 in
     ap (λ (ws : List ℕ). ws ∷ [])
-    (ap (λ m. numbers_at bytes (element_bytes kind) (frame + low) m) (sym long) ∙ numbers_are bytes (element_bytes kind) (frame + low) vs (λ i less. lies.1 i (omega (arith, less, long))))
+    (ap (λ m. numbers_at bytes (element_bytes kind) (frame + low) m) (sym long) ∙ numbers_are bytes (element_bytes kind) (frame + low) vs (λ i less. here.1 i (omega (arith, less, long))))
 
--- The arrays, where each variable's numbers lie in its slot: the first of them has this number and lies at this offset.
+-- The arrays, where each array's numbers lie in its slot: the first of them has this number and lies at this offset.
 pub arrays_are : (frame : ℕ) (bytes : ByteMap) (m : Values) (ps : List Param) (more : List FlatVariable) (x low : ℕ)
-    → ((y : ℕ) (d : FlatVariable) → slice_get (map declaration_of ps ++ more) y ≡ Some d → LiesAt bytes d (frame + (low + variable_offset (map declaration_of ps ++ more) y)) (m (x + y)))
+    → ((y : ℕ) (d : FlatVariable) (size : ℕ) → slice_get (map declaration_of ps ++ more) y ≡ Some d → d.elements ≡ Some size → LiesAt bytes d (frame + (low + variable_offset (map declaration_of ps ++ more) y)) (m (x + y)))
     → arrays_in frame bytes (slots_from low ps) ≡ arrays_from x ps m
 arrays_are frame bytes m [] more x low there = refl
 arrays_are frame bytes m (p ∷ ps) more x low there =
@@ -253,9 +255,9 @@ arrays_are frame bytes m (p ∷ ps) more x low there =
     let rest = map declaration_of ps ++ more in
     let moved : (y : ℕ) (f : FlatVariable) (a b i j : ℕ) → a ≡ b → i ≡ j → LiesAt bytes f a (m i) → LiesAt bytes f b (m j) = λ y f a b i j e k h. subst (λ c. LiesAt bytes f c (m j)) e (subst (λ n. LiesAt bytes f a (m n)) k h) in
     ap₂ (λ (one others : List (List ℕ)). one ++ others)
-    (array_is frame bytes p.kind p.label p.length low p.form (m x) (moved 0 d (frame + (low + variable_offset (d ∷ rest) 0)) (frame + low) (x + 0) x (omega arith) (omega arith) (there 0 d refl)))
+    (array_is frame bytes p.kind p.label p.length low p.form (m x) (λ size is. moved 0 d (frame + (low + variable_offset (d ∷ rest) 0)) (frame + low) (x + 0) x (omega arith) (omega arith) (there 0 d size refl is)))
     (arrays_are frame bytes m ps more (x + 1) (low + 4 * flat_size.words_of d)
-    (λ y f get. moved y f (frame + (low + variable_offset (d ∷ rest) (suc y))) (frame + (low + 4 * flat_size.words_of d + variable_offset rest y)) (x + suc y) (x + 1 + y) (omega arith) (omega arith) (there (suc y) f get)))
+    (λ y f size get is. moved y f (frame + (low + variable_offset (d ∷ rest) (suc y))) (frame + (low + 4 * flat_size.words_of d + variable_offset rest y)) (x + suc y) (x + 1 + y) (omega arith) (omega arith) (there (suc y) f size get is)))
 
 -- where there is a result, its slot has it
 abbrev pub Left : ℕ → List FlatVariable → Option TermTree → Values → ByteMap → Type 0

@@ -1,23 +1,25 @@
 -- The code of a program, run: its body wherever its words stand, and the loaded image to its end. So the image is the code's.
-use Rattle.std.proofs.Common.{◌≡◌, ℕ, ◌+◌, ◌*◌, ◌≤◌, List, [], ◌∷◌, ◌++◌, length, map, drop, Some, slice_get, slice_index, is_some, refl, sym, ap, ap₂, ◌∙◌, subst, arith, None, Option}
+use Rattle.std.proofs.Common.{◌≡◌, ℕ, ◌+◌, ◌*◌, List, [], ◌∷◌, ◌++◌, length, map, drop, Some, slice_get, slice_index, is_some, refl, sym, ap, ap₂, ◌∙◌, subst, arith, None, Option}
 use Rattle.codegen.proofs.Language.{AreWithin, StraightProgram, StraightState, after_all, path_along, outcome_of}
 use Rattle.codegen.proofs.Language.{path_of, FlatVariable, types_of, Path, AreFine, seen, Arg, Profile, declaration_of}
 use Rattle.codegen.proofs.Language.{Param, WordType}
 use Rattle.codegen.proofs.Logic.{length-map, All-append, option_map, setting as pieces_of}
 use Rattle.branch_removal.specs.StraightMeaning.{start as start_of}
 use Rattle.codegen.proofs.Machine.{body_words, Stand, IsPlaced, IsLoaded, RunsBehind, IsFollowedIn, loaded_at}
-use Rattle.codegen.proofs.Machine.{results_in, code_at, block_code, depth_in_all, program_base, program_code}
-use Rattle.codegen.proofs.Machine.{result_code, image_of, result_slot, HasRoom, variable_offset, slots_from, Instr}
+use Rattle.codegen.proofs.Machine.{results_in, code_at, depth_in_all, program_code}
+use Rattle.codegen.proofs.Machine.{image_of, result_slot, HasRoom, variable_offset, slots_from, Instr}
 use Rattle.codegen.proofs.Machine.{word_of, Observation, number_at, Leads, Halts, Code, IsAt, IsInside, AreBases}
-use Rattle.codegen.proofs.Machine.{IsFollowed, IsGenerated, Ecall, type_in, Slot}
+use Rattle.codegen.proofs.Machine.{Allocation, body_of, IsFitting, IsFollowed, IsGenerated, Ecall, type_in, Slot}
 use Rattle.codegen.proofs.Arguments.{loaded, parameters_first, LiesAt, arrays_are, returned_is}
 use Rattle.codegen.proofs.SetRuns.{steps_of_result, Given, result_runs}
 use Rattle.codegen.proofs.Standing.{words_alone, body_words_before, placed_alone, leads_among, stand_placed, placed}
 use Rattle.codegen.proofs.StatementRuns.{block_runs}
-use Rattle.codegen.proofs.Logic.{bytes_of, place_of, Setting, seen_by, Straight, Steps, Runs, seq, gives, cheaper, beside, Ready, ready_below, All-one, Placed, Placed-left, Placed-right, Halts-after, ecall_halts}
+use Rattle.codegen.proofs.EntryRuns.{entry_runs}
+use Rattle.codegen.proofs.Slots.{Laid, laid_same}
+use Rattle.codegen.proofs.Logic.{bytes_of, place_of, Setting, seen_by, Straight, Steps, Runs, seq, quietly, gives, cheaper, beside, All-one, Placed, Placed-left, Placed-right, Halts-after, ecall_halts}
 use Rattle.rv_code.specs.declared.instructions.Instr.TheVariants as instr
 use Rattle.rv_machine.specs.Machine as machine
-use Rattle.codegen.proofs.ImageLemmas.{room_frame}
+use Rattle.codegen.proofs.ImageLemmas.{program_length, room_frame}
 use Rattle.inline.specs.FlatSize.{words_of}
 
 -- the state that the value is taken in
@@ -25,32 +27,34 @@ abbrev last_state : StraightProgram → StraightState → StraightState
 last_state p env = after_all env p.body
 
 -- all but the end
-pub body_code : StraightProgram → List Instr
-body_code p = block_code p.declared p.controls (depth_in_all p.body) 0 p.body ++ result_code p.declared (program_base p) p.value
+pub body_code : Allocation → StraightProgram → List Instr
+body_code a p = body_of a p
 
-pub program_code-body : (p : StraightProgram) → program_code p ≡ body_code p ++ instr.Ecall ∷ []
+pub program_code-body : (a : Allocation) (p : StraightProgram) → program_code a p ≡ body_code a p ++ instr.Ecall ∷ []
 unfolding body_code
-program_code-body p = refl
+program_code-body a p = refl
 
 -- the words of an image's body are its code's
-pub body_words-image : (p : StraightProgram) → body_words (image_of p).words ≡ map word_of (body_code p)
+pub body_words-image : (a : Allocation) (p : StraightProgram) → body_words (image_of a p).words ≡ map word_of (body_code a p)
 unfolding body_code
-body_words-image p = body_words_before (body_code p) instr.Ecall
+body_words-image a p = body_words_before (body_code a p) instr.Ecall
 
-pub body_length : (p : StraightProgram) → length (body_words (image_of p).words) ≡ length (body_code p)
-body_length p = ap (λ (ws : List ℕ). length ws) (body_words-image p) ∙ length-map {B = ℕ} (body_code p) word_of
+pub body_length : (a : Allocation) (p : StraightProgram) → length (body_words (image_of a p).words) ≡ length (body_code a p)
+body_length a p = ap (λ (ws : List ℕ). length ws) (body_words-image a p) ∙ length-map {B = ℕ} (body_code a p) word_of
 
-module _ (p : StraightProgram) (room : HasRoom p) (code : Code) (start frame : ℕ) (there : IsPlaced (image_of p) code start frame) where
+module _ (a : Allocation) (p : StraightProgram) (room : HasRoom p) (fitting : IsFitting p a) (code : Code) (start frame : ℕ) (there : IsPlaced (image_of a p) code start frame) where
   -- as if the body's words stood alone
   abbrev setting : Setting
   setting = record {
-    code = words_alone p.profile start (map word_of (body_code p));
+    code = words_alone p.profile start (map word_of (body_code a p));
     frame = frame;
-    size = (image_of p).frame_bytes;
+    size = (image_of a p).frame_bytes;
     counts = p.turns;
     declared = p.declared;
     controls = p.controls;
     depths = depth_in_all p.body;
+    allocation = a;
+    allocated = fitting.allocated;
     even = there.frame_aligned;
     ends = there.frame_ends;
     room = omega arith;
@@ -62,62 +66,63 @@ module _ (p : StraightProgram) (room : HasRoom p) (code : Code) (start frame : �
   Finished : StraightState → machine.State → machine.State → Type 0
   Finished env s t = Given setting p.value (last_state p env) s t
 
-  body_runs : Runs setting (32 * p.work) steps (body_code p) (Ready setting) Finished
+  body_runs : Runs setting (60 + 32 * p.work) steps (body_code a p) (Laid setting) Finished
   unfolding body_code steps Finished
   body_runs =
       let nodes = room.nodes in
-      cheaper (omega (arith, room.worked))
+      cheaper (omega (arith, room.worked, fitting.few))
       (gives
-      (λ env s t fine ready done. record { ready = done.second.ready; left = done.second.left })
+      (λ env s t fine laid done. record { ready = done.second.second.ready; left = done.second.second.left })
+      (quietly (entry_runs setting fitting.within)
       (seq
       (block_runs setting 0 p.body room.typed.body (omega arith) (omega arith) (omega (arith, room.counted, nodes)))
       (beside (last_state p) (result_runs setting p.returned p.value room.typed.result (omega arith)))
-      (λ env s t ready done. done.ready)))
+      (λ env s t ready done. done.ready))
+      (λ env s t laid ready. ready)))
 
-  standing : Stand code start (map word_of (body_code p))
-  standing = subst (λ (ws : List ℕ). Stand code start ws) (body_words-image p) there.words
+  standing : Stand code start (map word_of (body_code a p))
+  standing = subst (λ (ws : List ℕ). Stand code start ws) (body_words-image a p) there.words
 
-  straight : Straight (pieces_of setting) start (32 * p.work) steps (body_code p) (Ready setting) Finished
-  straight = body_runs.placed_at start (placed_alone p.profile code start (body_code p) standing)
+  straight : Straight (pieces_of setting) start (60 + 32 * p.work) steps (body_code a p) (Laid setting) Finished
+  straight = body_runs.placed_at start (placed_alone p.profile code start (body_code a p) standing)
 
-  begins : (args : List Arg) (s : machine.State) → IsLoaded (image_of p) frame args s → AreWithin p.parameters args → Ready setting (start_of p args) s
+  begins : (args : List Arg) (s : machine.State) → IsLoaded (image_of a p) frame args s → AreWithin p.parameters args → Laid setting (start_of p args) s
   begins args s laid within =
-      let first = loaded_at 0 frame (image_of p) args in
-      let ready = loaded setting p.parameters args room.typed.parameters room.parameters within first refl refl in
-      let all : setting.size ≤ setting.size = omega arith in
-      ready_below setting setting.size (omega arith) (start_of p args) first s ready
-      (record { base = laid.base; data_there = λ o inside. ap is_some (laid.frame_there o inside) ∙ ready.held.data_there o inside })
+      let first = loaded_at 0 frame (image_of a p) args in
+      let begun = loaded setting p.parameters args room.typed.parameters room.parameters within first refl refl in
+      laid_same setting setting.size (omega arith) (start_of p args) first s begun
+      (record { base = laid.base; data_there = λ o inside. ap is_some (laid.frame_there o inside) ∙ begun.held.data_there o inside })
       laid.frame_there
 
-  outcome : (args : List Arg) (s t : machine.State) → Finished (start_of p args) s t → results_in frame (image_of p) t.bytes ≡ outcome_of p args
+  outcome : (args : List Arg) (s t : machine.State) → Finished (start_of p args) s t → results_in frame (image_of a p) t.bytes ≡ outcome_of p args
   unfolding Finished
   outcome args s t done =
       let m = (last_state p (start_of p args)).variables in
       ap₂ (λ r arrays. record { returned = r; arrays = arrays })
       (returned_is frame p.declared (types_of p.profile p.declared) p.returned p.value m t.bytes room.typed.result done.left)
       (arrays_are frame t.bytes m p.parameters (drop (length p.parameters) p.declared) 0 0
-      (subst (λ (ds : List FlatVariable). (y : ℕ) (d : FlatVariable) → slice_get ds y ≡ Some d → LiesAt t.bytes d (frame + (0 + variable_offset ds y)) (m (0 + y))) (sym (parameters_first p.parameters p.declared room.typed.parameters))
-      (λ y d is.
+      (subst (λ (ds : List FlatVariable). (y : ℕ) (d : FlatVariable) (size : ℕ) → slice_get ds y ≡ Some d → d.elements ≡ Some size → LiesAt t.bytes d (frame + (0 + variable_offset ds y)) (m (0 + y))) (sym (parameters_first p.parameters p.declared room.typed.parameters))
+      (λ y d size is array.
       let e : 0 + y ≡ y = omega arith in (
         ap (λ k. length (m k)) e ∙ (done.ready.fits y d is).count,
         λ i below.
             let f : frame + (0 + variable_offset p.declared y) + bytes_of d * i ≡ frame + place_of p.declared y d i = omega arith in
-            ap (λ a. number_at t.bytes (bytes_of d) a) f ∙ (done.ready.variables_there y d i is below ∙ ap (λ k. Some (slice_index (m k) i)) (sym e)),
+            ap (λ a. number_at t.bytes (bytes_of d) a) f ∙ (done.ready.variables_there y d i is (fitting.allocated.words y d size is array) below ∙ ap (λ k. Some (slice_index (m k) i)) (sym e)),
       ))))
 
   -- among the other words of the code
   among : {n : ℕ} {s t : machine.State} {seen : List Observation} → Leads setting.code n s seen t → Leads code n s seen t
   among {n} {s} {t} {seen} leads =
       let same : p.profile ≡ code.profile = sym there.observed in
-      leads_among code start (map word_of (body_code p)) standing (subst (λ (profile : Profile). Leads (words_alone profile start (map word_of (body_code p))) n s seen t) same leads)
+      leads_among code start (map word_of (body_code a p)) standing (subst (λ (profile : Profile). Leads (words_alone profile start (map word_of (body_code a p))) n s seen t) same leads)
 
-  runs_behind : (args : List Arg) (s : machine.State) → s.pc ≡ start → IsLoaded (image_of p) frame args s → AreWithin p.parameters args → AreFine p.turns (path_of p args)
-      → RunsBehind p (image_of p) code start frame args s ((straight.leak (seen_by setting (path_of p args) ++ [])).0)
+  runs_behind : (args : List Arg) (s : machine.State) → s.pc ≡ start → IsLoaded (image_of a p) frame args s → AreWithin p.parameters args → AreFine p.turns (path_of p args)
+      → RunsBehind p (image_of a p) code start frame args s ((straight.leak (seen_by setting (path_of p args) ++ [])).0)
   unfolding steps Finished
   runs_behind args s at laid within fine =
       let done = straight.runs (start_of p args) s [] at fine (begins args s laid within) in
       let same : (straight.leak (seen_by setting (path_of p args) ++ [])).0 ≡ done.seen = ap (λ (r : List Observation × Path). r.0) done.shown in
-      subst (λ (seen : List Observation). RunsBehind p (image_of p) code start frame args s seen) (sym same)
+      subst (λ (seen : List Observation). RunsBehind p (image_of a p) code start frame args s seen) (sym same)
       (record {
         run = record {
           turns = done.turns;
@@ -125,7 +130,7 @@ module _ (p : StraightProgram) (room : HasRoom p) (code : Code) (start frame : �
           leads = among done.leads;
           within_steps = omega (arith, done.within);
           within_frame = done.inside;
-          behind = done.at ∙ ap (λ n. start + 4 * n) (sym (body_length p));
+          behind = done.at ∙ ap (λ n. start + 4 * n) (sym (body_length a p));
           base = done.done.ready.held.base;
           untouched = λ r is. done.keeps.regs r (omega (arith, is));
           beside = done.keeps.beside;
@@ -135,34 +140,34 @@ module _ (p : StraightProgram) (room : HasRoom p) (code : Code) (start frame : �
       })
 
 -- the machine follows the body's code, wherever it stands
-pub followed_in : (p : StraightProgram) → HasRoom p → (code : Code) (start frame : ℕ) → IsPlaced (image_of p) code start frame → IsFollowedIn p (image_of p) code start frame
-followed_in p room code start frame there = record {
-  shown = λ path. ((straight p room code start frame there).leak (path ++ [])).0;
-  runs = λ args s at laid within fine. runs_behind p room code start frame there args s at laid within fine;
+pub followed_in : (a : Allocation) (p : StraightProgram) → HasRoom p → IsFitting p a → (code : Code) (start frame : ℕ) → IsPlaced (image_of a p) code start frame → IsFollowedIn p (image_of a p) code start frame
+followed_in a p room fitting code start frame there = record {
+  shown = λ path. ((straight a p room fitting code start frame there).leak (path ++ [])).0;
+  runs = λ args s at laid within fine. runs_behind a p room fitting code start frame there args s at laid within fine;
 }
 
 -- The whole image: its body, and then the end.
 
-module _ (p : StraightProgram) (code frame : ℕ) (bases : AreBases (image_of p) code frame) where
+module _ (a : Allocation) (p : StraightProgram) (code frame : ℕ) (bases : AreBases (image_of a p) code frame) where
   abbrev whole : Code
-  whole = code_at code (image_of p)
+  whole = code_at code (image_of a p)
 
-  all_placed : Placed whole code (body_code p ++ instr.Ecall ∷ [])
+  all_placed : Placed whole code (body_code a p ++ instr.Ecall ∷ [])
   all_placed =
-      subst (λ (is : List Instr). Placed whole code is) (program_code-body p)
-      (placed p.profile code (image_of p).words [] (program_code p) code bases.code_aligned bases.code_ends refl (omega arith))
+      subst (λ (is : List Instr). Placed whole code is) (program_code-body a p)
+      (placed p.profile code (image_of a p).words [] (program_code a p) code bases.code_aligned bases.code_ends refl (omega arith))
 
   -- the body stands in its image
-  pub stands_there : IsPlaced (image_of p) whole code frame
+  pub stands_there : IsPlaced (image_of a p) whole code frame
   stands_there = record {
     observed = refl;
-    words = subst (λ (ws : List ℕ). Stand whole code ws) (sym (body_words-image p)) (stand_placed whole code (body_code p) (Placed-left whole code (body_code p) (instr.Ecall ∷ []) all_placed));
+    words = subst (λ (ws : List ℕ). Stand whole code ws) (sym (body_words-image a p)) (stand_placed whole code (body_code a p) (Placed-left whole code (body_code a p) (instr.Ecall ∷ []) all_placed));
     frame_aligned = bases.frame_aligned;
     frame_ends = bases.frame_ends;
   }
 
   last : ℕ
-  last = code + 4 * length (body_words (image_of p).words)
+  last = code + 4 * length (body_words (image_of a p).words)
 
   end_shown : List Observation
   end_shown = record { pc = last; event = None } ∷ []
@@ -170,20 +175,20 @@ module _ (p : StraightProgram) (code frame : ℕ) (bases : AreBases (image_of p)
   ends_there : (s : machine.State) → s.pc ≡ last → Halts whole 1 s end_shown Ecall s
   unfolding last end_shown
   ends_there s at =
-      let there = Placed-right whole code (body_code p) (instr.Ecall ∷ []) all_placed in
-      let stands = subst (λ q. IsAt whole q instr.Ecall) (sym (at ∙ ap (λ n. code + 4 * n) (body_length p))) (record { aligned = there.0; word = there.2; in_range = tt }) in
+      let there = Placed-right whole code (body_code a p) (instr.Ecall ∷ []) all_placed in
+      let stands = subst (λ q. IsAt whole q instr.Ecall) (sym (at ∙ ap (λ n. code + 4 * n) (body_length a p))) (record { aligned = there.0; word = there.2; in_range = tt }) in
       subst (λ q. Halts whole 1 s (record { pc = q; event = None } ∷ []) Ecall s) at (ecall_halts whole s stands)
 
   -- the machine follows the code where it follows the body
-  pub followed_whole : IsFollowedIn p (image_of p) whole code frame → IsFollowed p (image_of p) code frame
+  pub followed_whole : IsFollowedIn p (image_of a p) whole code frame → IsFollowed p (image_of a p) code frame
   unfolding last end_shown
   followed_whole body = record {
     shown = λ path. body.shown path ++ end_shown;
     runs = λ args within fine.
-        let s = loaded_at code frame (image_of p) args in
+        let s = loaded_at code frame (image_of a p) args in
         let follows = body.runs args s refl (record { base = refl; frame_there = λ o inside. refl }) within fine in
         let run = follows.run in
-        let Inside = λ (o : Observation). IsInside frame (image_of p).frame_bytes o.event in
+        let Inside = λ (o : Observation). IsInside frame (image_of a p).frame_bytes o.event in
         record {
           turns = run.turns + 1;
           end = run.end;
@@ -206,16 +211,16 @@ slot_type : (declared : List FlatVariable) (returned : Option WordType) → opti
 slot_type declared None = refl
 slot_type declared (Some word) = refl
 
-pub is_generated : (p : StraightProgram) → HasRoom p → IsGenerated p (image_of p)
-is_generated p room =
-    let words : length (map word_of (program_code p)) ≡ length (program_code p) = length-map {B = ℕ} (program_code p) word_of in
+pub is_generated : (a : Allocation) (p : StraightProgram) → HasRoom p → IsFitting p a → IsGenerated p (image_of a p)
+is_generated a p room fitting =
+    let words : length (map word_of (program_code a p)) ≡ length (program_code a p) = length-map {B = ℕ} (program_code a p) word_of in
     record {
       profile = refl;
       parameters = slot_params 0 p.parameters;
       returned = slot_type p.declared p.returned;
       max_steps = refl;
-      frame_size = room_frame p room;
-      word_count = omega (arith, room.code, words);
-      follows = λ code frame bases. followed_whole p code frame bases (followed_in p room (code_at code (image_of p)) code frame (stands_there p code frame bases));
-      anywhere = λ code start frame there. followed_in p room code start frame there;
+      frame_size = room_frame a p room;
+      word_count = omega (arith, program_length a p room fitting, words);
+      follows = λ code frame bases. followed_whole a p code frame bases (followed_in a p room fitting (code_at code (image_of a p)) code frame (stands_there a p code frame bases));
+      anywhere = λ code start frame there. followed_in a p room fitting code start frame there;
     }

@@ -8,7 +8,7 @@ use Rattle.codegen.proofs.Language.{after, IsFilled, Kind, Boolean, array_words}
 use Rattle.codegen.proofs.Logic.{cases_eq, cases_lt, length-replicate}
 use Rattle.rv_code.specs.declared.instructions.Instr.TheVariants as instr
 use Rattle.rv_machine.specs.Machine as machine
-use Rattle.codegen.proofs.Logic.{with_number-suc, with_byte_same, with_byte_other, registers_after, only_computes, is_free, computing_within, frame_runs, plain_append, after_append, constant_plain, constant_after, constant_length, kind_known, HeldAt, Held, held_regs, frame_there, bytes_of, place_of, place_within, ends_before_result, Setting, setting, none, none_low, Runs, Still, looping, never, quiet, weaken, gives, cheaper, along, as_code, Ready, number_same}
+use Rattle.codegen.proofs.Logic.{with_number-suc, with_byte_same, with_byte_other, registers_after, only_computes, is_free, computing_within, frame_runs, plain_append, after_append, constant_plain, constant_after, constant_length, kind_known, HeldAt, Held, held_regs, frame_there, bytes_of, place_of, place_within, ends_before_result, Setting, setting, none, none_low, Runs, Still, looping, never, quiet, weaken, gives, cheaper, along, as_code, Ready, number_same, HomesKept, homes_by, homes_computed, homes_then, is_scratch, scratch_low, unwritten}
 use Rattle.codegen.proofs.Arguments.{zero_at, held_zeros}
 use Rattle.codegen.proofs.Numbers.{numbers_beside, zero_number}
 use Rattle.codegen.proofs.Slots.{Shown, ready_changed}
@@ -77,12 +77,12 @@ module _ (z : Setting) (offset words : ℕ) (aligned : offset % 4 ≡ 0) (inside
   abbrev begin_code : List Instr
   begin_code = constant_code 6 offset ++ first_sum ++ constant_code 7 (4 * words) ++ last_sum
 
-  begin_plain : only_computes is_free begin_code ≡ true
+  begin_plain : only_computes is_scratch begin_code ≡ true
   begin_plain =
-      let six = constant_plain is_free 6 offset refl (omega arith) in
-      let seven = constant_plain is_free 7 (4 * words) refl (omega arith) in
-      let front = plain_append is_free (constant_code 6 offset) first_sum six refl in
-      plain_append is_free (constant_code 6 offset ++ first_sum ++ constant_code 7 (4 * words)) last_sum (plain_append is_free (constant_code 6 offset ++ first_sum) (constant_code 7 (4 * words)) front seven) refl
+      let six = constant_plain is_scratch 6 offset refl (omega arith) in
+      let seven = constant_plain is_scratch 7 (4 * words) refl (omega arith) in
+      let front = plain_append is_scratch (constant_code 6 offset) first_sum six refl in
+      plain_append is_scratch (constant_code 6 offset ++ first_sum ++ constant_code 7 (4 * words)) last_sum (plain_append is_scratch (constant_code 6 offset ++ first_sum) (constant_code 7 (4 * words)) front seven) refl
 
   begin_length : length begin_code ≤ 6
   begin_length = simp length-append (omega (arith, constant_length 6 offset, constant_length 7 (4 * words)))
@@ -95,7 +95,7 @@ module _ (z : Setting) (offset words : ℕ) (aligned : offset % 4 ≡ 0) (inside
       after_append (constant_code 6 offset ++ first_sum ++ constant_code 7 (4 * words)) last_sum regs
       ∙ ap (registers_after last_sum) (after_append (constant_code 6 offset ++ first_sum) (constant_code 7 (4 * words)) regs ∙ (seven ∙ ap (λ (all : ℕ → ℕ). with_register all 7 (4 * words)) six))
 
-  begin_runs : Runs z 6 none (begin_code) (Held z) (λ env s t. Bounded 0 env t × (t.bytes ≡ s.bytes))
+  begin_runs : Runs z 6 none (begin_code) (Held z) (λ env s t. Bounded 0 env t × (t.bytes ≡ s.bytes) × HomesKept z s t)
   begin_runs =
       let ends = z.ends in
       cheaper begin_length
@@ -109,8 +109,9 @@ module _ (z : Setting) (offset words : ℕ) (aligned : offset % 4 ≡ 0) (inside
           seven = ap (λ (regs : ℕ → ℕ). regs 7) all ∙ (ap (λ a. sum_of (4 * words) a) (to offset) ∙ omega (arith, ends, inside));
         },
         done.same,
+        homes_computed z begin_code s t begin_plain done.registers,
       ))
-      (computing_within z is_free begin_code begin_plain none_low))
+      (computing_within z is_scratch begin_code begin_plain scratch_low))
 
   -- The loop.
 
@@ -125,10 +126,10 @@ module _ (z : Setting) (offset words : ℕ) (aligned : offset % 4 ≡ 0) (inside
   Turning left i env s = Bounded i env s × (i + left ≡ words)
 
   abbrev Tested : ℕ → ℕ → StraightState → machine.State → machine.State → Type 0
-  Tested left i env s t = Bounded i env t × (t.regs 5 ≡ 4 * left) × (t.bytes ≡ s.bytes)
+  Tested left i env s t = Bounded i env t × (t.regs 5 ≡ 4 * left) × (t.bytes ≡ s.bytes) × HomesKept z s t
 
   abbrev Turned : ℕ → StraightState → machine.State → machine.State → Type 0
-  Turned i env u v = Bounded (i + 1) env v × (v.bytes ≡ with_number u.bytes 4 (z.frame + (offset + 4 * i)) 0)
+  Turned i env u v = Bounded (i + 1) env v × (v.bytes ≡ with_number u.bytes 4 (z.frame + (offset + 4 * i)) 0) × HomesKept z u v
 
   test_runs : (left i : ℕ) → Runs z 1 none test (Turning left i) (Tested left i)
   test_runs left i =
@@ -144,6 +145,7 @@ module _ (z : Setting) (offset words : ℕ) (aligned : offset % 4 ≡ 0) (inside
         },
         ap (λ (regs : ℕ → ℕ). regs 5) done.registers ∙ (ap₂ difference_of given.0.seven given.0.six ∙ omega (arith, ends, inside, count)),
         done.same,
+        homes_computed z test s t refl done.registers,
       ))
       (computing_within z is_free test refl none_low)
 
@@ -158,6 +160,7 @@ module _ (z : Setting) (offset words : ℕ) (aligned : offset % 4 ≡ 0) (inside
           seven = ap (λ (regs : ℕ → ℕ). regs 7) done.1.regs ∙ given.0.seven;
         },
         done.1.bytes,
+        λ r home. let some = z.allocated.some in ap (λ (regs : ℕ → ℕ). regs r) done.1.regs ∙ unwritten s.regs 6 _ r (λ e. omega (arith, some, home.0, e)),
       ))
       (frame_runs z {P = Turning (suc left) i} is_free turn ((z.frame + (offset + 4 * i)) ∷ []) refl none_low
       (record { even = omega (arith, z.even, aligned); allowed = (omega arith, omega (arith, inside, below)) }, tt)
@@ -179,10 +182,10 @@ module _ (z : Setting) (offset words : ℕ) (aligned : offset % 4 ≡ 0) (inside
 
   -- the words before the next are 0
   abbrev Inv : ℕ → ℕ → StraightState → machine.State → machine.State → Type 0
-  Inv left i env o s = Turning left i env s × (s.bytes ≡ zeroed o.bytes start i)
+  Inv left i env o s = Turning left i env s × (s.bytes ≡ zeroed o.bytes start i) × HomesKept z o s
 
   abbrev Over : StraightState → machine.State → machine.State → Type 0
-  Over env o u = HeldAt z u × (u.bytes ≡ zeroed o.bytes start words)
+  Over env o u = HeldAt z u × (u.bytes ≡ zeroed o.bytes start words) × HomesKept z o u
 
   bounded_still : (i : ℕ) (env : StraightState) (s t : machine.State) → Bounded i env s → Still s t → Bounded i env t
   bounded_still i env s t given still = record {
@@ -202,7 +205,7 @@ module _ (z : Setting) (offset words : ℕ) (aligned : offset % 4 ≡ 0) (inside
       cheaper (omega arith)
       (along (λ env. sym (path_none words 0 env))
       (weaken
-      (λ env s fine given. ((given, omega arith), refl))
+      (λ env s fine given. ((given, omega arith), refl, λ r home. refl))
       (λ env s t fine given over. over)
       (looping {z = setting z} 5 (omega arith) (λ e. omega arith) {A = Turning} {B = Tested} {C = λ left i. Turning (suc left) i} {D = λ left i. Turned i}
       nothing_more as_before Inv Over (omega arith)
@@ -213,18 +216,20 @@ module _ (z : Setting) (offset words : ℕ) (aligned : offset % 4 ≡ 0) (inside
       (λ left i env o s t u v w inv tested still done back. (
         (bounded_still (i + 1) env v w done.0 back, let h = inv.0.1 in omega (arith, h)),
         back.bytes ∙ (done.1 ∙ next_zeroed i o.bytes u.bytes (still.bytes ∙ (tested.2 ∙ inv.1))),
+        homes_then z o s w inv.2 (homes_then z s t w tested.3 (homes_then z t u w (homes_by z t u still.regs) (homes_then z u v w done.2 (homes_by z v w back.regs)))),
       ))
       (λ i env o s t u inv tested still.
       let count : i ≡ words = let h = inv.0.1 in omega (arith, h) in (
         held_regs z t u (ap (λ (regs : ℕ → ℕ). regs 2) still.regs) still.bytes tested.0.held,
         still.bytes ∙ (tested.2 ∙ (inv.1 ∙ ap (λ n. zeroed o.bytes start n) count)),
+        homes_then z o s u inv.2 (homes_then z s t u tested.3 (homes_by z t u still.regs)),
       ))
       test_runs turn_runs words 0)))
 
-  pub clear_bytes : Runs z (6 + (words + 1) * 5) none (clear_code offset words) (Held z) (λ env s t. HeldAt z t × (t.bytes ≡ zeroed s.bytes start words))
+  pub clear_bytes : Runs z (6 + (words + 1) * 5) none (clear_code offset words) (Held z) (λ env s t. HeldAt z t × (t.bytes ≡ zeroed s.bytes start words) × HomesKept z s t)
   clear_bytes =
       gives
-      (λ env s t fine held done. (done.second.0, done.second.1 ∙ ap (λ (b : ByteMap). zeroed b start words) done.first.1))
+      (λ env s t fine held done. (done.second.0, done.second.1 ∙ ap (λ (b : ByteMap). zeroed b start words) done.first.1, homes_then z s done.middle t done.first.2 done.second.2))
       (quiet begin_runs zeros_runs (λ env s t held begun. begun.0))
 
 -- no more words than elements
@@ -243,15 +248,15 @@ module _ (z : Setting) (depth x size : ℕ) (typed : IsFilled z.code.profile z.d
   count = array_words typed.word.kind size
 
   -- all zeros are shown, and all else as it was
-  ready_cleared : (env : StraightState) (s t : machine.State) → Ready z env s → HeldAt z t → t.bytes ≡ zeroed s.bytes (z.frame + place) count → Ready z (with_variable env x (replicate size 0)) t
-  ready_cleared env s t ready held cleared =
-      ready_changed z x d typed.known (replicate size 0) (held_zeros d) env s t ready held
+  ready_cleared : (env : StraightState) (s t : machine.State) → Ready z env s → HeldAt z t → t.bytes ≡ zeroed s.bytes (z.frame + place) count → HomesKept z s t → Ready z (with_variable env x (replicate size 0)) t
+  ready_cleared env s t ready held cleared homes =
+      ready_changed z x d typed.known (z.allocated.words x d size typed.known refl) (replicate size 0) (held_zeros d) env s t ready held
       (λ j less.
       let w = place_within z.declared x d j less in
       zero_number t.bytes z.frame (bytes_of d) (place_of z.declared x d j)
       (λ b low high. ap (λ (m : ByteMap). m (z.frame + b)) cleared ∙ zeroed_there s.bytes (z.frame + place) count (z.frame + b) (omega (arith, low)) (omega (arith, high, w)))
       ∙ ap Some (sym (zero_at size j)))
-      outside
+      outside homes
     where
       beside_at : (n o : ℕ) → ((b : ℕ) → o ≤ b → b < o + n → (z.frame + b < z.frame + place) ⊎ (z.frame + place + 4 * count ≤ z.frame + b)) → number_at t.bytes n (z.frame + o) ≡ number_at s.bytes n (z.frame + o)
       beside_at n o side = number_same z s t n o (λ b low high. ap (λ (m : ByteMap). m (z.frame + b)) cleared ∙ zeroed_beside s.bytes (z.frame + place) count (z.frame + b) (side b low high))
@@ -260,7 +265,7 @@ module _ (z : Setting) (depth x size : ℕ) (typed : IsFilled z.code.profile z.d
       outside n o (inl h) = beside_at n o (λ b low high. inl (omega (arith, high, h)))
       outside n o (inr h) = beside_at n o (λ b low high. inr (omega (arith, low, h)))
 
-  pub clear_runs : Runs z (32 * (1 + size)) none (statement_code z.declared z.controls z.depths depth (clear x size)) (Ready z) (Shown z depth (λ env. after env (clear x size)))
+  pub clear_runs : Runs z (32 * (1 + size)) none (statement_code z.declared z.allocation z.controls z.depths depth (clear x size)) (Ready z) (Shown z depth (λ env. after env (clear x size)))
   clear_runs =
       let first = ends_before_result z.declared x d typed.known in
       as_code (ap (λ k. clear_code place (array_words k size)) (kind_known z.declared x d typed.known))
@@ -268,7 +273,7 @@ module _ (z : Setting) (depth x size : ℕ) (typed : IsFilled z.code.profile z.d
       (weaken
       (λ env s fine ready. ready.held)
       (λ env s t fine ready done. record {
-        ready = ready_cleared env s t ready done.0 done.1;
+        ready = ready_cleared env s t ready done.0 done.1 done.2;
         hidden = λ o low high. ap (λ (m : ByteMap). m (z.frame + o)) done.1 ∙ zeroed_beside s.bytes (z.frame + place) count (z.frame + o) (inr (omega (arith, first, low)));
       })
       (clear_bytes z place count (omega arith) (omega (arith, first, z.room)))))

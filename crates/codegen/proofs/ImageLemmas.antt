@@ -1,12 +1,12 @@
 -- Straight code within the limits has room in a frame and in an image, and the fields of its image are allowed.
 use Rattle.std.proofs.Common.{◌≡◌, ℕ, suc, ◌+◌, ◌*◌, ◌%◌, ◌^◌, ◌<◌, ◌≤◌, true, List, [], ◌∷◌, length, map, All, Option, None, Some, IfSome, refl, sym, ap, subst, ◌∙◌, arith, length-append, zero, take}
 use Rattle.codegen.proofs.Logic.{eq-eqb, le-leb, and_from, length-map, recursion_from_All, option_map, parameter_words}
-use Rattle.codegen.proofs.Logic.{height, store_length, expr_length, typed_among, same_Some}
+use Rattle.codegen.proofs.Logic.{height, load_length, store_length, into_length, none-some, typed_among, same_Some}
 use Rattle.std.specs.List.{AllByRecursion}
 use Rattle.codegen.proofs.Machine.{word_of, IsImage, AreSlots, IsResultSlot, is_length, slot_end, result_end, slots_end}
 use Rattle.codegen.proofs.Machine.{Slot, ResultSlot, program_base, program_code, program_slots, result_slot, step_limit}
 use Rattle.codegen.proofs.Machine.{result_code, result_height, program_height, slots_from, result_offset, HasRoom}
-use Rattle.codegen.proofs.Machine.{depth_in_all, HavePlaces, IsAmong, Instr}
+use Rattle.codegen.proofs.Machine.{Allocation, depth_in_all, entry_code, HavePlaces, home_count, IsAmong, IsFitting, Instr, plain, variable_offset}
 use Rattle.codegen.proofs.Language.{StraightProgram, most_elements, Form, SingleWord, Kind, Boolean, Param, WordType}
 use Rattle.codegen.proofs.Language.{held_words, array_words, Profile, FlatVariable, declaration_of, TermTree, HasLength}
 use Rattle.codegen.proofs.Language.{declared_words, value_nodes, IsBounded, IsTypedStraight, types_of, IsResult}
@@ -86,14 +86,30 @@ returned_inside declared frame None room = tt
 returned_inside declared frame (Some word) room = omega (arith, room)
 
 -- the frame of a program with room
-pub room_frame : (p : StraightProgram) → HasRoom p → program_base p + 4 * program_slots p ≤ 65536
-room_frame p room =
+pub room_frame : (a : Allocation) (p : StraightProgram) → HasRoom p → program_base p + 4 * program_slots a p ≤ 65536
+room_frame a p room =
     omega (arith, room.declared, room.nodes, room.frame)
 
+-- How long its code is.
+
+result_length : (declared : List FlatVariable) (allocation : Allocation) (free : ℕ) (value : Option TermTree) → length (result_code declared allocation free value) ≤ 32 * value_nodes value
+result_length declared allocation free None = omega arith
+result_length declared allocation free (Some value) = simp length-append (omega (arith, into_length declared allocation free 5 0 value, store_length 5 (result_offset declared)))
+
+entry_length : (declared : List FlatVariable) (x : ℕ) (homes : List (Option ℕ)) → length (entry_code declared x homes) ≤ 3 * home_count homes
+entry_length declared x [] = omega arith
+entry_length declared x (None ∷ homes) = entry_length declared (x + 1) homes
+entry_length declared x (Some home ∷ homes) = simp length-append (omega (arith, load_length home (variable_offset declared x), entry_length declared (x + 1) homes))
+
+pub program_length : (a : Allocation) (p : StraightProgram) → HasRoom p → IsFitting p a → length (program_code a p) ≤ 32 * p.nodes + 64
+program_length a p room fitting =
+    let body = block_length p.declared a p.controls (depth_in_all p.body) 0 p.body in
+    omega (arith, length-append {A = Instr}, entry_length p.declared 0 a.homes, body, result_length p.declared a (program_base p) p.value, room.counted, fitting.few)
+
 -- the fields that are generated for a program with room are allowed, whoever the observer is
-image_allowed : (p : StraightProgram) (profile : Profile) → HasRoom p → AllByRecursion (λ word. word < 2 ^ 32) (map word_of (program_code p))
-    → IsImage (record { profile = profile; slots = slots_from 0 p.parameters; returned = option_map (result_slot p.declared) p.returned; frame_bytes = program_base p + 4 * program_slots p; max_steps = step_limit p.work; words = map word_of (program_code p) })
-image_allowed p profile room fit =
+image_allowed : (a : Allocation) (p : StraightProgram) (profile : Profile) → HasRoom p → IsFitting p a → AllByRecursion (λ word. word < 2 ^ 32) (map word_of (program_code a p))
+    → IsImage (record { profile = profile; slots = slots_from 0 p.parameters; returned = option_map (result_slot p.declared) p.returned; frame_bytes = program_base p + 4 * program_slots a p; max_steps = step_limit p.work; words = map word_of (program_code a p) })
+image_allowed a p profile room fitting fit =
     let few = room.parameters in
     let d = room.declared in
     let end = slots_end-slots_from 0 p.parameters in
@@ -102,31 +118,27 @@ image_allowed p profile room fit =
       slots = slots_are 0 p.parameters room.lengths refl (omega (arith, few, d));
       returned = returned_is p.declared (slots_end 0 (slots_from 0 p.parameters)) p.returned (omega (arith, end, few)) d;
       frame_aligned = omega arith;
-      frame_size = room_frame p room;
-      slots_inside = slots_inside 0 (program_base p + 4 * program_slots p) p.parameters (omega (arith, few));
-      returned_inside = returned_inside p.declared (program_base p + 4 * program_slots p) p.returned (omega arith);
+      frame_size = room_frame a p room;
+      slots_inside = slots_inside 0 (program_base p + 4 * program_slots a p) p.parameters (omega (arith, few));
+      returned_inside = returned_inside p.declared (program_base p + 4 * program_slots a p) p.returned (omega arith);
       some_step = omega arith;
       steps = omega (arith, room.work);
       some_word = simp (length-map, length-append) (omega arith);
-      word_count = omega (arith, length-map {B = ℕ} (program_code p) word_of, room.code, room.nodes);
+      word_count = omega (arith, length-map {B = ℕ} (program_code a p) word_of, program_length a p room fitting, room.nodes);
       words = fit;
     }
 
 -- so are fields that are equal to them, one by one
-pub fields_allowed : (p : StraightProgram) → HasRoom p → (profile : Profile) (slots : List Slot) (returned : Option ResultSlot) (frame steps : ℕ) (words : List ℕ)
+pub fields_allowed : (a : Allocation) (p : StraightProgram) → HasRoom p → IsFitting p a → (profile : Profile) (slots : List Slot) (returned : Option ResultSlot) (frame steps : ℕ) (words : List ℕ)
     → slots ≡ slots_from 0 p.parameters → returned ≡ option_map (result_slot p.declared) p.returned
-    → frame ≡ program_base p + 4 * program_slots p → steps ≡ step_limit p.work
-    → words ≡ map word_of (program_code p) → All (λ word. word < 2 ^ 32) words
+    → frame ≡ program_base p + 4 * program_slots a p → steps ≡ step_limit p.work
+    → words ≡ map word_of (program_code a p) → All (λ word. word < 2 ^ 32) words
     → IsImage (record { profile = profile; slots = slots; returned = returned; frame_bytes = frame; max_steps = steps; words = words })
-fields_allowed p room profile slots returned frame steps words a b c d e fit =
-    let allowed = image_allowed p profile room (subst (AllByRecursion (λ word. word < 2 ^ 32)) e (recursion_from_All (λ word. word < 2 ^ 32) words fit)) in
-    rw (a, b, c, d, e) allowed
+fields_allowed a p room fitting profile slots returned frame steps words one two three four five fit =
+    let allowed = image_allowed a p profile room fitting (subst (AllByRecursion (λ word. word < 2 ^ 32)) five (recursion_from_All (λ word. word < 2 ^ 32) words fit)) in
+    rw (one, two, three, four, five) allowed
 
 -- Room.
-
-result_length : (declared : List FlatVariable) (free : ℕ) (value : Option TermTree) → length (result_code declared free value) ≤ 32 * value_nodes value
-result_length declared free None = omega arith
-result_length declared free (Some value) = simp length-append (omega (arith, expr_length declared free 0 value, store_length 5 (result_offset declared)))
 
 result_height_fits : (value : Option TermTree) → result_height value ≤ value_nodes value
 result_height_fits None = omega arith
@@ -147,11 +159,6 @@ module _ (p : StraightProgram) (typed : IsTypedStraight p) (is : IsBounded p) wh
   frame =
       omega (arith, block_room p.body, result_height_fits p.value, is.controls, is.counted)
 
-  code : length (program_code p) ≤ 32 * p.nodes + 64
-  code =
-      let body = block_length p.declared p.controls (depth_in_all p.body) 0 p.body in
-      omega (arith, length-append {A = Instr}, body, result_length p.declared (program_base p) p.value, is.counted)
-
   pub has_room : HasRoom p
   has_room = record {
     typed = typed;
@@ -162,9 +169,8 @@ module _ (p : StraightProgram) (typed : IsTypedStraight p) (is : IsBounded p) wh
     nodes = is.nodes;
     work = is.work_fits;
     worked = is.worked;
-    counted = let counted = is.counted in omega (arith, counted);
+    counted = is.counted;
     frame = frame;
-    code = code;
   }
 
 -- what the result's expression names is declared
@@ -178,10 +184,24 @@ result_among profile declared (Some word) (Some value) typed e is = subst (IsAmo
 result_among profile declared returned value typed e is = absurd typed
 
 -- the statements have their places
-pub body_placed : (p : StraightProgram) → HasRoom p → HavePlaces p.declared p.controls (depth_in_all p.body) 0 p.body
-body_placed p room =
+pub body_placed : (a : Allocation) (p : StraightProgram) → HasRoom p → HavePlaces p.declared a p.controls (depth_in_all p.body) 0 p.body
+body_placed a p room =
     let d = room.declared in
     let n = room.nodes in
     let c = room.counted in
     let f = room.frame in
-    blocks_placed p.profile p.declared p.controls (depth_in_all p.body) d 0 p.body room.typed.body (omega (arith, d, n, f)) (omega arith) (omega (arith, c, n))
+    blocks_placed p.profile p.declared a p.controls (depth_in_all p.body) d 0 p.body room.typed.body (omega (arith, d, n, f)) (omega arith) (omega (arith, c, n))
+
+-- no homes fit any program
+pub plain_fits : (p : StraightProgram) → IsFitting p plain
+plain_fits p = record {
+  allocated = record {
+    some = omega arith;
+    few = omega arith;
+    allowed = λ x home is. absurd (none-some home is);
+    apart = λ x y home is. absurd (none-some home is);
+    words = λ x d size known is. refl;
+  };
+  within = omega arith;
+  few = omega arith;
+}

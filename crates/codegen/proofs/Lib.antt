@@ -13,4 +13,6 @@ pub mod StatementRuns
 pub mod StatementCode
 pub mod ImageLemmas
 pub mod Standing
+pub mod EntryRuns
 pub mod BodyRuns
+pub mod WordHomes

@@ -3,15 +3,17 @@ pub use Rattle.codegen.specs.Anywhere.{IsFollowedIn, IsLoaded, IsPlaced, RunsBeh
 pub use Rattle.codegen.specs.Bases.{AreBases, IsInside}
 pub use Rattle.codegen.specs.Followed.{IsFollowed, IsGenerated}
 pub use Rattle.codegen.specs.Loaded.{array_in, arrays_in, code_at, loaded_at, numbers_at, results_in, with_argument, with_arguments, with_numbers, word_in}
-pub use Rattle.codegen.specs.private.Emitted.{block_code, bounds_code, clear_code, count_code, depth_in_all, element_store_code, fill_code, height_of_all, height_of_put, index_code, masks_code, merge_code, put_code, put_under_code, statement_code, store_by, test_code, within_code}
+pub use Rattle.codegen.specs.private.Emitted.{block_code, bounds_code, clear_code, count_code, depth_in_all, element_store_code, fill_code, height_of_all, height_of_put, index_code, masks_code, merge_code, put_code, put_under_code, set_code, set_under_code, statement_code, store_by, test_code, value_code, within_code}
 pub use Rattle.codegen.specs.private.Emitted.{depth_in, height_in, height_in_all}
-pub use Rattle.codegen.specs.private.Generated.{image_of, program_base, program_code, program_height, program_slots, result_code, result_height, result_slot, step_limit}
+pub use Rattle.codegen.specs.private.Generated.{body_of, entry_code, home_count, image_of, program_base, program_code, program_height, program_slots, result_code, result_height, result_slot, step_limit}
 pub use Rattle.codegen.specs.private.Jumps.{branch_code, loop_code}
 pub use Rattle.codegen.specs.private.Placed.{AreNear, ArePlacedTerms, HasPlace, HavePlaces}
-pub use Rattle.codegen.specs.private.Room.{HasRoom, frame_of}
-pub use Rattle.expression_code.specs.Layout.{Frame, control_offset, next_offset, result_offset, slots_from, temporaries_offset, variable_offset}
-pub use Rattle.expression_code.specs.Registers.{slots_to}
-pub use Rattle.expression_code.specs.TermCode.{IsAmong, address_code, constant_code, expr_code, height_of, kind_at, load_by, load_code, lower_part, store_code}
+pub use Rattle.codegen.specs.private.Room.{HasRoom, IsFitting, frame_of}
+pub use Rattle.expression_code.specs.Layout.{Frame, control_offset, next_offset, result_offset, slots_from, temporaries_offset, variable_location, variable_offset}
+pub use Rattle.expression_code.specs.Allocation.{Allocation, at_home, home_of, plain, slots_to}
+pub use Rattle.expression_code.specs.TermCode.{IsAmong, address_code, constant_code, height_of, into_code, kind_at, load_by, load_code, lower_part, store_code}
+pub use Rattle.expression_code.specs.declared.locations.Location.{Location}
+pub use Rattle.expression_code.specs.declared.locations.Location.TheVariants.{InRegister, InSlot}
 pub use Rattle.image_fields.specs.Fields.{AreSlots, Fields, IsImage, IsResultSlot, is_length, result_end, slot_end, slots_end, type_in}
 pub use Rattle.image_fields.specs.declared.slot.ResultSlot.{ResultSlot}
 pub use Rattle.image_fields.specs.declared.slot.Slot.{Slot}

@@ -1,15 +1,15 @@
 -- What is shown once a number of a variable, or a control value, is written, and what is shown after a piece of a statement's code.
-use Rattle.std.proofs.Common.{◌≡◌, ℕ, ◌+◌, ◌*◌, ◌%◌, ◌^◌, ◌<◌, ◌≤◌, ◌==◌, Bool, true, false, cond, if◌then◌else◌, nat_lt, List, [], ◌∷◌, length, Some, slice_get, slice_index, refl, sym, ap, ◌∙◌, subst, arith, inl, inr, ◌⊎◌, ◌&&◌, not, ◌++◌}
+use Rattle.std.proofs.Common.{◌≡◌, ℕ, ◌+◌, ◌*◌, ◌%◌, ◌^◌, ◌<◌, ◌≤◌, ◌==◌, ◌≢◌, ◌-◌, Bool, true, false, cond, if◌then◌else◌, nat_lt, List, [], ◌∷◌, length, None, Some, slice_get, slice_index, refl, sym, ap, ◌∙◌, subst, arith, inl, inr, ◌⊎◌, ◌&&◌, not, ◌++◌}
 use Rattle.std.specs.Prelude.{slice_set}
 use Rattle.codegen.proofs.Machine.{variable_offset, control_offset, next_offset, result_offset, ByteMap, number_at}
-use Rattle.codegen.proofs.Machine.{with_number, slots_to, height_of, expr_code, store_code, Instr, Sw}
+use Rattle.codegen.proofs.Machine.{with_number, slots_to, height_of, home_of, into_code, value_code, store_code, Instr, Sw}
 use Rattle.codegen.proofs.Language.{StraightState, with_variable, with_element, with_controls, FlatVariable, numbers_in}
 use Rattle.codegen.proofs.Language.{IsWithinKind, word_as, TermTree, term_nodes, Boolean, WordType, value_in, types_of}
 use Rattle.codegen.proofs.Language.{IsHeld, Fits, Kind, Uint32, bits_of, Values, HasType, Suits, Profile}
 use Rattle.codegen.proofs.Logic.{length-set, get_or-set_same, get_or-set_other, set-get_or, All-set}
-use Rattle.codegen.proofs.Logic.{same_Some, eqb-true, eqb-false}
+use Rattle.codegen.proofs.Logic.{none-some, same_Some, eqb-true, eqb-false, fits_assigned, one_held}
 use Rattle.inline.specs.FlatSize.{words_of}
-use Rattle.codegen.proofs.Logic.{number_at_apart, number_at-with_number, with_number_above, HeldAt, mask_of, mask_fits, bytes_by, bytes_of, place_of, place_within, ends_before_result, apart, apart_from, elements_apart, Setting, base_of, Kept, Ready, Wrote, wrote_kept, wrote_there, number_same, variables_kept, Before, After, Steps, Then, Still, steps_of, expr_runs, held_regs, is_free, put, then_moves, setting, Runs, gives, cheaper, kept_less, kept_by, ready_below, ready_after, kept_then, value_fits}
+use Rattle.codegen.proofs.Logic.{number_at_apart, number_at-with_number, with_number_above, HeldAt, mask_of, mask_fits, bytes_by, bytes_of, place_of, place_within, ends_before_result, apart, apart_from, elements_apart, Setting, base_of, Kept, Ready, Wrote, wrote_kept, wrote_there, number_same, variables_kept, Before, After, Steps, Then, Still, steps_of, into_runs, held_regs, HomesKept, IsHome, ValuedIn, home_beside, home_target, homes_by, homes_moved, homes_then, kept_number, place_before, place_target, variables_home, is_free, put, then_moves, setting, Runs, gives, cheaper, kept_less, kept_by, ready_below, ready_after, kept_then, value_fits}
 use Rattle.rv_machine.specs.Machine as machine
 
 -- the words of the loops that are around are as they were
@@ -50,7 +50,7 @@ pub cut_element : (kind : Kind) (size v : ℕ) → v < 2 ^ bits_of kind → v % 
 cut_element Boolean size v h = omega (arith, h)
 cut_element kind size v h = omega (arith, h)
 
-alone : (l : List ℕ) (v : ℕ) → length l ≡ 1 → slice_set l 0 v ≡ v ∷ []
+pub alone : (l : List ℕ) (v : ℕ) → length l ≡ 1 → slice_set l 0 v ≡ v ∷ []
 alone (x ∷ []) v one = refl
 alone l v one = absurd (omega (arith, one))
 
@@ -67,14 +67,16 @@ module _ (z : Setting) where
   ready_same one other s same_variables same_controls ready = record {
     held = ready.held;
     fits = λ x d is. subst (λ (l : List ℕ). IsHeld d l) (same_variables x) (ready.fits x d is);
-    variables_there = λ x d i is below. ready.variables_there x d i is below ∙ ap (λ (l : List ℕ). Some (slice_index l i)) (same_variables x);
+    homes_there = λ x home d is at. ready.homes_there x home d is at ∙ ap (λ (l : List ℕ). slice_index l 0) (same_variables x);
+    variables_there = λ x d i is away below. ready.variables_there x d i is away below ∙ ap (λ (l : List ℕ). Some (slice_index l i)) (same_variables x);
     controls_there = λ c below. ready.controls_there c below ∙ ap (λ b. Some (mask_of b)) (same_controls c);
   }
 
-  -- a variable's numbers are others, and all that lies outside its words is as it was
-  module _ (x : ℕ) (d : FlatVariable) (known : slice_get z.declared x ≡ Some d) (l : List ℕ) (holds : IsHeld d l) (env : StraightState) (s t : machine.State) (ready : Ready z env s) (held : HeldAt z t)
+  -- the numbers of a variable without a home are others, and all that lies outside its words is as it was
+  module _ (x : ℕ) (d : FlatVariable) (known : slice_get z.declared x ≡ Some d) (away : home_of z.allocation.homes x ≡ None) (l : List ℕ) (holds : IsHeld d l) (env : StraightState) (s t : machine.State) (ready : Ready z env s) (held : HeldAt z t)
       (there : (j : ℕ) → j < numbers_in d.elements → number_at t.bytes (bytes_of d) (z.frame + place_of z.declared x d j) ≡ Some (slice_index l j))
-      (apart : (n o : ℕ) → (o + n ≤ variable_offset z.declared x) ⊎ (variable_offset z.declared x + 4 * words_of d ≤ o) → number_at t.bytes n (z.frame + o) ≡ number_at s.bytes n (z.frame + o)) where
+      (apart : (n o : ℕ) → (o + n ≤ variable_offset z.declared x) ⊎ (variable_offset z.declared x + 4 * words_of d ≤ o) → number_at t.bytes n (z.frame + o) ≡ number_at s.bytes n (z.frame + o))
+      (homes : HomesKept z s t) where
     same_variable : (y : ℕ) (e : FlatVariable) → slice_get z.declared y ≡ Some e → (y == x) ≡ true → d ≡ e
     same_variable y e is q = same_Some d e (sym known ∙ (ap (λ n. slice_get z.declared n) (sym (eqb-true y x q)) ∙ is))
 
@@ -82,14 +84,18 @@ module _ (z : Setting) where
     fits_at y e is true q = subst (λ (f : FlatVariable). IsHeld f l) (same_variable y e is q) holds
     fits_at y e is false q = ready.fits y e is
 
-    there_at : (y : ℕ) (e : FlatVariable) (j : ℕ) → slice_get z.declared y ≡ Some e → j < numbers_in e.elements → (b : Bool) → (y == x) ≡ b
+    home_at : (y home : ℕ) (e : FlatVariable) → slice_get z.declared y ≡ Some e → home_of z.allocation.homes y ≡ Some home → (b : Bool) → (y == x) ≡ b → t.regs home ≡ slice_index (cond b l (env.variables y)) 0
+    home_at y home e is at true q = absurd (none-some home (sym away ∙ (ap (λ n. home_of z.allocation.homes n) (sym (eqb-true y x q)) ∙ at)))
+    home_at y home e is at false q = variables_home z env s t ready homes y home e is at
+
+    there_at : (y : ℕ) (e : FlatVariable) (j : ℕ) → slice_get z.declared y ≡ Some e → home_of z.allocation.homes y ≡ None → j < numbers_in e.elements → (b : Bool) → (y == x) ≡ b
         → number_at t.bytes (bytes_of e) (z.frame + place_of z.declared y e j) ≡ Some (slice_index (cond b l (env.variables y)) j)
-    there_at y e j is more true q =
+    there_at y e j is out more true q =
         let kind = same_variable y e is q in
         ap (λ n. number_at t.bytes (bytes_of e) (z.frame + place_of z.declared n e j)) (eqb-true y x q)
         ∙ subst (λ (f : FlatVariable). number_at t.bytes (bytes_of f) (z.frame + place_of z.declared x f j) ≡ Some (slice_index l j)) kind
         (there j (subst (λ (f : FlatVariable). j < numbers_in f.elements) (sym kind) more))
-    there_at y e j is more false q = apart (bytes_of e) (place_of z.declared y e j) (apart_from z.declared x y d e j known is more q) ∙ ready.variables_there y e j is more
+    there_at y e j is out more false q = apart (bytes_of e) (place_of z.declared y e j) (apart_from z.declared x y d e j known is more q) ∙ ready.variables_there y e j is out more
 
     pub ready_changed : Ready z (with_variable env x l) t
     ready_changed =
@@ -97,11 +103,12 @@ module _ (z : Setting) where
         record {
           held = held;
           fits = λ y e is. fits_at y e is (y == x) refl;
-          variables_there = λ y e j is more. there_at y e j is more (y == x) refl;
+          homes_there = λ y home e is at. home_at y home e is at (y == x) refl;
+          variables_there = λ y e j is out more. there_at y e j is out more (y == x) refl;
           controls_there = λ c among. apart 4 (control_offset z.declared c) (inr (omega (arith, first))) ∙ ready.controls_there c among;
         }
 
-  module _ (x i v w : ℕ) (d : FlatVariable) (known : slice_get z.declared x ≡ Some d) (below : i < numbers_in d.elements) (fits : v < 2 ^ bits_of d.word.kind)
+  module _ (x i v w : ℕ) (d : FlatVariable) (known : slice_get z.declared x ≡ Some d) (away : home_of z.allocation.homes x ≡ None) (below : i < numbers_in d.elements) (fits : v < 2 ^ bits_of d.word.kind)
       (env : StraightState) (s t : machine.State) (ready : Ready z env s) (wrote : Wrote z (bytes_of d) (place_of z.declared x d i) w s t) (cut : w % 256 ^ bytes_of d ≡ v) where
     abbrev old : List ℕ
     old = env.variables x
@@ -116,7 +123,7 @@ module _ (z : Setting) where
         ∙ (here ∙ ap Some (sym (ap (λ k. slice_index (slice_set old i v) k) e ∙ get_or-set_same old i v 0 (omega (arith, long, below)))))
     same_there j more false q =
         other_number (bytes_of d) (place_of z.declared x d i) w (bytes_of d) (place_of z.declared x d j) s t wrote (elements_apart z.declared x d i j q)
-        ∙ (ready.variables_there x d j known more ∙ ap Some (sym (get_or-set_other old i j v 0 (eqb-false j i q))))
+        ∙ (ready.variables_there x d j known away more ∙ ap Some (sym (get_or-set_other old i j v 0 (eqb-false j i q))))
 
     outside : (n o : ℕ) → (o + n ≤ variable_offset z.declared x) ⊎ (variable_offset z.declared x + 4 * words_of d ≤ o) → number_at t.bytes n (z.frame + o) ≡ number_at s.bytes n (z.frame + o)
     outside n o (inl h) = other_number (bytes_of d) (place_of z.declared x d i) w n o s t wrote (inl (omega (arith, h)))
@@ -128,9 +135,9 @@ module _ (z : Setting) where
     pub ready_put : Ready z (with_element env x i v) t
     ready_put =
         let before = ready.fits x d known in
-        ready_changed x d known (slice_set old i v)
+        ready_changed x d known away (slice_set old i v)
         (record { count = length-set old i v ∙ before.count; within = All-set (IsWithinKind d.word.kind) old i v fits before.within })
-        env s t ready wrote.held (λ j more. same_there j more (j == i) refl) outside
+        env s t ready wrote.held (λ j more. same_there j more (j == i) refl) outside wrote.homes
 
   -- a word has one element
   pub ready_alone : (env : StraightState) (x v : ℕ) (t : machine.State) → length (env.variables x) ≡ 1 → Ready z (with_element env x 0 v) t → Ready z (with_variable env x (v ∷ [])) t
@@ -138,14 +145,41 @@ module _ (z : Setting) where
       ready_same (with_element env x 0 v) (with_variable env x (v ∷ [])) t (λ y. ap (λ (l : List ℕ). if y == x then l else env.variables y) (alone (env.variables x) v one)) (λ c. refl) ready
 
   -- a word is set
-  module _ (x v : ℕ) (word : WordType) (mutable : Bool) (known : slice_get z.declared x ≡ Some (word_as word mutable)) (fits : v < 2 ^ bits_of word.kind)
+  module _ (x v : ℕ) (word : WordType) (mutable : Bool) (known : slice_get z.declared x ≡ Some (word_as word mutable)) (away : home_of z.allocation.homes x ≡ None) (fits : v < 2 ^ bits_of word.kind)
       (env : StraightState) (s t : machine.State) (ready : Ready z env s) (wrote : Wrote z 4 (variable_offset z.declared x) v s t) where
     pub ready_set : Ready z (with_variable env x (v ∷ [])) t
     ready_set =
         let small = cut_kind word.kind v fits in
         let first : variable_offset z.declared x ≡ place_of z.declared x (word_as word mutable) 0 = omega arith in
         ready_alone env x v t (ready.fits x (word_as word mutable) known).count
-        (ready_put x 0 v v (word_as word mutable) known (omega arith) fits env s t ready (subst (λ o. Wrote z 4 o v s t) first wrote) (omega (arith, small)))
+        (ready_put x 0 v v (word_as word mutable) known away (omega arith) fits env s t ready (subst (λ o. Wrote z 4 o v s t) first wrote) (omega (arith, small)))
+
+  -- a word is set that has a home
+  module _ (x home v : ℕ) (word : WordType) (mutable : Bool) (known : slice_get z.declared x ≡ Some (word_as word mutable)) (at : home_of z.allocation.homes x ≡ Some home) (fits : v < 2 ^ bits_of word.kind)
+      (env : StraightState) (s t : machine.State) (ready : Ready z env s) (held : HeldAt z t) (kept : Kept z (base_of z) s t) (there : t.regs home ≡ v)
+      (others : (r : ℕ) → IsHome z.allocation.count r → r ≢ home → t.regs r ≡ s.regs r) where
+    own_at : (y other : ℕ) (e : FlatVariable) → slice_get z.declared y ≡ Some e → home_of z.allocation.homes y ≡ Some other → (b : Bool) → (y == x) ≡ b → t.regs other ≡ slice_index (cond b (v ∷ []) (env.variables y)) 0
+    own_at y other e is here true q =
+        let same = same_Some home other (sym at ∙ (ap (λ n. home_of z.allocation.homes n) (sym (eqb-true y x q)) ∙ here)) in
+        ap t.regs (sym same) ∙ there
+    own_at y other e is here false q =
+        others other (z.allocated.allowed y other here)
+        (λ same. eqb-false y x q (z.allocated.apart y x home (here ∙ ap Some same) at))
+        ∙ ready.homes_there y other e is here
+
+    away_at : (y : ℕ) (e : FlatVariable) (j : ℕ) → slice_get z.declared y ≡ Some e → home_of z.allocation.homes y ≡ None → j < numbers_in e.elements → (b : Bool) → (y == x) ≡ b
+        → number_at t.bytes (bytes_of e) (z.frame + place_of z.declared y e j) ≡ Some (slice_index (cond b (v ∷ []) (env.variables y)) j)
+    away_at y e j is out more true q = absurd (none-some home (sym out ∙ (ap (λ n. home_of z.allocation.homes n) (eqb-true y x q) ∙ at)))
+    away_at y e j is out more false q = variables_kept z (base_of z) env s t (omega arith) ready kept y e j is out more
+
+    pub ready_homed : Ready z (with_variable env x (v ∷ [])) t
+    ready_homed = record {
+      held = held;
+      fits = fits_assigned (types_of z.code.profile z.declared) env.variables x (v ∷ []) (word_as word mutable) known (one_held word mutable v fits) ready.fits;
+      homes_there = λ y other e is here. own_at y other e is here (y == x) refl;
+      variables_there = λ y e j is out more. away_at y e j is out more (y == x) refl;
+      controls_there = λ c among. kept_number z (base_of z) s t kept 4 (control_offset z.declared c) (omega (arith, among)) ∙ ready.controls_there c among;
+    }
 
   -- a variable that is set to what it holds
   same_again : (x i : ℕ) (env : StraightState) (y : ℕ) (b : Bool) → (y == x) ≡ b → cond b (slice_set (env.variables x) i (slice_index (env.variables x) i)) (env.variables y) ≡ env.variables y
@@ -180,6 +214,7 @@ module _ (z : Setting) where
     ready_taken = record {
       held = two.held;
       fits = ready.fits;
+      homes_there = variables_home z env s u ready (homes_then z s t u one.homes two.homes);
       variables_there =
           variables_kept z (control_offset z.declared c) env s u (omega arith) ready
           (kept_then z (control_offset z.declared c) s t u (wrote_kept z 4 (control_offset z.declared c) (mask_of f) s t one)
@@ -187,16 +222,34 @@ module _ (z : Setting) where
       controls_there = λ y below. control_there y below (y == c) (y == c + 1) refl refl;
     }
 
+-- each variable, with a home or without, has its values in its slot, and each control value too
+pub record Laid (z : Setting) (env : StraightState) (s : machine.State) : Type 0 where
+  pub held : HeldAt z s
+  pub fits : Fits (types_of z.code.profile z.declared) env.variables
+  pub slots_there : (x : ℕ) (d : FlatVariable) (i : ℕ) → slice_get z.declared x ≡ Some d → i < numbers_in d.elements
+      → number_at s.bytes (bytes_of d) (z.frame + place_of z.declared x d i) ≡ Some (slice_index (env.variables x) i)
+  pub controls_there : (c : ℕ) → c < z.controls → number_at s.bytes 4 (z.frame + control_offset z.declared c) ≡ Some (mask_of (env.controls c))
+
+-- where the bytes before the temporaries are the same, whatever the registers hold
+pub laid_same : (z : Setting) (free : ℕ) → next_offset z.declared z.controls 0 ≤ free → (env : StraightState) (s t : machine.State) → Laid z env s → HeldAt z t → Kept z free s t → Laid z env t
+laid_same z free above env s t laid held kept = record {
+  held = held;
+  fits = laid.fits;
+  slots_there = λ x d i is below. kept_number z free s t kept (bytes_of d) (place_of z.declared x d i) (omega (arith, place_before z x d i is below, above)) ∙ laid.slots_there x d i is below;
+  controls_there = λ c below. kept_number z free s t kept 4 (control_offset z.declared c) (omega (arith, below, above)) ∙ laid.controls_there c below;
+}
+
 -- the state that is made of the one before is shown, and the words of the loops around are as they were
 pub record Shown (z : Setting) (depth : ℕ) (change : StraightState → StraightState) (env : StraightState) (s t : machine.State) : Type 0 where
   pub ready : Ready z (change env) t
   pub hidden : Hidden z depth s t
 
--- the value's register has what an expression means, and only slots of temporaries are written
+-- the value's register has what an expression means, and only temporaries are written
 pub record Evaluated (z : Setting) (e : TermTree) (env : StraightState) (s t : machine.State) : Type 0 where
   pub held : HeldAt z t
   pub there : t.regs 5 ≡ value_in env.variables e
   pub kept : Kept z (base_of z) s t
+  pub homes : HomesKept z s t
 
 -- a value that suits a type is within the type's kind
 pub suits_fits : (profile : Profile) (declared : List FlatVariable) (word : WordType) (e : TermTree) (m : Values) → Fits (types_of profile declared) m → Suits (types_of profile declared) word e → value_in m e < 2 ^ bits_of word.kind
@@ -205,32 +258,48 @@ suits_fits profile declared word e m fits suits = subst (λ (kind : Kind). value
 module _ (z : Setting) where
   -- The code of an expression that no temporary lives beside.
 
-  pub first_runs : {e : TermTree} {word : WordType} → HasType (types_of z.code.profile z.declared) e word → base_of z + 4 * slots_to (height_of e) ≤ z.size → Runs z (16 * term_nodes e) (steps_of e) (expr_code z.declared (base_of z) 0 e) (Ready z) (Evaluated z e)
+  pub first_runs : {e : TermTree} {word : WordType} → HasType (types_of z.code.profile z.declared) e word → base_of z + 4 * slots_to z.allocation.count (height_of e) ≤ z.size → Runs z (16 * term_nodes e) (steps_of e) (value_code z.declared z.allocation (base_of z) e) (Ready z) (Evaluated z e)
   first_runs has room =
-      gives {P = Ready z}
-      (λ env s t fine ready done. record { held = done.held; there = done.there; kept = kept_less z (base_of z) (base_of z + 4 * 0) s t (omega arith) done.kept })
-      (expr_runs z (base_of z) (omega arith) (omega arith) has 0 (omega (arith, room)))
+      let some = z.allocated.some in
+      let count = z.allocation.count in
+      cheaper (omega arith)
+      (gives {P = Ready z}
+      (λ env s t fine ready done. record {
+        held = done.held;
+        there = done.there;
+        kept = kept_less z (base_of z) (base_of z + 4 * (0 - count)) s t (omega arith) done.kept;
+        homes = λ r home. done.lower r (home_beside count 0 5 r home.0 home.1 (λ e. omega (arith, some, home.0, e)));
+      })
+      (into_runs z (base_of z) (omega arith) (omega arith) has 0 5 (place_target count 0 z.allocated.few (omega (arith, some))) (omega (arith, room))))
+
+  -- An expression into a home.
+  pub homed_runs : {e : TermTree} {word : WordType} (home : ℕ) → IsHome z.allocation.count home → HasType (types_of z.code.profile z.declared) e word → base_of z + 4 * slots_to z.allocation.count (height_of e) ≤ z.size
+      → Runs z (16 * term_nodes e) (steps_of e) (into_code z.declared z.allocation (base_of z) home 0 e) (Ready z) (ValuedIn z e (base_of z) home 0)
+  homed_runs home is has room =
+      cheaper (omega arith)
+      (into_runs z (base_of z) (omega arith) (omega arith) has 0 home (home_target z.allocation.count 0 home z.allocated.few is) (omega (arith, room)))
 
   -- the state is shown after an expression as before it
   pub ready_valued : (e : TermTree) (env : StraightState) (s t : machine.State) → Ready z env s → Evaluated z e env s t → Ready z env t
-  ready_valued e env s t ready valued = ready_after z env s t ready valued.held valued.kept
+  ready_valued e env s t ready valued = ready_after z env s t ready valued.held valued.kept valued.homes
 
   -- as long as nothing is written
-  pub ready_with : (env : StraightState) (s t : machine.State) → Ready z env s → HeldAt z t → t.bytes ≡ s.bytes → Ready z env t
-  ready_with env s t ready held same = ready_after z env s t ready held (kept_by z (base_of z) s t same)
+  pub ready_with : (env : StraightState) (s t : machine.State) → Ready z env s → HeldAt z t → t.bytes ≡ s.bytes → HomesKept z s t → Ready z env t
+  ready_with env s t ready held same homes = ready_after z env s t ready held (kept_by z (base_of z) s t same) homes
 
   pub ready_still : (env : StraightState) (s t : machine.State) → Ready z env s → Still s t → Ready z env t
-  ready_still env s t ready still = ready_with env s t ready (held_regs z s t (ap (λ (regs : ℕ → ℕ). regs 2) still.regs) still.bytes ready.held) still.bytes
+  ready_still env s t ready still = ready_with env s t ready (held_regs z s t (ap (λ (regs : ℕ → ℕ). regs 2) still.regs) still.bytes ready.held) still.bytes (homes_by z s t still.regs)
 
   -- or only a number that lies behind the control values
   pub ready_behind : (n o w : ℕ) → next_offset z.declared z.controls 0 ≤ o → (env : StraightState) (s t : machine.State) → Ready z env s → Wrote z n o w s t → Ready z env t
-  ready_behind n o w above env s t ready wrote = ready_below z o above env s t ready wrote.held (wrote_kept z n o w s t wrote)
+  ready_behind n o w above env s t ready wrote = ready_below z o above env s t ready wrote.held (wrote_kept z n o w s t wrote) wrote.homes
 
   -- or only the result's slot
   pub ready_result : (env : StraightState) (s t : machine.State) (w : ℕ) → Ready z env s → Wrote z 4 (result_offset z.declared) w s t → Ready z env t
   ready_result env s t w ready wrote = record {
     held = wrote.held;
     fits = ready.fits;
+    homes_there = variables_home z env s t ready wrote.homes;
     variables_there = variables_kept z (result_offset z.declared) env s t (omega arith) ready (wrote_kept z 4 (result_offset z.declared) w s t wrote);
     controls_there = λ c below. other_number z 4 (result_offset z.declared) w 4 (control_offset z.declared c) s t wrote (inr (omega arith)) ∙ ready.controls_there c below;
   }
@@ -256,13 +325,14 @@ module _ (z : Setting) where
         second = record {
           held = done.second.held;
           written = done.second.bytes ∙ ap (λ w. with_number done.middle.bytes 4 (z.frame + o) w) (has env s done.middle given done.first).1;
+          homes = homes_moved z (put Sw r o ∷ []) env done.middle t refl done.second;
         };
       })
       (then_moves z (put Sw r o ∷ []) (simp ok) ((even, inside), tt) runs (λ env s t given done. (has env s t given done).0)))
 
   -- an expression's value
-  pub assigned : {e : TermTree} {word : WordType} (o : ℕ) → HasType (types_of z.code.profile z.declared) e word → base_of z + 4 * slots_to (height_of e) ≤ z.size → o % 4 ≡ 0 → o + 4 ≤ z.size
-      → Runs z (16 * term_nodes e + 3) (steps_of e) (expr_code z.declared (base_of z) 0 e ++ store_code 5 o) (Ready z) (Then (setting z) (Evaluated z e) (λ env s t. Wrote z 4 o (value_in env.variables e) s t))
+  pub assigned : {e : TermTree} {word : WordType} (o : ℕ) → HasType (types_of z.code.profile z.declared) e word → base_of z + 4 * slots_to z.allocation.count (height_of e) ≤ z.size → o % 4 ≡ 0 → o + 4 ≤ z.size
+      → Runs z (16 * term_nodes e + 3) (steps_of e) (value_code z.declared z.allocation (base_of z) e ++ store_code 5 o) (Ready z) (Then (setting z) (Evaluated z e) (λ env s t. Wrote z 4 o (value_in env.variables e) s t))
   assigned {e = e} o has room even inside =
       stored 5 o (λ env. value_in env.variables e) refl even inside (first_runs has room) (λ env s t ready valued. (valued.held, valued.there))
 

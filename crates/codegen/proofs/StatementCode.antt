@@ -7,8 +7,8 @@ use Rattle.codegen.proofs.Language.{branch, repeats, straight_tree, straight_row
 use Rattle.codegen.proofs.Language.{term_tree}
 use Rattle.branch_removal.specs.declared.straight.StraightStatement as code
 use Rattle.codegen.proofs.Machine.{bounds_code, test_code, count_code, statement_code, block_code, branch_code}
-use Rattle.codegen.proofs.Machine.{loop_code, variable_offset, next_offset, temporaries_offset, HasPlace, HavePlaces}
-use Rattle.codegen.proofs.Machine.{expr_code, Instr}
+use Rattle.codegen.proofs.Machine.{loop_code, variable_location, next_offset, temporaries_offset, HasPlace, HavePlaces}
+use Rattle.codegen.proofs.Machine.{Allocation, value_code, Instr}
 
 rows : (n : _) (row : code.Row_of-StraightStatement n) → straight_row row ≡ straight_block (code.items-the_row-StraightStatement n row)
 rows n code.end_of-StraightStatement = refl
@@ -47,20 +47,20 @@ module _ {statement : StraightStatement} {condition : Bor Term} (accepted otherw
   pub otherwise_smaller : 2 * block_nodes (straight_block others) + 1 < 2 * statement_nodes (straight_tree statement)
   otherwise_smaller = omega (arith, ap statement_nodes tree_of_branch)
 
-  module _ (declared : List FlatVariable) (controls depths depth : ℕ) {xs ys : List Instr}
-      (x : xs ≡ block_code declared controls depths depth (straight_block ones)) (y : ys ≡ block_code declared controls depths depth (straight_block others)) where
-    pub branch_near : HasPlace declared controls depths depth (straight_tree statement) → 2 * (length xs + length ys) + 8 < 2 ^ 19
+  module _ (declared : List FlatVariable) (allocation : Allocation) (controls depths depth : ℕ) {xs ys : List Instr}
+      (x : xs ≡ block_code declared allocation controls depths depth (straight_block ones)) (y : ys ≡ block_code declared allocation controls depths depth (straight_block others)) where
+    pub branch_near : HasPlace declared allocation controls depths depth (straight_tree statement) → 2 * (length xs + length ys) + 8 < 2 ^ 19
     branch_near placed =
-        let near = (subst (HasPlace declared controls depths depth) tree_of_branch placed).3 in
+        let near = (subst (HasPlace declared allocation controls depths depth) tree_of_branch placed).3 in
         omega (arith, near, ap (λ (l : List Instr). length l) x, ap (λ (l : List Instr). length l) y)
 
     pub branch_made : (old middle new : List Instr)
-        → middle ≡ old ++ expr_code declared (temporaries_offset declared controls depths) 0 (term_tree condition.now) → new ≡ middle ++ branch_code xs ys
-        → new ≡ old ++ statement_code declared controls depths depth (straight_tree statement)
+        → middle ≡ old ++ value_code declared allocation (temporaries_offset declared controls depths) (term_tree condition.now) → new ≡ middle ++ branch_code xs ys
+        → new ≡ old ++ statement_code declared allocation controls depths depth (straight_tree statement)
     branch_made old middle new first' last' =
         last' ∙ (ap₂ (λ (front back : List Instr). front ++ back) first' (ap₂ branch_code x y)
-        ∙ (append_assoc old (expr_code declared (temporaries_offset declared controls depths) 0 (term_tree condition.now)) (branch_code (block_code declared controls depths depth (straight_block ones)) (block_code declared controls depths depth (straight_block others)))
-        ∙ ap (λ (s : StraightTree). old ++ statement_code declared controls depths depth s) (sym tree_of_branch)))
+        ∙ (append_assoc old (value_code declared allocation (temporaries_offset declared controls depths) (term_tree condition.now)) (branch_code (block_code declared allocation controls depths depth (straight_block ones)) (block_code declared allocation controls depths depth (straight_block others)))
+        ∙ ap (λ (s : StraightTree). old ++ statement_code declared allocation controls depths depth s) (sym tree_of_branch)))
 
 module _ {statement : StraightStatement} {x : ℕ} {low high : Bor Term} (body : Vec StraightStatement Global) (is : statement ≡ code.Repeat x low high body)
     {inner : List StraightStatement} (items : inner ≡ body.items) where
@@ -70,23 +70,23 @@ module _ {statement : StraightStatement} {x : ℕ} {low high : Bor Term} (body :
   pub body_smaller : 2 * block_nodes (straight_block inner) + 1 < 2 * statement_nodes (straight_tree statement)
   body_smaller = omega (arith, ap statement_nodes tree_of_loop)
 
-  module _ (declared : List FlatVariable) (controls depths depth : ℕ) {xs ys : List Instr}
+  module _ (declared : List FlatVariable) (allocation : Allocation) (controls depths depth : ℕ) {xs ys : List Instr}
       (test : xs ≡ test_code (next_offset declared controls depth))
-      (turn : ys ≡ count_code (next_offset declared controls depth) (variable_offset declared x) ++ block_code declared controls depths (depth + 1) (straight_block inner)) where
-    pub loop_near : HasPlace declared controls depths depth (straight_tree statement) → 2 * (length xs + length ys) + 8 < 2 ^ 19
+      (turn : ys ≡ count_code (next_offset declared controls depth) (variable_location declared allocation x) ++ block_code declared allocation controls depths (depth + 1) (straight_block inner)) where
+    pub loop_near : HasPlace declared allocation controls depths depth (straight_tree statement) → 2 * (length xs + length ys) + 8 < 2 ^ 19
     loop_near placed =
-        let near = (subst (HasPlace declared controls depths depth) tree_of_loop placed).5 in
+        let near = (subst (HasPlace declared allocation controls depths depth) tree_of_loop placed).5 in
         omega (arith, near, ap (λ (l : List Instr). length l) test, ap (λ (l : List Instr). length l) turn)
 
     pub loop_made : (old middle new : List Instr)
-        → middle ≡ old ++ bounds_code declared (next_offset declared controls depth) (temporaries_offset declared controls depths) (term_tree low.now) (term_tree high.now) → new ≡ middle ++ loop_code xs ys
-        → new ≡ old ++ statement_code declared controls depths depth (straight_tree statement)
+        → middle ≡ old ++ bounds_code declared allocation (next_offset declared controls depth) (temporaries_offset declared controls depths) (term_tree low.now) (term_tree high.now) → new ≡ middle ++ loop_code xs ys
+        → new ≡ old ++ statement_code declared allocation controls depths depth (straight_tree statement)
     loop_made old middle new first' last' =
         let next = next_offset declared controls depth in
-        let turn_code = count_code next (variable_offset declared x) ++ block_code declared controls depths (depth + 1) (straight_block inner) in
+        let turn_code = count_code next (variable_location declared allocation x) ++ block_code declared allocation controls depths (depth + 1) (straight_block inner) in
         last' ∙ (ap₂ (λ (front back : List Instr). front ++ back) first' (ap₂ loop_code test turn)
-        ∙ (append_assoc old (bounds_code declared next (temporaries_offset declared controls depths) (term_tree low.now) (term_tree high.now)) (loop_code (test_code next) turn_code)
-        ∙ ap (λ (s : StraightTree). old ++ statement_code declared controls depths depth s) (sym tree_of_loop)))
+        ∙ (append_assoc old (bounds_code declared allocation next (temporaries_offset declared controls depths) (term_tree low.now) (term_tree high.now)) (loop_code (test_code next) turn_code)
+        ∙ ap (λ (s : StraightTree). old ++ statement_code declared allocation controls depths depth s) (sym tree_of_loop)))
 
 -- Lists of statements.
 
@@ -104,10 +104,10 @@ pub smaller_here : (statements : List StraightStatement) (i : ℕ) (item : Strai
     → 2 * statement_nodes (straight_tree item) < 2 * block_nodes (straight_block statements) + 1
 smaller_here statements i item here = omega (arith, ap (λ xs. block_nodes (straight_block xs)) here, nodes_behind statements i)
 
-pub placed_here : (declared : List FlatVariable) (controls depths depth : ℕ) (statements : List StraightStatement) (i : ℕ) (item : StraightStatement) → drop i statements ≡ item ∷ drop (i + 1) statements
-    → HavePlaces declared controls depths depth (straight_block (drop i statements)) → HasPlace declared controls depths depth (straight_tree item)
-placed_here declared controls depths depth statements i item here placed =
-    (subst (λ xs. HavePlaces declared controls depths depth (straight_block xs)) here placed).0
+pub placed_here : (declared : List FlatVariable) (allocation : Allocation) (controls depths depth : ℕ) (statements : List StraightStatement) (i : ℕ) (item : StraightStatement) → drop i statements ≡ item ∷ drop (i + 1) statements
+    → HavePlaces declared allocation controls depths depth (straight_block (drop i statements)) → HasPlace declared allocation controls depths depth (straight_tree item)
+placed_here declared allocation controls depths depth statements i item here placed =
+    (subst (λ xs. HavePlaces declared allocation controls depths depth (straight_block xs)) here placed).0
 
 pub greatest_here : (measure : StraightTree → ℕ) (measure_all : StraightBlock → ℕ) → ((s : StraightTree) (rest : StraightBlock) → measure_all (first s rest) ≡ max (measure s) (measure_all rest))
     → (statements : List StraightStatement) (i : ℕ) (item : StraightStatement) → drop i statements ≡ item ∷ drop (i + 1) statements

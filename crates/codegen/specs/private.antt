@@ -5,3 +5,4 @@ pub mod Emitted
 pub mod Placed
 pub mod Generated
 pub mod Room
+pub mod Homes

@@ -15,7 +15,7 @@ ghost use Rattle.inline.specs.Flat.{term_tree};
 use crate::jumping::repeat;
 use crate::masking;
 use expression_code::emit::{self, address, load_by};
-use expression_code::{Layout, expression};
+use expression_code::{Layout, into};
 use inline::Term;
 use language::Kind;
 use rv_code::{
@@ -90,39 +90,39 @@ pub fn fill(
     offset: u32,
     values: &[Term],
 ) -> Result<(), AllocError>
-    requires placed { ArePlacedTerms (length layout.now.declared) (temporaries_offset layout.now.declared layout.now.controls layout.now.depths) (map term_tree values.now) }
+    requires placed { ArePlacedTerms (length layout.now.declared) layout.now.allocation.count (temporaries_offset layout.now.declared layout.now.controls layout.now.depths) (map term_tree values.now) }
     requires room { offset + 4 * length values.now ≤ 262144 }
-    ensures { OnOk result (code.new.items ≡ code.old.items ++ fill_code layout.now.declared (temporaries_offset layout.now.declared layout.now.controls layout.now.depths) kind offset (map term_tree values.now)) }
+    ensures { OnOk result (code.new.items ≡ code.old.items ++ fill_code layout.now.declared layout.now.allocation (temporaries_offset layout.now.declared layout.now.controls layout.now.depths) kind offset (map term_tree values.now)) }
 {
     let mut place = offset;
     for value in values {
-        expression(code, layout, 0, value)?;
+        into(code, layout, Reg::X5, 0, value)?;
         store_element(code, kind, place)?;
         place += u32::from(kind.element_bytes());
     }
     Ok(())
 }
 
-/// An index and a value, the first two temporaries.
+/// An index and a value, into the registers of the first two temporaries.
 pub fn index(
     code: &mut Vec<Instr>,
     layout: &Layout<'_>,
     index: &Term,
     value: &Term,
 ) -> Result<(), AllocError>
-    requires index { IsPlaced (length layout.now.declared) (temporaries_offset layout.now.declared layout.now.controls layout.now.depths) 0 (term_tree index.now) }
-    requires value { IsPlaced (length layout.now.declared) (temporaries_offset layout.now.declared layout.now.controls layout.now.depths) 1 (term_tree value.now) }
-    ensures { OnOk result (code.new.items ≡ code.old.items ++ index_code layout.now.declared (temporaries_offset layout.now.declared layout.now.controls layout.now.depths) (term_tree index.now) (term_tree value.now)) }
+    requires index { IsPlaced (length layout.now.declared) layout.now.allocation.count (temporaries_offset layout.now.declared layout.now.controls layout.now.depths) 0 (term_tree index.now) }
+    requires value { IsPlaced (length layout.now.declared) layout.now.allocation.count (temporaries_offset layout.now.declared layout.now.controls layout.now.depths) 1 (term_tree value.now) }
+    ensures { OnOk result (code.new.items ≡ code.old.items ++ index_code layout.now.declared layout.now.allocation (temporaries_offset layout.now.declared layout.now.controls layout.now.depths) (term_tree index.now) (term_tree value.now)) }
 {
-    expression(code, layout, 0, index)?;
-    expression(code, layout, 1, value)
+    into(code, layout, Reg::X5, 0, index)?;
+    into(code, layout, Reg::X6, 1, value)
 }
 
 /// The second temporary into the element at the index that is the first, of an array at an offset.
 pub fn put(code: &mut Vec<Instr>, kind: Kind, offset: u32) -> Result<(), AllocError>
     ensures { OnOk result (code.new.items ≡ code.old.items ++ put_code kind offset) }
 {
-    address(code, Reg::X5, kind, offset)?;
+    address(code, Reg::X5, Reg::X5, kind, offset)?;
     let low = emit::lower_part(offset);
     code.push(Instr::Store(store_by(kind), Reg::X6, Reg::X5, low))?;
     Ok(())
@@ -137,11 +137,11 @@ pub fn put_under(
 ) -> Result<(), AllocError>
     ensures { OnOk result (code.new.items ≡ code.old.items ++ put_under_code control kind offset) }
 {
-    address(code, Reg::X5, kind, offset)?;
+    address(code, Reg::X5, Reg::X5, kind, offset)?;
     let low = emit::lower_part(offset);
     code.push(Instr::Load(load_by(kind), Reg::X7, Reg::X5, low))?;
     emit::load(code, Reg::X29, control)?;
-    masking::merge(code, Reg::X6, Reg::X7, Reg::X29)?;
+    masking::merge(code, Reg::X6, Reg::X6, Reg::X7, Reg::X29)?;
     code.push(Instr::Store(store_by(kind), Reg::X6, Reg::X5, low))?;
     Ok(())
 }

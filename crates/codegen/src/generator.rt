@@ -1,9 +1,10 @@
-ghost use Rattle.std.specs.Prelude.{◌≡◌, ◌+◌, ◌*◌, ◌<◌, ◌≤◌, ◌^◌, map, All, IfOk, IfErr};
+ghost use Rattle.std.specs.Prelude.{◌≡◌, ◌++◌, ◌+◌, ◌*◌, ◌<◌, ◌≤◌, ◌^◌, length, map, All, OnOk, IfOk, IfErr};
 ghost use Rattle.std.specs.Option.{option_map};
-ghost use Rattle.codegen.specs.Exact.{fields_of};
+ghost use Rattle.codegen.specs.Exact.{fields_of, optimised_fields_of};
 ghost use Rattle.codegen.specs.Followed.{IsGenerated};
-ghost use Rattle.codegen.specs.private.Generated.{program_code, program_slots, result_slot, step_limit, image_of};
-ghost use Rattle.codegen.specs.private.Room.{HasRoom, frame_of};
+ghost use Rattle.codegen.specs.private.Generated.{entry_code, program_code, program_slots, result_slot, step_limit, image_of};
+ghost use Rattle.codegen.specs.private.Homes.{gets_home, home_after, home_at, homes_from};
+ghost use Rattle.codegen.specs.private.Room.{HasRoom, IsFitting, frame_of};
 ghost use Rattle.image_fields.specs.Fields.{IsImage};
 ghost use Rattle.intervals.specs.Limits.{most_work};
 ghost use Rattle.language.specs.WantOfMemory.{IsWantOfMemory};
@@ -14,12 +15,70 @@ use crate::heights::{greatest_depth, greatest_height};
 use crate::statements::statements;
 use branch_removal::Straight;
 use expression_code::{
-    Layout, REGISTER_COUNT, WORD_BYTES, emit, expression, height, offsets, slots,
+    Allocation, Layout, REGISTER_COUNT, WORD_BYTES, emit, height, into, offsets, slots,
 };
 use image_fields::{ImageFields, ResultSlot};
+use inline::FlatVariable;
 use language::Refusal;
 use rv_code::{Instr, Reg, encode};
 use std::alloc::{AllocError, Global};
+
+/// How many temporaries have registers where words live in registers.
+const OPTIMISED_COUNT: u32 = 8;
+
+/// The first register that is a home, behind those of temporaries.
+const FIRST_HOME: u32 = 13;
+
+/// The register behind the homes, which is for addresses.
+const HOMES_END: u32 = 28;
+
+/// Whether a variable gets a home, where this register is the next one.
+fn gets_home(variable: &FlatVariable, next: u32) -> bool
+    ensures { result ≡ gets_home next variable.now }
+{
+    match variable.elements {
+        None => next < HOMES_END,
+        Some(_) => false,
+    }
+}
+
+/// The home of a variable, where it gets this register if it gets one.
+fn home_at(variable: &FlatVariable, next: u32) -> Option<Reg>
+    requires { next ≤ 28 }
+    ensures { result ≡ home_at next variable.now }
+{
+    if gets_home(variable, next) {
+        Some(Reg::from_bits(next))
+    } else {
+        None
+    }
+}
+
+/// The next register behind it.
+fn home_after(variable: &FlatVariable, next: u32) -> u32
+    requires { next ≤ 28 }
+    ensures value { result ≡ home_after next variable.now }
+    ensures few { result ≤ 28 }
+{
+    if gets_home(variable, next) {
+        next + 1
+    } else {
+        next
+    }
+}
+
+/// The homes of variables, by their numbers: the first that are words get one each, as long as there are any.
+fn word_homes(alloc: Global, declared: &[FlatVariable]) -> Result<Vec<Option<Reg>>, AllocError>
+    ensures { IfOk result (λ homes. homes.items ≡ homes_from 13 declared.now) }
+{
+    let mut homes = Vec::with_capacity(alloc, declared.len())?;
+    let mut next = FIRST_HOME;
+    for variable in declared {
+        homes.push(home_at(variable, next))?;
+        next = home_after(variable, next);
+    }
+    Ok(homes)
+}
 
 /// The words of instructions.
 fn words(alloc: Global, code: &[Instr]) -> Result<Vec<u32>, AllocError>
@@ -33,6 +92,19 @@ fn words(alloc: Global, code: &[Instr]) -> Result<Vec<u32>, AllocError>
     Ok(words)
 }
 
+/// The words of variables that have homes, from their slots into these.
+fn enter(code: &mut Vec<Instr>, layout: &Layout<'_>) -> Result<(), AllocError>
+    requires { length layout.now.allocation.homes ≤ length layout.now.declared }
+    ensures { OnOk result (code.new.items ≡ code.old.items ++ entry_code layout.now.declared 0 layout.now.allocation.homes) }
+{
+    for (number, home) in layout.homes().iter().enumerate() {
+        if let Some(register) = home {
+            emit::load(code, *register, layout.offset_at(number))?;
+        }
+    }
+    Ok(())
+}
+
 /// The instructions of a program, in its layout.
 fn program_code(
     alloc: Global,
@@ -40,13 +112,15 @@ fn program_code(
     layout: &Layout<'_>,
 ) -> Result<Vec<Instr>, AllocError>
     requires room { HasRoom straight.now }
-    requires frame { layout.now ≡ frame_of straight.now }
-    ensures { IfOk result (λ code. code.items ≡ program_code straight.now) }
+    requires fitting { IsFitting straight.now layout.now.allocation }
+    requires frame { layout.now ≡ frame_of layout.now.allocation straight.now }
+    ensures { IfOk result (λ code. code.items ≡ program_code layout.now.allocation straight.now) }
 {
     let mut code = Vec::new(alloc);
+    enter(&mut code, layout)?;
     statements(alloc, &mut code, layout, 0, straight.body())?;
     if let Some(value) = straight.value() {
-        expression(&mut code, layout, 0, value)?;
+        into(&mut code, layout, Reg::X5, 0, value)?;
         emit::store(&mut code, Reg::X5, layout.result())?;
     }
     code.push(Instr::Ecall)?;
@@ -54,21 +128,21 @@ fn program_code(
 }
 
 /// How many slots the temporaries of a program take.
-fn temporaries(straight: &Straight<'_>) -> u32
+fn temporaries(straight: &Straight<'_>, layout: &Layout<'_>) -> u32
     requires { HasRoom straight.now }
-    ensures { result ≡ program_slots straight.now }
+    ensures { result ≡ program_slots layout.now.allocation straight.now }
 {
     let result = match straight.value() {
         Some(value) => height(value),
         None => 0,
     };
     let height = greatest_height(straight.body()).max(result);
-    (height + 1).saturating_sub(REGISTER_COUNT)
+    (height + 1).saturating_sub(layout.register_count())
 }
 
 /// The slot of the result, where there is one.
 fn result_slot(straight: &Straight<'_>, layout: &Layout<'_>) -> Option<ResultSlot>
-    requires { layout.now ≡ frame_of straight.now }
+    requires { layout.now ≡ frame_of layout.now.allocation straight.now }
     ensures { result ≡ option_map (result_slot straight.now.declared) straight.now.returned }
 {
     let word = straight.returned()?;
@@ -94,18 +168,45 @@ fn listed(
     layout: &Layout<'_>,
 ) -> Result<ImageFields, AllocError>
     requires room { HasRoom straight.now }
-    requires frame { layout.now ≡ frame_of straight.now }
-    ensures exact { IfOk result (λ fields. fields ≡ image_of straight.now) }
+    requires fitting { IsFitting straight.now layout.now.allocation }
+    requires frame { layout.now ≡ frame_of layout.now.allocation straight.now }
+    ensures exact { IfOk result (λ fields. fields ≡ image_of layout.now.allocation straight.now) }
     ensures allowed { IfOk result IsImage }
 {
     let returned = result_slot(straight, layout);
     let code = program_code(alloc, straight, layout)?;
     let slots = slots(alloc, straight.parameters())?;
     let words = words(alloc, code.as_slice())?;
-    let frame_bytes = layout.temporaries() + WORD_BYTES * temporaries(straight);
+    let frame_bytes = layout.temporaries() + WORD_BYTES * temporaries(straight, layout);
     let max_steps = step_limit(straight.work());
     let profile = straight.profile();
     Ok(ImageFields::new(profile, slots, returned, frame_bytes, max_steps, words))
+}
+
+/// The code of a straight program, with registers given out so.
+fn generate_with(
+    alloc: Global,
+    straight: &Straight<'_>,
+    allocation: Allocation<'_>,
+) -> Result<Code, Refusal>
+    requires { IsFitting straight.now allocation }
+    ensures generated { IfOk result (IsGenerated straight.now) }
+    ensures exact { IfOk result (λ code. code ≡ image_of allocation.entry straight.now) }
+    ensures allowed { IfOk result IsImage }
+    ensures memory { IfErr result (λ refusal. IsWantOfMemory refusal.rule refusal.place) }
+{
+    let depths = greatest_depth(straight.body());
+    let declared = straight.declared();
+    let offsets = offsets(alloc, declared)?;
+    let layout = Layout::new(
+        declared,
+        offsets.as_slice(),
+        straight.controls(),
+        depths,
+        allocation,
+    );
+    let fields = listed(alloc, straight, &layout)?;
+    Ok(Code::new(fields))
 }
 
 /// The code of a straight program. The machine, running it, follows the program: the outcome is that of the program, and
@@ -117,10 +218,25 @@ pub fn generate(alloc: Global, straight: &Straight<'_>) -> Result<Code, Refusal>
     ensures allowed { IfOk result IsImage }
     ensures memory { IfErr result (λ refusal. IsWantOfMemory refusal.rule refusal.place) }
 {
-    let depths = greatest_depth(straight.body());
-    let declared = straight.declared();
-    let offsets = offsets(alloc, declared)?;
-    let layout = Layout::new(declared, offsets.as_slice(), straight.controls(), depths);
-    let fields = listed(alloc, straight, &layout)?;
-    Ok(Code::new(fields))
+    let homes = Vec::new(alloc);
+    generate_with(
+        alloc,
+        straight,
+        Allocation::new(REGISTER_COUNT, homes.as_slice()),
+    )
+}
+
+/// The same with words in registers: the first variables that are words live in one each, for the whole run.
+pub fn generate_optimised(alloc: Global, straight: &Straight<'_>) -> Result<Code, Refusal>
+    ensures generated { IfOk result (IsGenerated straight.now) }
+    ensures exact { IfOk result (λ code. code ≡ optimised_fields_of straight.now) }
+    ensures allowed { IfOk result IsImage }
+    ensures memory { IfErr result (λ refusal. IsWantOfMemory refusal.rule refusal.place) }
+{
+    let homes = word_homes(alloc, straight.declared())?;
+    generate_with(
+        alloc,
+        straight,
+        Allocation::new(OPTIMISED_COUNT, homes.as_slice()),
+    )
 }

@@ -12,4 +12,4 @@ mod masking;
 mod statements;
 
 pub use code::Code;
-pub use generator::generate;
+pub use generator::{generate, generate_optimised};

@@ -27,12 +27,18 @@ pub fn join(code: &mut Vec<Instr>, offset: u32) -> Result<(), AllocError>
     Ok(())
 }
 
-/// The new word where the mask is all ones, and the old one where it is 0, in the register of the new one.
-pub fn merge(code: &mut Vec<Instr>, new: Reg, old: Reg, mask: Reg) -> Result<(), AllocError>
-    ensures { OnOk result (code.new.items ≡ code.old.items ++ merge_code new old mask) }
+/// The new word where the mask is all ones, and the old one where it is 0, into a register; that of the new one is lost.
+pub fn merge(
+    code: &mut Vec<Instr>,
+    target: Reg,
+    new: Reg,
+    old: Reg,
+    mask: Reg,
+) -> Result<(), AllocError>
+    ensures { OnOk result (code.new.items ≡ code.old.items ++ merge_code target new old mask) }
 {
     code.push(Instr::Register(RegisterOperation::Xor, new, new, old))?;
     code.push(Instr::Register(RegisterOperation::And, new, new, mask))?;
-    code.push(Instr::Register(RegisterOperation::Xor, new, old, new))?;
+    code.push(Instr::Register(RegisterOperation::Xor, target, old, new))?;
     Ok(())
 }

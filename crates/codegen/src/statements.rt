@@ -12,7 +12,7 @@ ghost use Rattle.language.specs.Size.{array_words};
 
 use crate::{arrays, jumping, masking};
 use branch_removal::StraightStatement;
-use expression_code::{Layout, emit, expression};
+use expression_code::{Layout, Location, emit, into, move_register};
 use inline::Term;
 use language::Kind;
 use rv_code::{Immediate12, ImmediateOperation, Instr, Reg, RegisterOperation};
@@ -33,11 +33,16 @@ fn set(
     variable: u32,
     value: &Term,
 ) -> Result<(), AllocError>
-    requires { HasPlace layout.now.declared layout.now.controls layout.now.depths 0 (straight.set variable (term_tree value.now)) }
-    ensures { OnOk result (code.new.items ≡ code.old.items ++ statement_code layout.now.declared layout.now.controls layout.now.depths 0 (straight.set variable (term_tree value.now))) }
+    requires { HasPlace layout.now.declared layout.now.allocation layout.now.controls layout.now.depths 0 (straight.set variable (term_tree value.now)) }
+    ensures { OnOk result (code.new.items ≡ code.old.items ++ statement_code layout.now.declared layout.now.allocation layout.now.controls layout.now.depths 0 (straight.set variable (term_tree value.now))) }
 {
-    expression(code, layout, 0, value)?;
-    emit::store(code, Reg::X5, layout.variable(variable))
+    match layout.variable_location(variable) {
+        Location::InRegister(home) => into(code, layout, home, 0, value),
+        Location::InSlot(offset) => {
+            into(code, layout, Reg::X5, 0, value)?;
+            emit::store(code, Reg::X5, offset)
+        }
+    }
 }
 
 /// A condition, taken into a control value and the next.
@@ -48,10 +53,10 @@ fn take(
     within: Option<u32>,
     condition: &Term,
 ) -> Result<(), AllocError>
-    requires { HasPlace layout.now.declared layout.now.controls layout.now.depths 0 (straight.take control within (term_tree condition.now)) }
-    ensures { OnOk result (code.new.items ≡ code.old.items ++ statement_code layout.now.declared layout.now.controls layout.now.depths 0 (straight.take control within (term_tree condition.now))) }
+    requires { HasPlace layout.now.declared layout.now.allocation layout.now.controls layout.now.depths 0 (straight.take control within (term_tree condition.now)) }
+    ensures { OnOk result (code.new.items ≡ code.old.items ++ statement_code layout.now.declared layout.now.allocation layout.now.controls layout.now.depths 0 (straight.take control within (term_tree condition.now))) }
 {
-    expression(code, layout, 0, condition)?;
+    into(code, layout, Reg::X5, 0, condition)?;
     masking::masks(code)?;
     if let Some(enclosing) = within {
         masking::join(code, layout.control(enclosing))?;
@@ -60,7 +65,7 @@ fn take(
     emit::store(code, Reg::X5, layout.control(control + 1))
 }
 
-/// Sets a variable under a control value: its slot is written in any case.
+/// Sets a variable under a control value: it is written in any case.
 fn set_under(
     code: &mut Vec<Instr>,
     layout: &Layout<'_>,
@@ -68,14 +73,23 @@ fn set_under(
     variable: u32,
     value: &Term,
 ) -> Result<(), AllocError>
-    requires { HasPlace layout.now.declared layout.now.controls layout.now.depths 0 (straight.set_under control variable (term_tree value.now)) }
-    ensures { OnOk result (code.new.items ≡ code.old.items ++ statement_code layout.now.declared layout.now.controls layout.now.depths 0 (straight.set_under control variable (term_tree value.now))) }
+    requires { HasPlace layout.now.declared layout.now.allocation layout.now.controls layout.now.depths 0 (straight.set_under control variable (term_tree value.now)) }
+    ensures { OnOk result (code.new.items ≡ code.old.items ++ statement_code layout.now.declared layout.now.allocation layout.now.controls layout.now.depths 0 (straight.set_under control variable (term_tree value.now))) }
 {
-    expression(code, layout, 0, value)?;
-    emit::load(code, Reg::X6, layout.variable(variable))?;
-    emit::load(code, Reg::X7, layout.control(control))?;
-    masking::merge(code, Reg::X5, Reg::X6, Reg::X7)?;
-    emit::store(code, Reg::X5, layout.variable(variable))
+    into(code, layout, Reg::X5, 0, value)?;
+    let mask = layout.control(control);
+    match layout.variable_location(variable) {
+        Location::InRegister(home) => {
+            emit::load(code, Reg::X7, mask)?;
+            masking::merge(code, home, Reg::X5, home, Reg::X7)
+        }
+        Location::InSlot(offset) => {
+            emit::load(code, Reg::X6, offset)?;
+            emit::load(code, Reg::X7, mask)?;
+            masking::merge(code, Reg::X5, Reg::X5, Reg::X6, Reg::X7)?;
+            emit::store(code, Reg::X5, offset)
+        }
+    }
 }
 
 /// Both bounds of a loop into its words.
@@ -86,14 +100,14 @@ fn bounds(
     low: &Term,
     high: &Term,
 ) -> Result<(), AllocError>
-    requires low { IsPlaced (length layout.now.declared) (temporaries_offset layout.now.declared layout.now.controls layout.now.depths) 0 (term_tree low.now) }
-    requires high { IsPlaced (length layout.now.declared) (temporaries_offset layout.now.declared layout.now.controls layout.now.depths) 0 (term_tree high.now) }
+    requires low { IsPlaced (length layout.now.declared) layout.now.allocation.count (temporaries_offset layout.now.declared layout.now.controls layout.now.depths) 0 (term_tree low.now) }
+    requires high { IsPlaced (length layout.now.declared) layout.now.allocation.count (temporaries_offset layout.now.declared layout.now.controls layout.now.depths) 0 (term_tree high.now) }
     requires next { next ≤ 65536 }
-    ensures { OnOk result (code.new.items ≡ code.old.items ++ bounds_code layout.now.declared next (temporaries_offset layout.now.declared layout.now.controls layout.now.depths) (term_tree low.now) (term_tree high.now)) }
+    ensures { OnOk result (code.new.items ≡ code.old.items ++ bounds_code layout.now.declared layout.now.allocation next (temporaries_offset layout.now.declared layout.now.controls layout.now.depths) (term_tree low.now) (term_tree high.now)) }
 {
-    expression(code, layout, 0, low)?;
+    into(code, layout, Reg::X5, 0, low)?;
     emit::store(code, Reg::X5, next)?;
-    expression(code, layout, 0, high)?;
+    into(code, layout, Reg::X5, 0, high)?;
     emit::store(code, Reg::X5, next + 4)
 }
 
@@ -110,11 +124,14 @@ fn test(code: &mut Vec<Instr>, next: u32) -> Result<(), AllocError>
 }
 
 /// The next number into the counter, and one more for the turn after this one.
-fn count(code: &mut Vec<Instr>, next: u32, counter: u32) -> Result<(), AllocError>
-    ensures { OnOk result (code.new.items ≡ code.old.items ++ count_code next counter) }
+fn count(code: &mut Vec<Instr>, next: u32, counter: &Location) -> Result<(), AllocError>
+    ensures { OnOk result (code.new.items ≡ code.old.items ++ count_code next counter.now) }
 {
     let one = Immediate12::from_bits(1);
-    emit::store(code, Reg::X6, counter)?;
+    match counter {
+        Location::InRegister(home) => move_register(code, *home, Reg::X6)?,
+        Location::InSlot(offset) => emit::store(code, Reg::X6, *offset)?,
+    }
     code.push(Instr::Immediate(ImmediateOperation::Addi, Reg::X6, Reg::X6, one))?;
     emit::store(code, Reg::X6, next)
 }
@@ -128,8 +145,8 @@ fn statement(
     depth: u32,
     statement: &StraightStatement<'_>,
 ) -> Result<(), AllocError>
-    requires placed { HasPlace layout.now.declared layout.now.controls layout.now.depths depth (straight_tree statement.now) }
-    ensures { OnOk result (code.new.items ≡ code.old.items ++ statement_code layout.now.declared layout.now.controls layout.now.depths depth (straight_tree statement.now)) }
+    requires placed { HasPlace layout.now.declared layout.now.allocation layout.now.controls layout.now.depths depth (straight_tree statement.now) }
+    ensures { OnOk result (code.new.items ≡ code.old.items ++ statement_code layout.now.declared layout.now.allocation layout.now.controls layout.now.depths depth (straight_tree statement.now)) }
 {
     match statement {
         StraightStatement::Set(variable, value) => set(code, layout, *variable, value),
@@ -161,7 +178,7 @@ fn statement(
             statements(alloc, &mut one, layout, depth, accepted)?;
             let mut other = Vec::new(alloc);
             statements(alloc, &mut other, layout, depth, otherwise)?;
-            expression(code, layout, 0, condition)?;
+            into(code, layout, Reg::X5, 0, condition)?;
             jumping::branch(code, one.as_slice(), other.as_slice())?;
             Ok(())
         }
@@ -170,7 +187,7 @@ fn statement(
             let mut head = Vec::new(alloc);
             test(&mut head, next)?;
             let mut turn = Vec::new(alloc);
-            count(&mut turn, next, layout.variable(*counter))?;
+            count(&mut turn, next, &layout.variable_location(*counter))?;
             statements(alloc, &mut turn, layout, depth + 1, body)?;
             bounds(code, layout, next, low, high)?;
             jumping::repeat(code, head.as_slice(), turn.as_slice())?;
@@ -188,8 +205,8 @@ pub fn statements(
     depth: u32,
     statements: &[StraightStatement<'_>],
 ) -> Result<(), AllocError>
-    requires placed { HavePlaces layout.now.declared layout.now.controls layout.now.depths depth (straight_block statements.now) }
-    ensures { OnOk result (code.new.items ≡ code.old.items ++ block_code layout.now.declared layout.now.controls layout.now.depths depth (straight_block statements.now)) }
+    requires placed { HavePlaces layout.now.declared layout.now.allocation layout.now.controls layout.now.depths depth (straight_block statements.now) }
+    ensures { OnOk result (code.new.items ≡ code.old.items ++ block_code layout.now.declared layout.now.allocation layout.now.controls layout.now.depths depth (straight_block statements.now)) }
 {
     for each in statements {
         statement(alloc, code, layout, depth, each)?;

@@ -2,13 +2,15 @@
 -- is emitted, the machine, and pieces of code.
 pub use Rattle.branch_removal.proofs.SeenLemmas.{seen-append}
 pub use Rattle.branch_removal.specs.StraightMeaning.{StraightState}
-pub use Rattle.expression_code.specs.Computed.{IsComputed, IsSiteOf, Site}
+pub use Rattle.expression_code.specs.Allocation.{Allocation, at_home, home_of, IsAllocation, register_of, slot_of, slots_to, temporary, working_register}
+pub use Rattle.expression_code.specs.Computed.{IsComputed, IsSiteOf, Site, word_in}
 pub use Rattle.expression_code.specs.Inside.{IsInside}
-pub use Rattle.expression_code.specs.Layout.{control_offset, next_offset, result_offset, temporaries_offset, variable_offset}
+pub use Rattle.expression_code.specs.Layout.{control_offset, next_offset, result_offset, temporaries_offset, variable_location, variable_offset}
 pub use Rattle.expression_code.specs.Layout.{offsets_from, slots_from}
-pub use Rattle.expression_code.specs.Registers.{home, register_count, slot_of, slots_to}
-pub use Rattle.expression_code.specs.TermCode.{address_code, around_code, between, choice_code, constant_code, cut_code, element_code, expr_code, fetch_code, Finish, finish_code, height_of, IsAmong, keep_code, load_by, load_code, lower_part, narrowed, operator_code, prefix_code, raise_code, rotate_code, row_of, scale_code, Step, step_code, store_code, turned, upper_part}
+pub use Rattle.expression_code.specs.TermCode.{address_code, around_code, between, choice_code, constant_code, convert_code, copy_code, cut_code, element_code, expr_code, fetch_code, Finish, finish_code, height_of, into_code, IsAmong, is_at_home, keep_code, load_by, load_code, lower_part, move_code, narrow_code, narrowed, narrowed_in, operand, operator_code, placed_code, prefix_code, raise_code, rotate_code, row_of, scale_code, Step, store_code, turned, upper_part}
 pub use Rattle.expression_code.specs.TermCode.{kind_at}
+pub use Rattle.expression_code.specs.declared.locations.Location.{Location}
+pub use Rattle.expression_code.specs.declared.locations.Location.TheVariants.{InRegister, InSlot}
 pub use Rattle.inline.proofs.Fitting.{value_fits}
 pub use Rattle.inline.specs.Fitting.{Fits, IsWithinKind}
 pub use Rattle.inline.specs.Flat.{array_as, binary, convert, declaration_of, element, elements_by, numbers_in, prefix, rotate, select, TermTree, variable, word_as}

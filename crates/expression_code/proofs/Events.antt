@@ -3,7 +3,7 @@ use Rattle.std.proofs.Common.{◌≡◌, ◌≢◌, ℕ, ◌-◌, ◌<◌, ◌�
 use Rattle.expression_code.proofs.Below.{always, bounded, by_mark, ByteMap, decided, divide_leads, divide_value, divided, DivideOperation, Event, indexed, Instr, IsAt, IsInside, IsInstr, Known, Leads, lt-ltb, ltb-true, Mark, multiplied, multiply_leads, multiply_value, MultiplyOperation, nat_tests, never, Observation, Path, Place, product_shown, Profile, register, stands, State, StraightState, true≢false, turn_ends, with_value, with_value-bytes, with_value-pc, with_value-regs}
 use Rattle.expression_code.proofs.Frame.{Setting, Before, After, Steps, Runs, setting}
 use Rattle.expression_code.proofs.Moves.{register-at, written, unwritten}
-use Rattle.expression_code.proofs.Homes.{ArePair}
+use Rattle.expression_code.proofs.WorkRegisters.{IsFree}
 use Rattle.inline.specs.Path.{seen as seen_of}
 use Rattle.program_logic.proofs.Face.{Kind}
 use Rattle.rv_code.specs.declared.instructions.Instr.TheVariants as instr
@@ -75,40 +75,40 @@ module _ (z : Setting) where
   abbrev pub Operands : (l r : ℕ) (left right : StraightState → ℕ) → Before
   Operands l r left right env s = (s.regs l ≡ left env) × (s.regs r ≡ right env)
 
-  -- an instruction between two registers into the first, which shows of their values what can be read off the path
-  showing : {l r : ℕ} {steps : Steps} {P : Before} (pair : ArePair l r) (i : Instr) (shows : ℕ → ℕ → Option Event) (made : ℕ → ℕ → ℕ) (left right : StraightState → ℕ) (leak : ℕ → Path → List Observation × Path)
+  -- an instruction between two registers into a third, which shows of their values what can be read off the path
+  showing : {d l r : ℕ} {steps : Steps} {P : Before} (target : IsFree d) (one : IsFree l) (other : IsFree r) (i : Instr) (shows : ℕ → ℕ → Option Event) (made : ℕ → ℕ → ℕ) (left right : StraightState → ℕ) (leak : ℕ → Path → List Observation × Path)
       → IsInstr i → ((a b : ℕ) → IsInside z.frame z.size (shows a b))
-      → ((s : State) → IsAt z.code s.pc i → Leads z.code 1 s (record { pc = s.pc; event = shows (register s.regs l) (register s.regs r) } ∷ []) (with_value s l (made (register s.regs l) (register s.regs r))))
+      → ((s : State) → IsAt z.code s.pc i → Leads z.code 1 s (record { pc = s.pc; event = shows (register s.regs l) (register s.regs r) } ∷ []) (with_value s d (made (register s.regs l) (register s.regs r))))
       → ((env : StraightState) (s : State) → P env s → Operands l r left right env s)
       → ((p : ℕ) (env : StraightState) (s : State) (rest : Path) → P env s → leak p (seen_of z.code.profile (steps env) ++ rest) ≡ (record { pc = p; event = shows (left env) (right env) } ∷ [], rest))
-      → Runs z 1 steps (i ∷ []) P (λ env s t. Moves l (made (left env) (right env)) s t)
-  showing {l = l} {r = r} pair i shows made left right leak ok inside leads operands shown = record {
+      → Runs z 1 steps (i ∷ []) P (λ env s t. Moves d (made (left env) (right env)) s t)
+  showing {d = d} {l = l} {r = r} target one other i shows made left right leak ok inside leads operands shown = record {
     placed_at = λ p placed. record {
       leak = leak p;
       runs = λ env s rest at fine fit.
           let v = made (register s.regs l) (register s.regs r) in
-          let one = register-at s.regs l pair.one.nonzero ∙ (operands env s fit).0 in
-          let other = register-at s.regs r pair.other.nonzero ∙ (operands env s fit).1 in
-          turn_ends _ (shows (left env) (right env)) (with_value s l v) at (leads s (stands z.code p i [] placed ok s at)) (ap₂ shows one other) (inside (left env) (right env))
+          let first = register-at s.regs l one.nonzero ∙ (operands env s fit).0 in
+          let second = register-at s.regs r other.nonzero ∙ (operands env s fit).1 in
+          turn_ends _ (shows (left env) (right env)) (with_value s d v) at (leads s (stands z.code p i [] placed ok s at)) (ap₂ shows first second) (inside (left env) (right env))
           (record {
-            regs = λ q low. ap (λ (regs : ℕ → ℕ). regs q) (with_value-regs s l v) ∙ unwritten s.regs l v q (λ e. omega (arith, pair.one.low, low, e));
-            beside = λ a apart. ap (λ (b : ByteMap). b a) (with_value-bytes s l v);
+            regs = λ q low. ap (λ (regs : ℕ → ℕ). regs q) (with_value-regs s d v) ∙ unwritten s.regs d v q (λ e. omega (arith, target.low, low, e));
+            beside = λ a apart. ap (λ (b : ByteMap). b a) (with_value-bytes s d v);
           })
-          (shown p env s rest fit) (omega (arith, at, placed.1, with_value-pc s l v)) (record {
-            there = ap (λ (regs : ℕ → ℕ). regs l) (with_value-regs s l v) ∙ (written s.regs l v pair.one.nonzero ∙ ap₂ made one other);
-            others = λ q apart. ap (λ (regs : ℕ → ℕ). regs q) (with_value-regs s l v) ∙ unwritten s.regs l v q apart;
-            same = with_value-bytes s l v;
+          (shown p env s rest fit) (omega (arith, at, placed.1, with_value-pc s d v)) (record {
+            there = ap (λ (regs : ℕ → ℕ). regs d) (with_value-regs s d v) ∙ (written s.regs d v target.nonzero ∙ ap₂ made first second);
+            others = λ q apart. ap (λ (regs : ℕ → ℕ). regs q) (with_value-regs s d v) ∙ unwritten s.regs d v q apart;
+            same = with_value-bytes s d v;
           });
     };
   }
 
   -- a division of the operands that are next on the path
-  pub dividing : {l r : ℕ} (pair : ArePair l r) (place : Place) (left right : StraightState → ℕ) (operation : DivideOperation)
-      → Runs z 1 (λ env. divided place (left env) (right env) ∷ []) (instr.Divide operation l l r ∷ []) (Operands l r left right) (λ env s t. Moves l (divide_value operation (left env) (right env)) s t)
-  dividing {l = l} {r = r} pair place left right operation =
+  pub dividing : {d l r : ℕ} (target : IsFree d) (one : IsFree l) (other : IsFree r) (place : Place) (left right : StraightState → ℕ) (operation : DivideOperation)
+      → Runs z 1 (λ env. divided place (left env) (right env) ∷ []) (instr.Divide operation d l r ∷ []) (Operands l r left right) (λ env s t. Moves d (divide_value operation (left env) (right env)) s t)
+  dividing {d = d} {l = l} {r = r} target one other place left right operation =
       by_mark (operands_kind place) (λ env. (left env, right env))
-      (λ o. showing pair (instr.Divide operation l l r) (λ a b. Some (event.Div a b)) (divide_value operation) left right (λ p. always (record { pc = p; event = Some (event.Div o.0 o.1) } ∷ []))
-      (pair.one.small, pair.one.small, pair.other.small) (λ a b. tt) (λ s at. divide_leads z.code s operation l l r at) (λ env s known. known.given)
+      (λ o. showing target one other (instr.Divide operation d l r) (λ a b. Some (event.Div a b)) (divide_value operation) left right (λ p. always (record { pc = p; event = Some (event.Div o.0 o.1) } ∷ []))
+      (target.small, one.small, other.small) (λ a b. tt) (λ s at. divide_leads z.code s operation d l r at) (λ env s known. known.given)
       (λ p env s rest known. ap (λ (b : ℕ × ℕ). (record { pc = p; event = Some (event.Div b.0 b.1) } ∷ [], rest)) (sym known.is)))
 
   -- what is shown of the next mark's factors, where they are seen
@@ -127,9 +127,9 @@ module _ (z : Setting) where
   factors_inside P2 a b = tt
 
   -- a multiplication of the factors that are next on the path
-  pub multiplying : {l r : ℕ} (pair : ArePair l r) (left right : StraightState → ℕ) (operation : MultiplyOperation)
-      → Runs z 1 (λ env. multiplied (left env) (right env) ∷ []) (instr.Multiply operation l l r ∷ []) (Operands l r left right) (λ env s t. Moves l (multiply_value operation (left env) (right env)) s t)
-  multiplying {l = l} {r = r} pair left right operation =
-      showing pair (instr.Multiply operation l l r) (product_shown z.code.profile) (multiply_value operation) left right (of_factors z.code.profile)
-      (pair.one.small, pair.one.small, pair.other.small) (factors_inside z.code.profile) (λ s at. multiply_leads z.code s operation l l r at) (λ env s fit. fit)
+  pub multiplying : {d l r : ℕ} (target : IsFree d) (one : IsFree l) (other : IsFree r) (left right : StraightState → ℕ) (operation : MultiplyOperation)
+      → Runs z 1 (λ env. multiplied (left env) (right env) ∷ []) (instr.Multiply operation d l r ∷ []) (Operands l r left right) (λ env s t. Moves d (multiply_value operation (left env) (right env)) s t)
+  multiplying {d = d} {l = l} {r = r} target one other left right operation =
+      showing target one other (instr.Multiply operation d l r) (product_shown z.code.profile) (multiply_value operation) left right (of_factors z.code.profile)
+      (target.small, one.small, other.small) (factors_inside z.code.profile) (λ s at. multiply_leads z.code s operation d l r at) (λ env s fit. fit)
       (λ p env s rest fit. factors_shown z.code.profile p (left env) (right env) rest)

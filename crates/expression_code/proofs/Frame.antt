@@ -1,12 +1,13 @@
 -- Where code and frame lie: the setting of all pieces of code here. They are run beside a state of straight code, the marks
 -- of a path are those of the inlined program, and all accesses stay inside the frame.
 use Rattle.std.proofs.Common.{◌≡◌, ◌⊎◌, inl, inr, ℕ, zero, suc, ◌+◌, ◌%◌, ◌^◌, ◌<◌, ◌≤◌, Bool, true, false, ◌&&◌, List, [], ◌∷◌, ◌++◌, length, Option, Some, is_some, refl, sym, ap, ap₂, ◌∙◌, arith}
-use Rattle.expression_code.proofs.Below.{AreFine, byte_count, ByteMap, Code, FlatVariable, Instr, IsInside, joined, Mark, number_at, number_at-suc, number_at-zero, Path, seen-append, Size, State, StraightState, temporaries_offset, with_number, with_number_above, with_number_below}
+use Rattle.expression_code.proofs.Below.{Allocation, AreFine, byte_count, ByteMap, Code, FlatVariable, Instr, IsAllocation, IsInside, joined, Mark, number_at, number_at-suc, number_at-zero, Path, seen-append, Size, State, StraightState, temporaries_offset, with_number, with_number_above, with_number_below}
 use Rattle.inline.specs.Path.{seen as seen_of}
 use Rattle.program_logic.proofs.Face as logic
 use Rattle.rv_machine.specs.declared.observation.Event.TheVariants as event
 
--- where code and frame lie, how the frame is laid out, and how many turns are counted for each counter
+-- where code and frame lie, how the frame is laid out, how registers are given out, and how many turns are counted for each
+-- counter
 pub record Setting : Type 0 where
   pub code : Code
   pub frame : ℕ
@@ -15,6 +16,8 @@ pub record Setting : Type 0 where
   pub declared : List FlatVariable
   pub controls : ℕ
   pub depths : ℕ
+  pub allocation : Allocation
+  pub allocated : IsAllocation declared allocation
   pub even : frame % 4 ≡ 0
   pub ends : frame + size < 2 ^ 32
   pub room : temporaries_offset declared controls depths ≤ size

@@ -3,12 +3,14 @@ pub mod Frame
 pub mod Moves
 pub mod Events
 pub mod Arithmetic
-pub mod Homes
+pub mod WorkRegisters
 pub mod OperatorCode
 pub mod Places
 pub mod Values
+pub mod Scratch
 pub mod Operands
 pub mod TermLengths
 pub mod Elements
+pub mod WorkedCode
 pub mod ExpressionRuns
 pub mod Logic

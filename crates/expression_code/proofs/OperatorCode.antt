@@ -1,8 +1,8 @@
--- Of each piece of emitted code that only computes: that it does (`plain`), and what it makes in the register of the first
--- operand, which is what its node means (`made`).
+-- Of each piece of emitted code that only computes: that it does (`plain`), into registers that work, and what it makes in
+-- its target, which is what its node means (`made`).
 use Rattle.std.proofs.Common.{◌≡◌, ◌≢◌, ℕ, ◌+◌, ◌-◌, ◌*◌, ◌/◌, ◌%◌, ◌^◌, ◌<◌, ◌≤◌, ◌==◌, ◌||◌, nat_lt, Bool, true, false, cond, List, [], ◌∷◌, ◌++◌, refl, sym, ap, ap₂, ◌∙◌, arith, subst, eq-eqb, ne_eqb}
 use Rattle.std.proofs.lemmas.Nat.{and_mask, mod_below, pow_pos}
-use Rattle.expression_code.proofs.Below.{after_append, between, BinaryOperator, bits, choice_code, constant_code, converted, cut_code, eqb-true, false≢true, fun_ext, immediate_value, Instr, lt-ltb, multiply_value, nat_tests, only_computes, operated, operator_code, plain_append, prefix_code, prefix_value, PrefixOperator, register_left, register_value, registers_after, rotated_left, row_of, shift_value, sign_extended, Step, turned, Width, with_register, word_of}
+use Rattle.expression_code.proofs.Below.{after_append, between, BinaryOperator, bits, choice_code, constant_code, convert_code, converted, cut_code, eqb-true, false≢true, fun_ext, immediate_value, Instr, lt-ltb, move_code, multiply_value, narrow_code, narrowed_in, nat_tests, only_computes, operated, operator_code, plain_append, prefix_code, prefix_value, PrefixOperator, register_left, register_value, registers_after, rotated_left, row_of, shift_value, sign_extended, Step, turned, Width, with_register, word_of}
 use Rattle.rv_code.specs.declared.instructions.Instr.TheVariants as instr
 use Rattle.rv_code.specs.declared.operations.ImmediateOperation.TheVariants.{Addi, Andi}
 use Rattle.rv_code.specs.declared.operations.ShiftOperation.TheVariants.{Slli, Srli}
@@ -12,7 +12,7 @@ use Rattle.language.specs.declared.tree.BinaryOperator.TheVariants.{Either, Both
 use Rattle.language.specs.declared.tree.PrefixOperator.TheVariants.{Not, Complement, Negate}
 use Rattle.word.specs.declared.width.Width.TheVariants.{W8, W16, W32}
 use Rattle.expression_code.proofs.Arithmetic.{parts, chosen}
-use Rattle.expression_code.proofs.Homes.{IsFree, ArePair}
+use Rattle.expression_code.proofs.WorkRegisters.{IsFree, ArePair}
 
 -- Numbers, into any register that works.
 
@@ -65,6 +65,10 @@ around w n j some within =
     let joined : (n * 2 ^ j % 2 ^ 32 + n / 2 ^ (bits w - j) % 2 ^ 32) % 2 ^ 32 ≡ (n * 2 ^ j + n / 2 ^ (bits w - j)) % 2 ^ 32 = omega arith in
     ap (cut_value w) (ap₂ (λ x y. (n * 2 ^ x % 2 ^ 32 + n / 2 ^ y % 2 ^ 32) % 2 ^ 32) up down ∙ joined) ∙ cut_whole w (n * 2 ^ j + n / 2 ^ (bits w - j))
 
+word_fits : (w : Width) (n : ℕ) → n < 2 ^ bits w → n < 2 ^ 32
+word_fits W32 n fits = fits
+word_fits width n fits = omega (arith, fits)
+
 -- a truth is a word of 32 bits
 pub truth_fits : (c : Bool) → word_of c < 2 ^ 32
 truth_fits c = grind (arith, nat_tests)
@@ -81,135 +85,194 @@ is_plain _ = false
 abbrev pub either_of : ℕ → ℕ → ℕ → Bool
 either_of l r q = (q == l) || (q == r)
 
--- On the registers l and r of two operands, or on l alone, of which r is another.
-module _ {l r : ℕ} (pair : ArePair l r) where
+-- Into the register d, where t may be written as well.
+module _ {d t : ℕ} (pair : ArePair d t) where
   -- the tests that are met
-  pub ll : (l == l) ≡ true
-  ll = eq-eqb l l refl
+  pub dd : (d == d) ≡ true
+  dd = eq-eqb d d refl
 
-  rr : (r == r) ≡ true
-  rr = eq-eqb r r refl
+  tt' : (t == t) ≡ true
+  tt' = eq-eqb t t refl
 
-  pub lr : (l == r) ≡ false
-  lr = ne_eqb l r pair.apart
+  pub td : (t == d) ≡ false
+  td = ne_eqb t d (λ e. pair.apart (sym e))
 
-  pub rl : (r == l) ≡ false
-  rl = ne_eqb r l (λ e. pair.apart (sym e))
+  pub d0 : (d == 0) ≡ false
+  d0 = ne_eqb d 0 pair.one.nonzero
 
-  pub l0 : (l == 0) ≡ false
-  l0 = ne_eqb l 0 pair.one.nonzero
+  t0 : (t == 0) ≡ false
+  t0 = ne_eqb t 0 pair.other.nonzero
 
-  r0 : (r == 0) ≡ false
-  r0 = ne_eqb r 0 pair.other.nonzero
+  pub d32 : nat_lt d 32 ≡ true
+  d32 = lt-ltb d 32 pair.one.small
 
-  pub l32 : nat_lt l 32 ≡ true
-  l32 = lt-ltb l 32 pair.one.small
+  t32 : nat_lt t 32 ≡ true
+  t32 = lt-ltb t 32 pair.other.small
 
-  r32 : nat_lt r 32 ≡ true
-  r32 = lt-ltb r 32 pair.other.small
+  -- where these two alone work, any other register is as it was
+  pub low_beside : (q : ℕ) → q < 5 → either_of d t q ≡ false
+  low_beside q below = simp (ne_eqb q d (λ e. omega (arith, pair.one.low, below, e)), ne_eqb q t (λ e. omega (arith, pair.other.low, below, e)))
 
-  -- any other register is as it was
-  pub low_beside : (q : ℕ) → q < 5 → either_of l r q ≡ false
-  low_beside q below = simp (ne_eqb q l (λ e. omega (arith, pair.one.low, below, e)), ne_eqb q r (λ e. omega (arith, pair.other.low, below, e)))
+  pub kept_beside : (is : List Instr) → only_computes (either_of d t) is ≡ true → (regs : ℕ → ℕ) (q : ℕ) → q ≢ d → q ≢ t → registers_after is regs q ≡ regs q
+  kept_beside is plain regs q first second = register_left (either_of d t) is regs q plain (simp (ne_eqb q d first, ne_eqb q t second))
 
-  pub kept_beside : (is : List Instr) → only_computes (either_of l r) is ≡ true → (regs : ℕ → ℕ) (q : ℕ) → q ≢ l → q ≢ r → registers_after is regs q ≡ regs q
-  kept_beside is plain regs q first second = register_left (either_of l r) is regs q plain (simp (ne_eqb q l first, ne_eqb q r second))
+  -- A cut in its place.
 
-  -- Cuts.
-
-  pub cut_plain : (w : Width) → only_computes (either_of l r) (cut_code l w) ≡ true
-  cut_plain W32 = refl
-  cut_plain width = simp (ll, l32)
-
-  cut_composed : (w : Width) (regs : ℕ → ℕ) → registers_after (cut_code l w) regs l ≡ cut_value w (regs l)
+  cut_composed : (w : Width) (regs : ℕ → ℕ) → registers_after (cut_code d w) regs d ≡ cut_value w (regs d)
   cut_composed W32 regs = refl
-  cut_composed width regs = simp (ll, l0)
-
-  pub cut_made : (w : Width) (regs : ℕ → ℕ) → regs l < 2 ^ 32 → registers_after (cut_code l w) regs l ≡ converted w (regs l)
-  cut_made w regs fits = cut_composed w regs ∙ cut_computes w (regs l) fits
-
-  -- Operators.
-
-  pub operator_plain : (operator : BinaryOperator) (w : Width) → is_plain (row_of operator).step ≡ true → only_computes (either_of l r) (operator_code l r operator w) ≡ true
-  operator_plain Multiply w plain = absurd (false≢true plain)
-  operator_plain Divide w plain = absurd (false≢true plain)
-  operator_plain Remainder w plain = absurd (false≢true plain)
-  operator_plain operator w plain = simp (ll, rl, rr, l32, r32, cut_plain w)
-
-  pub operator_made : (operator : BinaryOperator) (w : Width) → is_plain (row_of operator).step ≡ true → (regs : ℕ → ℕ) → regs l < 2 ^ 32 → regs r < 2 ^ 32
-      → registers_after (operator_code l r operator w) regs l ≡ operated operator w (regs l) (regs r)
-  operator_made Either w plain regs left right = simp (ll, rr, lr, rl, l0, r0) (grind (arith, nat_tests))
-  operator_made Both w plain regs left right = simp (ll, rr, lr, rl, l0, r0) (grind (arith, nat_tests))
-  operator_made Equal w plain regs left right = simp (ll, l0, r0) (grind (arith, nat_tests))
-  operator_made Unequal w plain regs left right = simp (ll, l0, r0) (grind (arith, nat_tests))
-  operator_made LessOrEqual w plain regs left right = simp (ll, l0, r0) (grind (arith, nat_tests))
-  operator_made GreaterOrEqual w plain regs left right = simp (ll, l0, r0) (grind (arith, nat_tests))
-  operator_made ShiftLeft w plain regs left right = cut_composed w _ ∙ simp (ll, l0, r0) (cut_whole w (regs l * 2 ^ (regs r % 32)))
-  operator_made ShiftRight w plain regs left right = cut_composed w _ ∙ simp (ll, l0, r0) (cut_whole w (regs l / 2 ^ (regs r % 32)))
-  operator_made Add w plain regs left right = cut_composed w _ ∙ simp (ll, l0, r0) (cut_whole w (regs l + regs r))
-  operator_made Subtract w plain regs left right = cut_composed w _ ∙ simp (ll, l0, r0) (cut_whole w (regs l + (2 ^ 32 - regs r % 2 ^ 32)) ∙ cut_difference w (regs l) (regs r) right)
-  operator_made Multiply w plain regs left right = absurd (false≢true plain)
-  operator_made Divide w plain regs left right = absurd (false≢true plain)
-  operator_made Remainder w plain regs left right = absurd (false≢true plain)
-  operator_made operator w plain regs left right = simp (ll, l0, r0)
+  cut_composed width regs = simp (dd, d0)
 
   -- a product of 32 bits that is cut
-  pub product_made : (w : Width) (regs : ℕ → ℕ) (a b : ℕ) → regs l ≡ multiply_value Mul a b → registers_after (cut_code l w) regs l ≡ operated Multiply w a b
+  pub product_made : (w : Width) (regs : ℕ → ℕ) (a b : ℕ) → regs d ≡ multiply_value Mul a b → registers_after (cut_code d w) regs d ≡ operated Multiply w a b
   product_made w regs a b is = cut_composed w regs ∙ (ap (cut_value w) is ∙ cut_whole w (a * b))
 
-  pub prefix_plain : (operator : PrefixOperator) (w : Width) → only_computes (either_of l r) (prefix_code l operator w) ≡ true
-  prefix_plain Not w = simp (ll, l32)
-  prefix_plain operator w = simp (ll, l32, cut_plain w)
+  -- From a register q.
+  module _ {q : ℕ} (source : IsFree q) where
+    pub q0 : (q == 0) ≡ false
+    q0 = ne_eqb q 0 source.nonzero
 
-  pub prefix_made : (operator : PrefixOperator) (w : Width) (regs : ℕ → ℕ) → regs l < 2 ^ 32 → registers_after (prefix_code l operator w) regs l ≡ prefix_value operator w (regs l)
-  prefix_made Not w regs fits = simp (ll, l0) (grind (arith, nat_tests))
-  prefix_made Complement w regs fits =
-      cut_composed w _ ∙ simp (ll, l0) (ap (cut_value w) (one_less (regs l) fits) ∙ cut_whole w (2 ^ 32 - 1 - regs l) ∙ cut_complement w (regs l) fits)
-  prefix_made Negate w regs fits =
-      let v = regs l in
-      let less : 0 + (2 ^ bits w - v % 2 ^ bits w) ≡ 2 ^ bits w - v % 2 ^ bits w = omega arith in
-      cut_composed w _ ∙ simp (ll, l0) (cut_whole w (0 + (2 ^ 32 - v % 2 ^ 32)) ∙ (cut_difference w 0 v fits ∙ ap (λ x. x % 2 ^ bits w) less))
+    pub q32 : nat_lt q 32 ≡ true
+    q32 = lt-ltb q 32 source.small
 
-  -- Rotations, with what is moved up in r.
+    -- Moves.
 
-  abbrev around_by : Width → ℕ → Bool → List Instr
-  around_by w amount none =
-      cond none [] (instr.Shift Slli r l amount ∷ instr.Shift Srli l l (bits w - amount) ∷ instr.Register register.Add l r l ∷ cut_code l w)
+    abbrev move_by : Bool → List Instr
+    move_by same = cond same [] (instr.Immediate Addi d q 0 ∷ [])
 
-  abbrev pub rotate_by : Width → ℕ → List Instr
-  rotate_by w amount = cut_code l w ++ around_by w (amount % bits w) (amount % bits w == 0)
+    move_when : (same : Bool) (regs : ℕ → ℕ) → (d == q) ≡ same → regs q < 2 ^ 32 → registers_after (move_by same) regs d ≡ regs q
+    move_when true regs e fits = ap regs (eqb-true d q e)
+    move_when false regs e fits = simp (dd, d0, q0) (omega (arith, fits))
 
-  around_plain : (w : Width) (amount : ℕ) → amount < bits w → (none : Bool) → (amount == 0) ≡ none → only_computes (either_of l r) (around_by w amount none) ≡ true
-  around_plain w amount within true h = refl
-  around_plain w amount within false h =
-      let some : 0 < amount = grind (arith, nat_tests) in
-      simp (rl, ll, rr, l32, r32, lt-ltb amount 32 (omega (arith, (narrow w).1)), lt-ltb (bits w - amount) 32 (omega (arith, (narrow w).1)), cut_plain w)
+    pub move_made : (regs : ℕ → ℕ) → regs q < 2 ^ 32 → registers_after (move_code d q) regs d ≡ regs q
+    move_made regs fits = move_when (d == q) regs refl fits
 
-  pub rotate_plain : (w : Width) (amount : ℕ) → only_computes (either_of l r) (rotate_by w amount) ≡ true
-  rotate_plain w amount =
-      let n = amount % bits w in
-      plain_append (either_of l r) (cut_code l w) (around_by w n (n == 0)) (cut_plain w) (around_plain w n (mod_below amount (bits w) (narrow w).0) (n == 0) refl)
+    -- Cuts.
 
-  around_made : (w : Width) (amount : ℕ) (regs : ℕ → ℕ) → amount < bits w → regs l < 2 ^ bits w → (none : Bool) → (amount == 0) ≡ none
-      → registers_after (around_by w amount none) regs l ≡ (regs l * 2 ^ amount + regs l / 2 ^ (bits w - amount)) % 2 ^ bits w
-  around_made w amount regs within fits true h =
-      unmoved w (regs l) fits ∙ ap (λ n. (regs l * 2 ^ n + regs l / 2 ^ (bits w - n)) % 2 ^ bits w) (sym (eqb-true amount 0 h))
-  around_made w amount regs within fits false h =
-      cut_composed w _ ∙ simp (ll, rr, lr, rl, l0, r0) (around w (regs l) amount (grind (arith, nat_tests)) within)
+    narrow_composed : (w : Width) (regs : ℕ → ℕ) → registers_after (narrow_code d q w) regs (narrowed_in d q w) ≡ cut_value w (regs q)
+    narrow_composed W32 regs = refl
+    narrow_composed width regs = simp (dd, d0, q0)
 
-  pub rotate_made : (w : Width) (amount : ℕ) (regs : ℕ → ℕ) → regs l < 2 ^ 32 → registers_after (rotate_by w amount) regs l ≡ rotated_left w (regs l) amount
-  rotate_made w amount regs fits =
-      let n = amount % bits w in
-      let cut = cut_made w regs fits in
-      ap (λ (after : ℕ → ℕ). after l) (after_append (cut_code l w) (around_by w n (n == 0)) regs)
-      ∙ (around_made w n (registers_after (cut_code l w) regs) (mod_below amount (bits w) (narrow w).0) (subst (λ v. v < 2 ^ bits w) (sym cut) (mod_below (regs l) (2 ^ bits w) (pow_pos (bits w)))) (n == 0) refl
-      ∙ ap (λ v. (v * 2 ^ n + v / 2 ^ (bits w - n)) % 2 ^ bits w) cut)
+    narrow_made : (w : Width) (regs : ℕ → ℕ) → regs q < 2 ^ 32 → registers_after (narrow_code d q w) regs (narrowed_in d q w) ≡ converted w (regs q)
+    narrow_made w regs fits = narrow_composed w regs ∙ cut_computes w (regs q) fits
 
-  -- Choices, of which l has the condition and r the first of both values.
+    pub narrowed_free : (w : Width) → IsFree (narrowed_in d q w)
+    narrowed_free W32 = source
+    narrowed_free width = pair.one
 
-  module _ (n : ℕ) (third : IsFree n) (first_apart : l ≢ n) (second_apart : r ≢ n) where
-    pub choice_plain : only_computes (either_of l r) (choice_code l r n) ≡ true
-    choice_plain = simp (rl, ll, rr, l32, r32, lt-ltb n 32 third.small)
+    pub prefix_made : (operator : PrefixOperator) (w : Width) (regs : ℕ → ℕ) → regs q < 2 ^ 32 → registers_after (prefix_code d q operator w) regs d ≡ prefix_value operator w (regs q)
+    prefix_made Not w regs fits = simp (dd, d0, q0) (grind (arith, nat_tests))
+    prefix_made Complement w regs fits =
+        cut_composed w _ ∙ simp (dd, d0, q0) (ap (cut_value w) (one_less (regs q) fits) ∙ cut_whole w (2 ^ 32 - 1 - regs q) ∙ cut_complement w (regs q) fits)
+    prefix_made Negate w regs fits =
+        let v = regs q in
+        let less : 0 + (2 ^ bits w - v % 2 ^ bits w) ≡ 2 ^ bits w - v % 2 ^ bits w = omega arith in
+        cut_composed w _ ∙ simp (dd, d0, q0) (cut_whole w (0 + (2 ^ 32 - v % 2 ^ 32)) ∙ (cut_difference w 0 v fits ∙ ap (λ x. x % 2 ^ bits w) less))
 
-    pub choice_made : (regs : ℕ → ℕ) → registers_after (choice_code l r n) regs l ≡ chosen (regs l) (regs r) (regs n)
-    choice_made regs = simp (ll, rr, lr, rl, ne_eqb n l (λ e. first_apart (sym e)), ne_eqb n r (λ e. second_apart (sym e)), l0, r0, ne_eqb n 0 third.nonzero)
+    -- Rotations, with what is moved up in t.
+
+    abbrev around_by : Width → ℕ → Bool → List Instr
+    around_by w amount none =
+        cond none (move_code d q) (instr.Shift Slli t q amount ∷ instr.Shift Srli d q (bits w - amount) ∷ instr.Register register.Add d t d ∷ cut_code d w)
+
+    around_made : q ≢ t → (w : Width) (amount : ℕ) (regs : ℕ → ℕ) → amount < bits w → regs q < 2 ^ bits w → (none : Bool) → (amount == 0) ≡ none
+        → registers_after (around_by w amount none) regs d ≡ (regs q * 2 ^ amount + regs q / 2 ^ (bits w - amount)) % 2 ^ bits w
+    around_made apart w amount regs within fits true h =
+        move_made regs (word_fits w (regs q) fits)
+        ∙ (unmoved w (regs q) fits ∙ ap (λ n. (regs q * 2 ^ n + regs q / 2 ^ (bits w - n)) % 2 ^ bits w) (sym (eqb-true amount 0 h)))
+    around_made apart w amount regs within fits false h =
+        cut_composed w _ ∙ simp (dd, tt', td, d0, t0, q0, ne_eqb q t apart) (around w (regs q) amount (grind (arith, nat_tests)) within)
+
+  -- Of code that writes registers that work.
+  module _ (works : ℕ → Bool) (wd : works d ≡ true) (wt : works t ≡ true) where
+    pub cut_plain : (w : Width) → only_computes works (cut_code d w) ≡ true
+    cut_plain W32 = refl
+    cut_plain width = simp (d32, wd)
+
+    module _ {q : ℕ} (source : IsFree q) where
+      move_when_plain : (same : Bool) → only_computes works (move_by source same) ≡ true
+      move_when_plain true = refl
+      move_when_plain false = simp (d32, q32 source, wd)
+
+      pub move_plain : only_computes works (move_code d q) ≡ true
+      move_plain = move_when_plain (d == q)
+
+      narrow_plain : (w : Width) → only_computes works (narrow_code d q w) ≡ true
+      narrow_plain W32 = refl
+      narrow_plain width = simp (d32, q32 source, wd)
+
+      pub prefix_plain : (operator : PrefixOperator) (w : Width) → only_computes works (prefix_code d q operator w) ≡ true
+      prefix_plain Not w = simp (d32, q32 source, wd)
+      prefix_plain operator w = simp (d32, q32 source, wd, cut_plain w)
+
+      around_plain : (w : Width) (amount : ℕ) → amount < bits w → (none : Bool) → (amount == 0) ≡ none → only_computes works (around_by source w amount none) ≡ true
+      around_plain w amount within true h = move_plain
+      around_plain w amount within false h =
+          let some : 0 < amount = grind (arith, nat_tests) in
+          simp (wd, wt, d32, t32, q32 source, lt-ltb amount 32 (omega (arith, (narrow w).1)), lt-ltb (bits w - amount) 32 (omega (arith, (narrow w).1)), cut_plain w)
+
+    module _ {r : ℕ} (source : IsFree r) where
+      pub convert_plain : (w : Width) → only_computes works (convert_code d r w) ≡ true
+      convert_plain w = plain_append works (narrow_code d r w) (move_code d (narrowed_in d r w)) (narrow_plain source w) (move_plain (narrowed_free source w))
+
+      pub rotate_plain : (w : Width) (amount : ℕ) → only_computes works (narrow_code d r w ++ around_by (narrowed_free source w) w (amount % bits w) (amount % bits w == 0)) ≡ true
+      rotate_plain w amount =
+          let n = amount % bits w in
+          plain_append works (narrow_code d r w) (around_by (narrowed_free source w) w n (n == 0)) (narrow_plain source w)
+          (around_plain (narrowed_free source w) w n (mod_below amount (bits w) (narrow w).0) (n == 0) refl)
+
+      -- Operators.
+      pub operator_plain : {l : ℕ} → IsFree l → (operator : BinaryOperator) (w : Width) → is_plain (row_of operator).step ≡ true → only_computes works (operator_code d t l r operator w) ≡ true
+      operator_plain first Multiply w plain = absurd (false≢true plain)
+      operator_plain first Divide w plain = absurd (false≢true plain)
+      operator_plain first Remainder w plain = absurd (false≢true plain)
+      operator_plain first operator w plain = simp (wd, wt, d32, t32, q32 first, q32 source, cut_plain w)
+
+      -- of which the mask comes into m
+      pub choice_plain : {m c l : ℕ} → IsFree m → works m ≡ true → IsFree c → IsFree l → only_computes works (choice_code d m t c l r) ≡ true
+      choice_plain mask wm condition first = simp (wd, wt, wm, d32, t32, q32 mask, q32 condition, q32 first, q32 source)
+
+  module _ {r : ℕ} (source : IsFree r) where
+    pub convert_made : (w : Width) (regs : ℕ → ℕ) → regs r < 2 ^ 32 → registers_after (convert_code d r w) regs d ≡ converted w (regs r)
+    convert_made w regs fits =
+        let cut = narrow_made source w regs fits in
+        ap (λ (after : ℕ → ℕ). after d) (after_append (narrow_code d r w) (move_code d (narrowed_in d r w)) regs)
+        ∙ (move_made (narrowed_free source w) (registers_after (narrow_code d r w) regs) (subst (λ v. v < 2 ^ 32) (sym cut) (word_fits w (converted w (regs r)) (mod_below (regs r) (2 ^ bits w) (pow_pos (bits w)))))
+        ∙ cut)
+
+    narrowed_apart : r ≢ t → (w : Width) → narrowed_in d r w ≢ t
+    narrowed_apart apart W32 = apart
+    narrowed_apart apart width = pair.apart
+
+    pub rotate_made : r ≢ t → (w : Width) (amount : ℕ) (regs : ℕ → ℕ) → regs r < 2 ^ 32
+        → registers_after (narrow_code d r w ++ around_by (narrowed_free source w) w (amount % bits w) (amount % bits w == 0)) regs d ≡ rotated_left w (regs r) amount
+    rotate_made apart w amount regs fits =
+        let n = amount % bits w in
+        let cut = narrow_made source w regs fits in
+        ap (λ (after : ℕ → ℕ). after d) (after_append (narrow_code d r w) (around_by (narrowed_free source w) w n (n == 0)) regs)
+        ∙ (around_made (narrowed_free source w) (narrowed_apart apart w) w n (registers_after (narrow_code d r w) regs) (mod_below amount (bits w) (narrow w).0)
+        (subst (λ v. v < 2 ^ bits w) (sym cut) (mod_below (regs r) (2 ^ bits w) (pow_pos (bits w)))) (n == 0) refl
+        ∙ ap (λ v. (v * 2 ^ n + v / 2 ^ (bits w - n)) % 2 ^ bits w) cut)
+
+    module _ {l : ℕ} (first : IsFree l) where
+      pub operator_made : l ≢ t → (operator : BinaryOperator) (w : Width) → is_plain (row_of operator).step ≡ true → (regs : ℕ → ℕ) → regs l < 2 ^ 32 → regs r < 2 ^ 32
+          → registers_after (operator_code d t l r operator w) regs d ≡ operated operator w (regs l) (regs r)
+      operator_made apart Either w plain regs left right = simp (dd, tt', td, d0, t0, q0 first, q0 source, ne_eqb l t apart) (grind (arith, nat_tests))
+      operator_made apart Both w plain regs left right = simp (dd, tt', td, d0, t0, q0 first, q0 source, ne_eqb l t apart) (grind (arith, nat_tests))
+      operator_made apart Equal w plain regs left right = simp (dd, d0, q0 first, q0 source) (grind (arith, nat_tests))
+      operator_made apart Unequal w plain regs left right = simp (dd, d0, q0 first, q0 source) (grind (arith, nat_tests))
+      operator_made apart LessOrEqual w plain regs left right = simp (dd, d0, q0 first, q0 source) (grind (arith, nat_tests))
+      operator_made apart GreaterOrEqual w plain regs left right = simp (dd, d0, q0 first, q0 source) (grind (arith, nat_tests))
+      operator_made apart ShiftLeft w plain regs left right = cut_composed w _ ∙ simp (dd, d0, q0 first, q0 source) (cut_whole w (regs l * 2 ^ (regs r % 32)))
+      operator_made apart ShiftRight w plain regs left right = cut_composed w _ ∙ simp (dd, d0, q0 first, q0 source) (cut_whole w (regs l / 2 ^ (regs r % 32)))
+      operator_made apart Add w plain regs left right = cut_composed w _ ∙ simp (dd, d0, q0 first, q0 source) (cut_whole w (regs l + regs r))
+      operator_made apart Subtract w plain regs left right =
+          cut_composed w _ ∙ simp (dd, d0, q0 first, q0 source) (cut_whole w (regs l + (2 ^ 32 - regs r % 2 ^ 32)) ∙ cut_difference w (regs l) (regs r) right)
+      operator_made apart Multiply w plain regs left right = absurd (false≢true plain)
+      operator_made apart Divide w plain regs left right = absurd (false≢true plain)
+      operator_made apart Remainder w plain regs left right = absurd (false≢true plain)
+      operator_made apart operator w plain regs left right = simp (dd, d0, q0 first, q0 source)
+
+      -- Choices, with the mask in m.
+      pub choice_made : {m c : ℕ} → IsFree m → IsFree c → m ≢ t → l ≢ m → r ≢ m → r ≢ t → (regs : ℕ → ℕ) → registers_after (choice_code d m t c l r) regs d ≡ chosen (regs c) (regs l) (regs r)
+      choice_made {m = m} {c = c} mask condition mt lm rm rt regs =
+          simp (dd, tt', eq-eqb m m refl, ne_eqb m t mt, ne_eqb l m lm, ne_eqb r m rm, ne_eqb r t rt, d0, t0, q0 mask, q0 condition, q0 first, q0 source)

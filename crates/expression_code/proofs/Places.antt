@@ -1,5 +1,5 @@
 -- Where variables and their elements lie: no two of them overlap, and the offsets that are listed are those that are defined.
-use Rattle.std.proofs.Common.{◌≡◌, ℕ, zero, suc, ◌+◌, ◌*◌, ◌/◌, ◌%◌, ◌<◌, ◌≤◌, ◌==◌, ◌⊎◌, ⊎_elim, inl, inr, false, List, [], ◌∷◌, length, get_or, take, Option, Some, None, slice_get, refl, sym, ap, ◌∙◌, arith}
+use Rattle.std.proofs.Common.{◌≡◌, ℕ, zero, suc, ◌+◌, ◌*◌, ◌/◌, ◌%◌, ◌<◌, ◌≤◌, ◌==◌, ◌⊎◌, ⊎_elim, inl, inr, false, List, [], ◌∷◌, length, get_or, take, Option, Some, None, slice_get, unwrap_or, refl, sym, ap, ◌∙◌, arith}
 use Rattle.std.proofs.Math.Seq.{take-length}
 use Rattle.expression_code.proofs.Below.{nat_tests, cases_lt, mul-le, variable_offset, result_offset, offsets_from, kind_at}
 use Rattle.expression_code.proofs.Below.{Boolean}
@@ -78,6 +78,11 @@ offset_at low (d ∷ ds) (suc x) e below = omega (arith, offset_at (low + 4 * wo
 
 pub offset_listed : (ds : List FlatVariable) (x e : ℕ) → x < length ds + 1 → get_or (offsets_from 0 ds) x e ≡ variable_offset ds x
 offset_listed ds x e below = omega (arith, offset_at 0 ds x e below)
+
+-- as it is looked up
+pub offset_found : (ds : List FlatVariable) (x : ℕ) → x < length ds → unwrap_or (slice_get (offsets_from 0 ds) x) 0 ≡ variable_offset ds x
+offset_found ds x below =
+    ap (λ (o : Option ℕ). unwrap_or o 0) (slice_get-get_or (offsets_from 0 ds) x 0 (omega (arith, below, offsets_count 0 ds))) ∙ offset_listed ds x 0 (omega (arith, below))
 
 pub end_listed : (ds : List FlatVariable) (e : ℕ) → get_or (offsets_from 0 ds) (length ds) e ≡ result_offset ds
 end_listed ds e = offset_listed ds (length ds) e (omega arith) ∙ ap (λ (front : List FlatVariable). 4 * declared_words front) (take-length ds)

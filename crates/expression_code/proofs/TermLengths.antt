@@ -1,7 +1,7 @@
 -- What is known of a term: how many temporaries it has at once, how many instructions it is, and which variables it names.
 use Rattle.std.proofs.Common.{◌≡◌, ℕ, ◌+◌, ◌*◌, ◌%◌, ◌<◌, ◌≤◌, ◌==◌, Bool, true, false, cond, nat_lt, List, length, Some, arith, length-append}
 use Rattle.std.proofs.lemmas.Option.{slice_get_within}
-use Rattle.expression_code.proofs.Below.{address_code, around_code, binary, BinaryOperator, bits, constant_code, convert, cut_code, element, expr_code, fetch_code, Finish, finish_code, FlatVariable, HasType, height_of, Instr, IsAmong, keep_code, Kind, load_code, narrowed, of_binary, of_conversion, of_element, of_number, of_prefix, of_rotation, of_selection, of_truth, of_variable, operator_code, prefix, prefix_code, PrefixOperator, Profile, raise_code, register_count, rotate, rotate_code, row_of, scale_code, select, slot_of, step_code, store_code, term_nodes, TermTree, Types, types_of, Width, WordType}
+use Rattle.expression_code.proofs.Below.{address_code, Allocation, around_code, binary, BinaryOperator, bits, constant_code, convert, convert_code, copy_code, cut_code, element, expr_code, fetch_code, Finish, finish_code, FlatVariable, HasType, height_of, InRegister, InSlot, Instr, into_code, IsAmong, is_at_home, keep_code, Kind, load_code, Location, move_code, narrow_code, narrowed, narrowed_in, of_binary, of_conversion, of_element, of_number, of_prefix, of_rotation, of_selection, of_truth, of_variable, operator_code, placed_code, prefix, prefix_code, PrefixOperator, Profile, raise_code, rotate, rotate_code, row_of, scale_code, select, Step, store_code, temporary, term_nodes, TermTree, Types, types_of, variable, variable_location, Width, WordType, working_register}
 use Rattle.language.specs.declared.signature.Kind.TheVariants.{Boolean}
 use Rattle.language.specs.declared.tree.PrefixOperator.TheVariants as prefixes
 use Rattle.word.specs.declared.width.Width.TheVariants.{W8}
@@ -49,53 +49,81 @@ store_length r o = one_of (nat_lt o 2048) _ _ 3 (omega arith) (omega arith)
 pub constant_length : (r n : ℕ) → length (constant_code r n) ≤ 2
 constant_length r n = one_of (nat_lt n 2048) _ _ 2 (omega arith) (omega arith)
 
-fetch_length : (free place spare : ℕ) → length (fetch_code free place spare) ≤ 3
-fetch_length free place spare = one_of (nat_lt place register_count) _ _ 3 (omega arith) (load_length spare (slot_of free place))
+pub move_length : (d r : ℕ) → length (move_code d r) ≤ 1
+move_length d r = one_of (d == r) _ _ 1 (omega arith) (omega arith)
 
-keep_length : (free place : ℕ) → length (keep_code free place) ≤ 3
-keep_length free place = one_of (nat_lt place register_count) _ _ 3 (omega arith) (store_length 29 (slot_of free place))
+copy_length : (d : ℕ) (l : Location) → length (copy_code d l) ≤ 3
+copy_length d (InRegister r) = omega (arith, move_length d r)
+copy_length d (InSlot o) = load_length d o
+
+fetch_length : (l : Location) (spare : ℕ) → length (fetch_code l spare) ≤ 3
+fetch_length (InRegister r) spare = omega arith
+fetch_length (InSlot o) spare = load_length spare o
+
+keep_length : (l : Location) → length (keep_code l) ≤ 3
+keep_length (InRegister r) = omega arith
+keep_length (InSlot o) = store_length 29 o
+
+narrow_length : (d r : ℕ) (w : Width) → length (narrow_code d r w) ≤ 2
+narrow_length d r W8 = omega arith
+narrow_length d r width = omega arith
 
 pub cut_length : (r : ℕ) (w : Width) → length (cut_code r w) ≤ 2
-cut_length r W8 = omega arith
-cut_length r width = omega arith
+cut_length r w = narrow_length r r w
 
-finish_length : (l r : ℕ) (w : Width) (f : Finish) (i : Instr) → length (finish_code l r w f i) ≤ 4
-finish_length l r w narrowed i = omega (arith, cut_length l w)
-finish_length l r w finish i = omega arith
+pub convert_length : (d r : ℕ) (w : Width) → length (convert_code d r w) ≤ 3
+convert_length d r w = simp length-append (omega (arith, narrow_length d r w, move_length d (narrowed_in d r w)))
 
-pub operator_length : (l r : ℕ) (o : BinaryOperator) (w : Width) → length (operator_code l r o w) ≤ 4
-operator_length l r o w = finish_length l r w (row_of o).finish (step_code l r (row_of o).step)
+finish_length : (d t l r : ℕ) (w : Width) (f : Finish) (step : Step) → length (finish_code d t l r w f step) ≤ 4
+finish_length d t l r w narrowed step = omega (arith, cut_length d w)
+finish_length d t l r w finish step = omega arith
 
-pub prefix_length : (r : ℕ) (o : PrefixOperator) (w : Width) → length (prefix_code r o w) ≤ 4
-prefix_length r prefixes.Not w = omega arith
-prefix_length r operator w = omega (arith, cut_length r w)
+pub operator_length : (d t l r : ℕ) (o : BinaryOperator) (w : Width) → length (operator_code d t l r o w) ≤ 4
+operator_length d t l r o w = finish_length d t l r w (row_of o).finish (row_of o).step
 
-pub rotate_length : (r : ℕ) (w : Width) (amount : ℕ) → length (rotate_code r w amount) ≤ 7
-rotate_length r w amount =
-    let around : length (around_code r w (amount % bits w)) ≤ 5 = one_of (amount % bits w == 0) _ _ 5 (omega arith) (omega (arith, cut_length r w)) in
-    simp length-append (omega (arith, cut_length r w, around))
+pub prefix_length : (d r : ℕ) (o : PrefixOperator) (w : Width) → length (prefix_code d r o w) ≤ 4
+prefix_length d r prefixes.Not w = omega arith
+prefix_length d r operator w = omega (arith, cut_length d w)
 
-scale_length : (r : ℕ) (kind : Kind) → length (scale_code r kind) ≤ 1
-scale_length r Boolean = omega arith
-scale_length r kind = omega arith
+pub rotate_length : (d r : ℕ) (w : Width) (amount : ℕ) → length (rotate_code d r w amount) ≤ 7
+rotate_length d r w amount =
+    let around : length (around_code d (narrowed_in d r w) w (amount % bits w)) ≤ 5 =
+    one_of (amount % bits w == 0) _ _ 5 (omega (arith, move_length d (narrowed_in d r w))) (omega (arith, cut_length d w)) in
+    simp length-append (omega (arith, narrow_length d r w, around))
 
-pub address_length : (r : ℕ) (kind : Kind) (o : ℕ) → length (address_code r kind o) ≤ 4
-address_length r kind o =
-    let raise : length (raise_code r o) ≤ 2 = one_of (nat_lt o 2048) _ _ 2 (omega arith) (omega arith) in
-    simp length-append (omega (arith, scale_length r kind, raise))
+scale_length : (d r : ℕ) (kind : Kind) → length (scale_code d r kind) ≤ 2
+scale_length d r Boolean = omega arith
+scale_length d r kind = omega arith
 
--- at most 16 instructions a node
-pub expr_length : (declared : List FlatVariable) (free place : ℕ) (e : TermTree) → length (expr_code declared free place e) ≤ 16 * term_nodes e
-expr_length declared free place (prefix operator width operand) =
-    omega (arith, length-append {A = Instr}, expr_length declared free place operand, fetch_length, prefix_length, keep_length)
-expr_length declared free place (binary source operator width one other) =
-    omega (arith, length-append {A = Instr}, expr_length declared free place one, expr_length declared free (place + 1) other, fetch_length, operator_length, keep_length)
-expr_length declared free place (rotate width operand amount) =
-    omega (arith, length-append {A = Instr}, expr_length declared free place operand, fetch_length, rotate_length, keep_length)
-expr_length declared free place (convert kind operand) =
-    omega (arith, length-append {A = Instr}, expr_length declared free place operand, fetch_length, cut_length, keep_length)
-expr_length declared free place (select condition accepted otherwise) =
-    omega (arith, length-append {A = Instr}, expr_length declared free place condition, expr_length declared free (place + 1) accepted, expr_length declared free (place + 2) otherwise, fetch_length, keep_length)
-expr_length declared free place (element source x size index) =
-    omega (arith, length-append {A = Instr}, expr_length declared free place index, fetch_length, address_length, keep_length)
-expr_length declared free place e = omega (arith, length-append {A = Instr}, constant_length, load_length, keep_length)
+pub address_length : (d r : ℕ) (kind : Kind) (o : ℕ) → length (address_code d r kind o) ≤ 4
+address_length d r kind o =
+    let raise : length (raise_code d o) ≤ 2 = one_of (nat_lt o 2048) _ _ 2 (omega arith) (omega arith) in
+    simp length-append (omega (arith, scale_length d r kind, raise))
+
+-- at most 16 instructions a node, three fewer where none keep the value in its place
+module _ (declared : List FlatVariable) (a : Allocation) (free : ℕ) where
+  abbrev own : ℕ → ℕ
+  own place = working_register a.count place 29
+
+  placed_length : (place : ℕ) (e : TermTree) (is : List Instr) (n : ℕ) → length is + 3 ≤ n → length (placed_code declared a free place e is) ≤ n
+  placed_length place e is n few =
+      one_of (is_at_home a e) _ _ n (omega arith) (simp length-append (omega (arith, few, keep_length (temporary a.count free place))))
+
+  pub into_length : (d place : ℕ) (e : TermTree) → length (into_code declared a free d place e) + 3 ≤ 16 * term_nodes e
+  into_length d place (variable x) = omega (arith, copy_length d (variable_location declared a x))
+  into_length d place (prefix operator width operand) =
+      omega (arith, length-append {A = Instr}, placed_length place operand _ _ (into_length (own place) place operand), fetch_length, prefix_length)
+  into_length d place (binary source operator width one other) =
+      omega (arith, length-append {A = Instr}, placed_length place one _ _ (into_length (own place) place one), placed_length (place + 1) other _ _ (into_length (own (place + 1)) (place + 1) other), fetch_length, operator_length)
+  into_length d place (rotate width operand amount) =
+      omega (arith, length-append {A = Instr}, placed_length place operand _ _ (into_length (own place) place operand), fetch_length, rotate_length)
+  into_length d place (convert kind operand) =
+      omega (arith, length-append {A = Instr}, placed_length place operand _ _ (into_length (own place) place operand), fetch_length, convert_length)
+  into_length d place (select condition accepted otherwise) =
+      omega (arith, length-append {A = Instr}, placed_length place condition _ _ (into_length (own place) place condition), placed_length (place + 1) accepted _ _ (into_length (own (place + 1)) (place + 1) accepted), placed_length (place + 2) otherwise _ _ (into_length (own (place + 2)) (place + 2) otherwise), fetch_length)
+  into_length d place (element source x size index) =
+      omega (arith, length-append {A = Instr}, placed_length place index _ _ (into_length (own place) place index), fetch_length, address_length)
+  into_length d place e = omega (arith, constant_length)
+
+  pub expr_length : (place : ℕ) (e : TermTree) → length (expr_code declared a free place e) ≤ 16 * term_nodes e
+  expr_length place e = placed_length place e _ _ (into_length (own place) place e)

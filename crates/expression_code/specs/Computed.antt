@@ -1,10 +1,14 @@
--- What the machine does on the code of an expression, wherever that stands and whichever the place of its value: the value
--- comes there, the temporaries of lower places stay, and what is shown is decided by what the code's observer sees of the path.
-use Rattle.std.specs.Prelude.{◌≡◌, ℕ, ◌+◌, ◌*◌, ◌%◌, ◌^◌, ◌<◌, ◌≤◌, true, List, [], length, Option, Some, All, is_some, slice_get, slice_index, if◌then◌else◌}
+-- What the machine does on the code of an expression, wherever that stands and whichever the place of its value: the
+-- value is then where the expression is, in the home of a variable or in its place, the homes and the temporaries of
+-- lower places stay, and what is shown is decided by what the code's observer sees of the path.
+use Rattle.std.specs.Prelude.{◌≡◌, ℕ, ◌+◌, ◌*◌, ◌%◌, ◌^◌, ◌<◌, ◌≤◌, true, List, [], length, Option, None, Some, All, is_some, slice_get, slice_index}
+use Rattle.expression_code.specs.Allocation.{Allocation, IsAllocation, home_of, temporary, slots_to}
 use Rattle.expression_code.specs.Inside.{IsInside}
 use Rattle.expression_code.specs.Layout.{bytes_of, place_of, result_offset}
-use Rattle.expression_code.specs.Registers.{frame_register, value_register, has_register, slot_of, slots_to}
-use Rattle.expression_code.specs.TermCode.{expr_code, height_of}
+use Rattle.expression_code.specs.Registers.{frame_register}
+use Rattle.expression_code.specs.TermCode.{expr_code, operand, height_of}
+use Rattle.expression_code.specs.declared.locations.Location.{Location}
+use Rattle.expression_code.specs.declared.locations.Location.TheVariants.{InRegister, InSlot}
 use Rattle.inline.specs.declared.flat.FlatVariable.{FlatVariable}
 use Rattle.inline.specs.Fitting.{Fits}
 use Rattle.inline.specs.Flat.{TermTree, numbers_in}
@@ -13,43 +17,58 @@ use Rattle.inline.specs.FlatSize.{term_nodes}
 use Rattle.inline.specs.FlatTyping.{types_of}
 use Rattle.inline.specs.Path.{Path, AreFine, seen}
 pub use Rattle.program_logic.specs.Placed.{Placed}
+use Rattle.rv_code.specs.declared.instructions.Instr.{Instr}
 use Rattle.rv_machine.specs.Bytes.{number_at}
 use Rattle.rv_machine.specs.Leakage.{Leads}
 use Rattle.rv_machine.specs.Machine.{State, Code}
 use Rattle.rv_machine.specs.declared.observation.Observation.{Observation}
 
--- where code begins, where the frame lies and how many bytes it has, the variables in it, where the slots of temporaries
--- begin, and the place that the value comes into
+-- where code begins, where the frame lies and how many bytes it has, the variables in it and how registers are given
+-- out, where the slots of temporaries begin, and the place that the value comes into
 pub record Site : Type 0 where
   pub code : Code
   pub start : ℕ
   pub frame : ℕ
   pub size : ℕ
   pub declared : List FlatVariable
+  pub allocation : Allocation
   pub free : ℕ
   pub place : ℕ
 
--- the expression's code stands there, and the slots of its temporaries lie in the frame, behind the variables and the result
+abbrev pub code_of : Site → TermTree → List Instr
+code_of site e = expr_code site.declared site.allocation site.free site.place e
+
+-- the expression's code stands there, and the slots of its temporaries lie in the frame, behind the variables and the
+-- result
 pub record IsSiteOf (e : TermTree) (site : Site) : Type 0 where
-  pub placed : Placed site.code site.start (expr_code site.declared site.free site.place e)
+  pub placed : Placed site.code site.start (code_of site e)
+  pub allocated : IsAllocation site.declared site.allocation
   pub even : site.frame % 4 ≡ 0
   pub ends : site.frame + site.size < 2 ^ 32
   pub aligned : site.free % 4 ≡ 0
   pub above : result_offset site.declared + 4 ≤ site.free
-  pub room : site.free + 4 * slots_to (height_of e + site.place) ≤ site.size
+  pub room : site.free + 4 * slots_to site.allocation.count (height_of e + site.place) ≤ site.size
 
--- x2 has the frame's base, the frame's bytes are data, and the variables have these values, which are within their kinds
+-- the word at a location
+abbrev pub word_in : Site → State → Location → Option ℕ
+word_in site s (InRegister register) = Some (s.regs register)
+word_in site s (InSlot offset) = number_at s.bytes 4 (site.frame + offset)
+
+-- the temporary of a place
+abbrev pub temporary_in : Site → State → ℕ → Option ℕ
+temporary_in site s place = word_in site s (temporary site.allocation.count site.free place)
+
+-- x2 has the frame's base, the frame's bytes are data, and the variables have these values, which are within their kinds,
+-- in their homes or in the frame
 pub record Has (site : Site) (m : Values) (s : State) : Type 0 where
   pub base : s.regs frame_register ≡ site.frame
   pub data_there : (o : ℕ) → o < site.size → is_some (s.bytes (site.frame + o)) ≡ true
   pub fits : Fits (types_of site.code.profile site.declared) m
-  pub variables_there : (x : ℕ) (d : FlatVariable) (i : ℕ) → slice_get site.declared x ≡ Some d → i < numbers_in d.elements
+  pub homes_there : (x home : ℕ) (d : FlatVariable) → slice_get site.declared x ≡ Some d
+      → home_of site.allocation.homes x ≡ Some home → s.regs home ≡ slice_index (m x) 0
+  pub variables_there : (x : ℕ) (d : FlatVariable) (i : ℕ) → slice_get site.declared x ≡ Some d
+      → home_of site.allocation.homes x ≡ None → i < numbers_in d.elements
       → number_at s.bytes (bytes_of d) (site.frame + place_of site.declared x d i) ≡ Some (slice_index (m x) i)
-
--- the temporary of a place: what its register has, or the word in its slot
-abbrev pub temporary_in : Site → State → ℕ → Option ℕ
-temporary_in site s place =
-    if has_register place then Some (s.regs (value_register + place)) else number_at s.bytes 4 (site.frame + slot_of site.free place)
 
 -- a run from a state to behind the code, which shows this list
 pub record RunsThrough (e : TermTree) (site : Site) (m : Values) (s : State) (list : List Observation) : Type 0 where
@@ -58,8 +77,9 @@ pub record RunsThrough (e : TermTree) (site : Site) (m : Values) (s : State) (li
   pub leads : Leads site.code turns s list end
   pub few : turns ≤ 16 * term_nodes e
   pub inside : All (λ (o : Observation). IsInside site.frame site.size o.event) list
-  pub behind : end.pc ≡ site.start + 4 * length (expr_code site.declared site.free site.place e)
-  pub value : temporary_in site end site.place ≡ Some (value_in m e)
+  pub behind : end.pc ≡ site.start + 4 * length (code_of site e)
+  pub value : word_in site end (operand site.allocation site.free site.place e) ≡ Some (value_in m e)
+  pub homes : (x home : ℕ) → home_of site.allocation.homes x ≡ Some home → end.regs home ≡ s.regs home
   pub lower : (place : ℕ) → place < site.place → temporary_in site end place ≡ temporary_in site s place
   pub base : end.regs frame_register ≡ site.frame
   pub kept : (o : ℕ) → o < site.free → end.bytes (site.frame + o) ≡ s.bytes (site.frame + o)

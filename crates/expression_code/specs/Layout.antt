@@ -1,6 +1,9 @@
 -- Where a program's words lie in the frame: the variables, of which the parameters are the first, then the result, the
 -- control values, two words for each loop that others are in, and the temporaries. All these offsets are multiples of 4.
 use Rattle.std.specs.Prelude.{ℕ, ◌+◌, ◌*◌, List, [], ◌∷◌, Option, None, Some, take}
+use Rattle.expression_code.specs.Allocation.{Allocation, home_of, at_home}
+use Rattle.expression_code.specs.declared.locations.Location.{Location}
+use Rattle.expression_code.specs.declared.locations.Location.TheVariants.{InSlot}
 use Rattle.image_fields.specs.declared.slot.Slot.{Slot}
 use Rattle.inline.specs.declared.flat.FlatVariable.{FlatVariable}
 use Rattle.inline.specs.Flat.{declaration_of}
@@ -9,15 +12,20 @@ use Rattle.language.specs.Size.{element_bytes}
 use Rattle.language.specs.declared.signature.Kind.{Kind}
 use Rattle.language.specs.declared.signature.Param.{Param}
 
--- what is laid out: variables, control values, and loops one in the other
+-- what is laid out: variables, control values, and loops one in the other; and how registers are given out
 pub record Frame : Type 0 where
   pub declared : List FlatVariable
   pub controls : ℕ
   pub depths : ℕ
+  pub allocation : Allocation
 
 -- a variable, behind all of lower numbers
 abbrev pub variable_offset : List FlatVariable → ℕ → ℕ
 variable_offset declared x = 4 * declared_words (take x declared)
+
+-- where a variable is
+abbrev pub variable_location : List FlatVariable → Allocation → ℕ → Location
+variable_location declared allocation x = at_home (home_of allocation.homes x) (InSlot (variable_offset declared x))
 
 -- how many bytes a word takes, or an element
 abbrev pub bytes_by : Kind → Option ℕ → ℕ

@@ -1,5 +1,6 @@
 pub mod Layout
 pub mod Registers
+pub mod Allocation
 pub mod TermCode
 pub mod Inside
 pub mod Computed

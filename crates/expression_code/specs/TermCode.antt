@@ -1,7 +1,10 @@
 -- The instructions that are emitted for slots, numbers, operators and expressions.
-use Rattle.std.specs.Prelude.{ℕ, zero, suc, ◌+◌, ◌-◌, ◌/◌, ◌%◌, ◌^◌, ◌==◌, ◌<◌, Bool, List, [], ◌∷◌, ◌++◌, max, nat_lt, if◌then◌else◌}
-use Rattle.expression_code.specs.Layout.{variable_offset}
-use Rattle.expression_code.specs.Registers.{zero_register, frame_register, address_register, first_spare, second_spare, third_spare, has_register, home, slot_of}
+use Rattle.std.specs.Prelude.{ℕ, zero, suc, ◌+◌, ◌-◌, ◌/◌, ◌%◌, ◌^◌, ◌==◌, ◌<◌, Bool, false, List, [], ◌∷◌, ◌++◌, max, nat_lt, is_some, if◌then◌else◌}
+use Rattle.expression_code.specs.Layout.{variable_offset, variable_location}
+use Rattle.expression_code.specs.Allocation.{register_of, Allocation, home_of, temporary, working_register, at_home}
+use Rattle.expression_code.specs.declared.locations.Location.{Location}
+use Rattle.expression_code.specs.declared.locations.Location.TheVariants.{InRegister, InSlot}
+use Rattle.expression_code.specs.Registers.{zero_register, frame_register, address_register, first_spare, second_spare, third_spare}
 use Rattle.inline.specs.declared.flat.FlatVariable.{FlatVariable}
 use Rattle.inline.specs.Flat.{TermTree, number, truth, variable, prefix, binary, rotate, convert, select, element}
 use Rattle.rv_code.specs.declared.instructions.Instr.{Instr}
@@ -64,55 +67,78 @@ constant_code register n =
     then Immediate Addi register zero_register n ∷ []
     else Upper Lui register (upper_part n) ∷ Immediate Addi register register (lower_part n) ∷ []
 
--- Temporaries. An operator works on the registers that are its operands' homes, and its result comes into the home of
--- the first, which is that of the result.
+-- a register into another
+abbrev pub move_code : ℕ → ℕ → List Instr
+move_code d r = if d == r then [] else Immediate Addi d r 0 ∷ []
 
--- a temporary that lies in a slot into a spare register
-abbrev pub fetch_code : ℕ → ℕ → ℕ → List Instr
-fetch_code free place spare = if has_register place then [] else load_code spare (slot_of free place)
+-- a word into a register
+abbrev pub copy_code : ℕ → Location → List Instr
+copy_code d (InRegister r) = move_code d r
+copy_code d (InSlot offset) = load_code d offset
 
--- what is in the home of a place, kept there
-abbrev pub keep_code : ℕ → ℕ → List Instr
-keep_code free place = if has_register place then [] else store_code first_spare (slot_of free place)
+-- a word that lies in a slot into a spare register
+abbrev pub fetch_code : Location → ℕ → List Instr
+fetch_code (InRegister r) spare = []
+fetch_code (InSlot offset) spare = load_code spare offset
 
--- Operators, on the register r of one operand, or on l and r of two.
+-- what is in the register of a location whose spare one is the first, kept there
+abbrev pub keep_code : Location → List Instr
+keep_code (InRegister r) = []
+keep_code (InSlot offset) = store_code first_spare offset
+
+-- Operators, on the register r of one operand, or on l and r of two, into a register d. These may be any registers, and
+-- no other is written but one that the operator is given for that.
+
+-- cut to a width, where a narrow one is into d
+abbrev pub narrow_code : ℕ → ℕ → Width → List Instr
+narrow_code d r W8 = Immediate Andi d r 255 ∷ []
+narrow_code d r W16 = Shift Slli d r 16 ∷ Shift Srli d d 16 ∷ []
+narrow_code d r W32 = []
+
+-- the register that the cut is in then
+abbrev pub narrowed_in : ℕ → ℕ → Width → ℕ
+narrowed_in d r W8 = d
+narrowed_in d r W16 = d
+narrowed_in d r W32 = r
+
+-- a register cut to a width, in its place
+abbrev pub cut_code : ℕ → Width → List Instr
+cut_code r w = narrow_code r r w
 
 -- cut to a width
-abbrev pub cut_code : ℕ → Width → List Instr
-cut_code r W8 = Immediate Andi r r 255 ∷ []
-cut_code r W16 = Shift Slli r r 16 ∷ Shift Srli r r 16 ∷ []
-cut_code r W32 = []
+abbrev pub convert_code : ℕ → ℕ → Width → List Instr
+convert_code d r w = narrow_code d r w ++ move_code d (narrowed_in d r w)
 
 -- 1 where it is 0, and else 0
-abbrev pub is_zero_code : ℕ → List Instr
-is_zero_code r = Immediate Sltiu r r 1 ∷ []
+abbrev pub is_zero_code : ℕ → ℕ → List Instr
+is_zero_code d r = Immediate Sltiu d r 1 ∷ []
 
--- 0 where it is 0, and else 1
+-- 0 where a register is 0, and else 1, in its place
 abbrev pub is_not_zero_code : ℕ → List Instr
 is_not_zero_code r = Register Sltu r zero_register r ∷ []
 
--- 0 where the right operand is 0, and else 1; and so of the left one
-abbrev pub both_truths_code : ℕ → ℕ → List Instr
-both_truths_code l r = Register Sltu r zero_register r ∷ is_not_zero_code l
+-- 0 where the right operand is 0, and else 1, into t; and so of the left one into d
+abbrev pub both_truths_code : ℕ → ℕ → ℕ → ℕ → List Instr
+both_truths_code d t l r = Register Sltu t zero_register r ∷ Register Sltu d zero_register l ∷ []
 
 -- 0 less it
-abbrev pub negation_code : ℕ → List Instr
-negation_code r = Register Sub r zero_register r ∷ []
+abbrev pub negation_code : ℕ → ℕ → List Instr
+negation_code d r = Register Sub d zero_register r ∷ []
 
 -- Each operator between two operands is a row: an instruction between them, and what is made of its outcome.
 
--- into the first: of both, of both turned round, the lower half of their product, or their quotient or remainder
+-- into d: of both, of both turned round, the lower half of their product, or their quotient or remainder
 pub data Step : Type 0 where
   between : (operation : RegisterOperation) → Step
   turned : (operation : RegisterOperation) → Step
   product : Step
   division : (operation : DivideOperation) → Step
 
-abbrev pub step_code : ℕ → ℕ → Step → Instr
-step_code l r (between operation) = Register operation l l r
-step_code l r (turned operation) = Register operation l r l
-step_code l r product = Multiply Mul l l r
-step_code l r (division operation) = Divide operation l l r
+abbrev pub step_code : ℕ → ℕ → ℕ → Step → Instr
+step_code d l r (between operation) = Register operation d l r
+step_code d l r (turned operation) = Register operation d r l
+step_code d l r product = Multiply Mul d l r
+step_code d l r (division operation) = Divide operation d l r
 
 -- nothing, whether it is 0, whether it is not, its cut, or nothing where the operands were made truths before
 pub data Finish : Type 0 where
@@ -122,12 +148,12 @@ pub data Finish : Type 0 where
   narrowed : Finish
   of_truths : Finish
 
-abbrev pub finish_code : ℕ → ℕ → Width → Finish → Instr → List Instr
-finish_code l r w alone i = i ∷ []
-finish_code l r w gives_zero i = i ∷ is_zero_code l
-finish_code l r w gives_more i = i ∷ is_not_zero_code l
-finish_code l r w narrowed i = i ∷ cut_code l w
-finish_code l r w of_truths i = both_truths_code l r ++ i ∷ []
+abbrev pub finish_code : ℕ → ℕ → ℕ → ℕ → Width → Finish → Step → List Instr
+finish_code d t l r w alone step = step_code d l r step ∷ []
+finish_code d t l r w gives_zero step = step_code d l r step ∷ is_zero_code d d
+finish_code d t l r w gives_more step = step_code d l r step ∷ is_not_zero_code d
+finish_code d t l r w narrowed step = step_code d l r step ∷ cut_code d w
+finish_code d t l r w of_truths step = both_truths_code d t l r ++ step_code d d t step ∷ []
 
 pub record Row : Type 0 where
   pub finish : Finish
@@ -155,38 +181,39 @@ row_of operators.Multiply = record { finish = narrowed; step = product }
 row_of operators.Divide = record { finish = alone; step = division Divu }
 row_of operators.Remainder = record { finish = alone; step = division Remu }
 
-abbrev pub operator_code : ℕ → ℕ → BinaryOperator → Width → List Instr
-operator_code l r operator w = finish_code l r w (row_of operator).finish (step_code l r (row_of operator).step)
+-- an operator between two operands, where t may be written as well
+abbrev pub operator_code : ℕ → ℕ → ℕ → ℕ → BinaryOperator → Width → List Instr
+operator_code d t l r operator w = finish_code d t l r w (row_of operator).finish (row_of operator).step
 
 -- The complement is one less than the number's negative.
-abbrev pub prefix_code : ℕ → PrefixOperator → Width → List Instr
-prefix_code r prefixes.Not w = is_zero_code r
-prefix_code r prefixes.Complement w = negation_code r ++ Immediate Addi r r 4095 ∷ cut_code r w
-prefix_code r prefixes.Negate w = negation_code r ++ cut_code r w
+abbrev pub prefix_code : ℕ → ℕ → PrefixOperator → Width → List Instr
+prefix_code d r prefixes.Not w = is_zero_code d r
+prefix_code d r prefixes.Complement w = negation_code d r ++ Immediate Addi d d 4095 ∷ cut_code d w
+prefix_code d r prefixes.Negate w = negation_code d r ++ cut_code d w
 
 -- its bits moved up by an amount below the width, and those that go past its end back in at the bottom
-abbrev pub around_code : ℕ → Width → ℕ → List Instr
-around_code r w amount =
-    if amount == 0 then [] else
-    Shift Slli second_spare r amount ∷ Shift Srli r r (bits w - amount) ∷ Register Add r second_spare r ∷ cut_code r w
+abbrev pub around_code : ℕ → ℕ → Width → ℕ → List Instr
+around_code d r w amount =
+    if amount == 0 then move_code d r else
+    Shift Slli second_spare r amount ∷ Shift Srli d r (bits w - amount) ∷ Register Add d second_spare d ∷ cut_code d w
 
-abbrev pub rotate_code : ℕ → Width → ℕ → List Instr
-rotate_code r w amount = cut_code r w ++ around_code r w (amount % bits w)
+abbrev pub rotate_code : ℕ → ℕ → Width → ℕ → List Instr
+rotate_code d r w amount = narrow_code d r w ++ around_code d (narrowed_in d r w) w (amount % bits w)
 
--- of three operands, the second where the first is 1 and the third where it is 0
-abbrev pub choice_code : ℕ → ℕ → ℕ → List Instr
-choice_code c l r =
-    Register Sub c zero_register c ∷ Register Xor l l r ∷ Register And l l c ∷ Register Xor c r l ∷ []
+-- of three operands, the second where the first is 1 and the third where it is 0; m gets the mask, and t what differs
+abbrev pub choice_code : ℕ → ℕ → ℕ → ℕ → ℕ → ℕ → List Instr
+choice_code d m t c l r =
+    Register Sub m zero_register c ∷ Register Xor t l r ∷ Register And t t m ∷ Register Xor d r t ∷ []
 
 -- Elements of arrays. An index in a register becomes the address of its element but for the lower part of the array's
 -- offset, which the access adds.
 
--- an index times the bytes of an element
-abbrev pub scale_code : ℕ → Kind → List Instr
-scale_code register Boolean = []
-scale_code register Uint8 = []
-scale_code register Uint16 = Shift Slli register register 1 ∷ []
-scale_code register Uint32 = Shift Slli register register 2 ∷ []
+-- an index times the bytes of an element, on the frame's base
+abbrev pub scale_code : ℕ → ℕ → Kind → List Instr
+scale_code d r Boolean = Register Add d r frame_register ∷ []
+scale_code d r Uint8 = Register Add d r frame_register ∷ []
+scale_code d r Uint16 = Shift Slli d r 1 ∷ Register Add d d frame_register ∷ []
+scale_code d r Uint32 = Shift Slli d r 2 ∷ Register Add d d frame_register ∷ []
 
 -- the upper part of an offset added to a register, where it has one
 abbrev pub raise_code : ℕ → ℕ → List Instr
@@ -195,9 +222,8 @@ raise_code register offset =
     Upper Lui address_register (upper_part offset) ∷ Register Add register register address_register ∷ []
 
 -- an index in a register into its element's address
-abbrev pub address_code : ℕ → Kind → ℕ → List Instr
-address_code register kind offset =
-    scale_code register kind ++ Register Add register register frame_register ∷ raise_code register offset
+abbrev pub address_code : ℕ → ℕ → Kind → ℕ → List Instr
+address_code d r kind offset = scale_code d r kind ++ raise_code d offset
 
 -- an element's load is as wide as the element
 abbrev pub load_by : Kind → LoadOperation
@@ -207,9 +233,8 @@ load_by Uint16 = Lhu
 load_by Uint32 = Lw
 
 -- the element at the index in a register, of an array of this kind at an offset
-abbrev pub element_code : ℕ → Kind → ℕ → List Instr
-element_code register kind offset =
-    address_code register kind offset ++ Load (load_by kind) register register (lower_part offset) ∷ []
+abbrev pub element_code : ℕ → ℕ → Kind → ℕ → List Instr
+element_code d r kind offset = address_code d r kind offset ++ Load (load_by kind) d d (lower_part offset) ∷ []
 
 -- the kind of a variable, or of its elements
 abbrev pub kind_at : List FlatVariable → ℕ → Kind
@@ -217,32 +242,78 @@ kind_at [] x = Uint32
 kind_at (d ∷ ds) zero = d.word.kind
 kind_at (d ∷ ds) (suc x) = kind_at ds x
 
--- An expression over these variables into a place. The slots of temporaries lie from an offset on. No operand is fetched
--- before the code of all of them is through.
-abbrev pub expr_code : List FlatVariable → ℕ → ℕ → TermTree → List Instr
-expr_code declared free place (number value kind) = constant_code (home place first_spare) value ++ keep_code free place
-expr_code declared free place (truth value) = constant_code (home place first_spare) (word_of value) ++ keep_code free place
-expr_code declared free place (variable x) = load_code (home place first_spare) (variable_offset declared x) ++ keep_code free place
-expr_code declared free place (prefix operator width operand) =
-    expr_code declared free place operand ++ fetch_code free place first_spare
-    ++ prefix_code (home place first_spare) operator width ++ keep_code free place
-expr_code declared free place (binary source operator width left right) =
-    expr_code declared free place left ++ expr_code declared free (place + 1) right
-    ++ fetch_code free place first_spare ++ fetch_code free (place + 1) second_spare
-    ++ operator_code (home place first_spare) (home (place + 1) second_spare) operator width ++ keep_code free place
-expr_code declared free place (rotate width operand amount) =
-    expr_code declared free place operand ++ fetch_code free place first_spare
-    ++ rotate_code (home place first_spare) width amount ++ keep_code free place
-expr_code declared free place (convert kind operand) =
-    expr_code declared free place operand ++ fetch_code free place first_spare
-    ++ cut_code (home place first_spare) (width_of kind) ++ keep_code free place
-expr_code declared free place (select condition accepted otherwise) =
-    expr_code declared free place condition ++ expr_code declared free (place + 1) accepted ++ expr_code declared free (place + 2) otherwise
-    ++ fetch_code free place first_spare ++ fetch_code free (place + 1) second_spare ++ fetch_code free (place + 2) third_spare
-    ++ choice_code (home place first_spare) (home (place + 1) second_spare) (home (place + 2) third_spare) ++ keep_code free place
-expr_code declared free place (element source x size index) =
-    expr_code declared free place index ++ fetch_code free place first_spare
-    ++ element_code (home place first_spare) (kind_at declared x) (variable_offset declared x) ++ keep_code free place
+-- Expressions.
+
+-- whether an expression is a variable that has a home: no code is needed for its value
+abbrev pub is_at_home : Allocation → TermTree → Bool
+is_at_home allocation (variable x) = is_some (home_of allocation.homes x)
+is_at_home allocation e = false
+
+-- where its value is behind its code: in that home, and else in its place
+abbrev pub operand : Allocation → ℕ → ℕ → TermTree → Location
+operand allocation free place (variable x) =
+    at_home (home_of allocation.homes x) (temporary allocation.count free place)
+operand allocation free place e = temporary allocation.count free place
+
+-- Over these variables, with registers given out so, and the slots of temporaries from an offset on.
+module _ (declared : List FlatVariable) (allocation : Allocation) (free : ℕ) where
+  -- the registers that the value of a place is computed in, and that of the next one
+  abbrev pub own_register : ℕ → ℕ
+  own_register place = working_register allocation.count place first_spare
+
+  abbrev pub next_register : ℕ → ℕ
+  next_register place = working_register allocation.count (place + 1) second_spare
+
+  -- the register that an operand is in, or a spare one
+  abbrev pub operand_register : ℕ → TermTree → ℕ → ℕ
+  operand_register place e spare = register_of (operand allocation free place e) spare
+
+  -- an operand into a spare register, where it lies in a slot
+  abbrev pub fetch_operand : ℕ → TermTree → ℕ → List Instr
+  fetch_operand place e spare = fetch_code (operand allocation free place e) spare
+
+  -- code that brings an expression into the register of a place, with which it comes there, unless it is at home
+  abbrev pub placed_code : ℕ → TermTree → List Instr → List Instr
+  placed_code place e into =
+      if is_at_home allocation e then [] else into ++ keep_code (temporary allocation.count free place)
+
+  -- An expression into a register, with its operands in the places from this one on. None is fetched before the code of
+  -- all of them is through.
+  abbrev pub into_code : ℕ → ℕ → TermTree → List Instr
+  into_code d place (number value kind) = constant_code d value
+  into_code d place (truth value) = constant_code d (word_of value)
+  into_code d place (variable x) = copy_code d (variable_location declared allocation x)
+  into_code d place (prefix operator width e) =
+      placed_code place e (into_code (own_register place) place e) ++ fetch_operand place e first_spare
+      ++ prefix_code d (operand_register place e first_spare) operator width
+  into_code d place (binary source operator width left right) =
+      placed_code place left (into_code (own_register place) place left)
+      ++ placed_code (place + 1) right (into_code (own_register (place + 1)) (place + 1) right)
+      ++ fetch_operand place left first_spare ++ fetch_operand (place + 1) right second_spare
+      ++ operator_code d (next_register place)
+      (operand_register place left first_spare) (operand_register (place + 1) right second_spare) operator width
+  into_code d place (rotate width e amount) =
+      placed_code place e (into_code (own_register place) place e) ++ fetch_operand place e first_spare
+      ++ rotate_code d (operand_register place e first_spare) width amount
+  into_code d place (convert kind e) =
+      placed_code place e (into_code (own_register place) place e) ++ fetch_operand place e first_spare
+      ++ convert_code d (operand_register place e first_spare) (width_of kind)
+  into_code d place (select condition accepted otherwise) =
+      placed_code place condition (into_code (own_register place) place condition)
+      ++ placed_code (place + 1) accepted (into_code (own_register (place + 1)) (place + 1) accepted)
+      ++ placed_code (place + 2) otherwise (into_code (own_register (place + 2)) (place + 2) otherwise)
+      ++ fetch_operand place condition first_spare ++ fetch_operand (place + 1) accepted second_spare
+      ++ fetch_operand (place + 2) otherwise third_spare
+      ++ choice_code d (own_register place) (next_register place)
+      (operand_register place condition first_spare) (operand_register (place + 1) accepted second_spare)
+      (operand_register (place + 2) otherwise third_spare)
+  into_code d place (element source x size index) =
+      placed_code place index (into_code (own_register place) place index) ++ fetch_operand place index first_spare
+      ++ element_code d (operand_register place index first_spare) (kind_at declared x) (variable_offset declared x)
+
+  -- an expression into a place, unless it is at home
+  abbrev pub expr_code : ℕ → TermTree → List Instr
+  expr_code place e = placed_code place e (into_code (own_register place) place e)
 
 -- how many temporaries an expression has at once, beside the one that it comes into
 abbrev pub height_of : TermTree → ℕ

@@ -75,16 +75,20 @@ pub fn constant(code: &mut Vec<Instr>, register: Reg, n: u32) -> Result<(), Allo
     Ok(())
 }
 
-/// An index in a register, times the bytes of an element.
-fn scale(code: &mut Vec<Instr>, register: Reg, kind: Kind) -> Result<(), AllocError>
-    ensures { OnOk result (code.new.items ≡ code.old.items ++ scale_code register kind) }
+/// An index in a register, times the bytes of an element, on the frame's base, into a register.
+fn scale(code: &mut Vec<Instr>, d: Reg, r: Reg, kind: Kind) -> Result<(), AllocError>
+    ensures { OnOk result (code.new.items ≡ code.old.items ++ scale_code d r kind) }
 {
     let times = match kind {
-        Kind::Boolean | Kind::Uint8 => return Ok(()),
+        Kind::Boolean | Kind::Uint8 => {
+            code.push(Instr::Register(RegisterOperation::Add, d, r, Reg::X2))?;
+            return Ok(());
+        }
         Kind::Uint16 => ShiftAmount::from_bits(1),
         Kind::Uint32 => ShiftAmount::from_bits(2),
     };
-    code.push(Instr::Shift(ShiftOperation::Slli, register, register, times))?;
+    code.push(Instr::Shift(ShiftOperation::Slli, d, r, times))?;
+    code.push(Instr::Register(RegisterOperation::Add, d, d, Reg::X2))?;
     Ok(())
 }
 
@@ -101,18 +105,19 @@ fn raise(code: &mut Vec<Instr>, register: Reg, offset: u32) -> Result<(), AllocE
     Ok(())
 }
 
-/// An index in a register becomes its element's address, but for the lower part of the array's offset.
+/// The address of the element at the index in a register, into a register, but for the lower part of the array's
+/// offset.
 pub fn address(
     code: &mut Vec<Instr>,
-    register: Reg,
+    d: Reg,
+    r: Reg,
     kind: Kind,
     offset: u32,
 ) -> Result<(), AllocError>
-    ensures { OnOk result (code.new.items ≡ code.old.items ++ address_code register kind offset) }
+    ensures { OnOk result (code.new.items ≡ code.old.items ++ address_code d r kind offset) }
 {
-    scale(code, register, kind)?;
-    code.push(Instr::Register(RegisterOperation::Add, register, register, Reg::X2))?;
-    raise(code, register, offset)
+    scale(code, d, r, kind)?;
+    raise(code, d, offset)
 }
 
 /// How an element is loaded: as wide as it is.
@@ -126,17 +131,18 @@ pub fn load_by(kind: Kind) -> LoadOperation
     }
 }
 
-/// The element at the index in a register, of an array at an offset.
+/// The element at the index in a register, of an array at an offset, into a register.
 pub fn element(
     code: &mut Vec<Instr>,
-    register: Reg,
+    d: Reg,
+    r: Reg,
     kind: Kind,
     offset: u32,
 ) -> Result<(), AllocError>
-    ensures { OnOk result (code.new.items ≡ code.old.items ++ element_code register kind offset) }
+    ensures { OnOk result (code.new.items ≡ code.old.items ++ element_code d r kind offset) }
 {
-    address(code, register, kind, offset)?;
+    address(code, d, r, kind, offset)?;
     let low = lower_part(offset);
-    code.push(Instr::Load(load_by(kind), register, register, low))?;
+    code.push(Instr::Load(load_by(kind), d, d, low))?;
     Ok(())
 }

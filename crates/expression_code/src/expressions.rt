@@ -1,16 +1,18 @@
 // An expression's code, and how many temporaries it has at once.
 
-ghost use Rattle.std.specs.Prelude.{◌≡◌, ◌++◌, ◌+◌, ◌*◌, ◌≤◌, length, OnOk};
+ghost use Rattle.std.specs.Prelude.{◌≡◌, ◌++◌, ◌+◌, ◌*◌, ◌≤◌, length, OnOk, IfOk};
 ghost use Rattle.expression_code.specs.Layout.{temporaries_offset};
-ghost use Rattle.expression_code.specs.Registers.{slots_to};
-ghost use Rattle.expression_code.specs.TermCode.{expr_code, height_of, IsAmong};
+ghost use Rattle.expression_code.specs.Allocation.{register_of, slots_to, working_register};
+ghost use Rattle.expression_code.specs.Registers.{first_spare, second_spare, third_spare};
+ghost use Rattle.expression_code.specs.TermCode.{into_code, expr_code, operand, fetch_code, height_of, IsAmong};
 ghost use Rattle.inline.specs.Flat.{term_tree};
 
 use crate::layout::Layout;
-use crate::temporaries::{FIRST_SPARE, SECOND_SPARE, THIRD_SPARE, fetch, home, keep};
+use crate::locations::{FIRST_SPARE, SECOND_SPARE, THIRD_SPARE, copy, fetch, keep};
+use crate::operators::{ChoiceOperands, Operands};
 use crate::{emit, operators};
 use inline::Term;
-use rv_code::Instr;
+use rv_code::{Instr, Reg};
 use std::alloc::AllocError;
 
 /// How many temporaries an expression has at once, beside the one that it comes into.
@@ -38,8 +40,123 @@ pub fn height(term: &Term) -> u32
     }
 }
 
-/// An expression into a place, where temporaries live in all lower ones. No operand is fetched before the code of all of
-/// them is through.
+/// The register of an operand, which is fetched into the spare one where it lies in a slot.
+fn fetched(
+    code: &mut Vec<Instr>,
+    layout: &Layout<'_>,
+    place: u32,
+    term: &Term,
+    spare: Reg,
+) -> Result<Reg, AllocError>
+    requires { temporaries_offset layout.now.declared layout.now.controls layout.now.depths + 4 * slots_to layout.now.allocation.count place ≤ 65536 }
+    ensures code { OnOk result (code.new.items ≡ code.old.items ++ fetch_code (operand layout.now.allocation (temporaries_offset layout.now.declared layout.now.controls layout.now.depths) place (term_tree term.now)) spare) }
+    ensures register { IfOk result (λ r. r ≡ register_of (operand layout.now.allocation (temporaries_offset layout.now.declared layout.now.controls layout.now.depths) place (term_tree term.now)) spare) }
+{
+    let operand = layout.operand(place, term);
+    fetch(code, &operand, spare)?;
+    Ok(operand.register(spare))
+}
+
+/// The registers of a choice between expressions, whose operands are fetched where they lie in slots.
+fn fetched_choice(
+    code: &mut Vec<Instr>,
+    layout: &Layout<'_>,
+    place: u32,
+    condition: &Term,
+    accepted: &Term,
+    otherwise: &Term,
+) -> Result<ChoiceOperands, AllocError>
+    requires { temporaries_offset layout.now.declared layout.now.controls layout.now.depths + 4 * slots_to layout.now.allocation.count (place + 2) ≤ 65536 }
+    ensures code { let free = temporaries_offset layout.now.declared layout.now.controls layout.now.depths in let a = layout.now.allocation in OnOk result (code.new.items ≡ code.old.items ++ fetch_code (operand a free place (term_tree condition.now)) first_spare ++ fetch_code (operand a free (place + 1) (term_tree accepted.now)) second_spare ++ fetch_code (operand a free (place + 2) (term_tree otherwise.now)) third_spare) }
+    ensures registers { let free = temporaries_offset layout.now.declared layout.now.controls layout.now.depths in let a = layout.now.allocation in IfOk result (λ registers. registers ≡ record { mask = working_register a.count place first_spare; scratch = working_register a.count (place + 1) second_spare; condition = register_of (operand a free place (term_tree condition.now)) first_spare; accepted = register_of (operand a free (place + 1) (term_tree accepted.now)) second_spare; otherwise = register_of (operand a free (place + 2) (term_tree otherwise.now)) third_spare }) }
+{
+    let second = layout.place_behind(place, 1);
+    let third = layout.place_behind(place, 2);
+    let condition = fetched(code, layout, place, condition, FIRST_SPARE)?;
+    let accepted = fetched(code, layout, second, accepted, SECOND_SPARE)?;
+    let otherwise = fetched(code, layout, third, otherwise, THIRD_SPARE)?;
+    Ok(ChoiceOperands {
+        mask: layout.working_register(place, FIRST_SPARE),
+        scratch: layout.working_register(second, SECOND_SPARE),
+        condition,
+        accepted,
+        otherwise,
+    })
+}
+
+/// An expression into a register, with its operands in the places from this one on. No operand is fetched before the
+/// code of all of them is through.
+#[cycle(expressions)]
+pub fn into(
+    code: &mut Vec<Instr>,
+    layout: &Layout<'_>,
+    target: Reg,
+    place: u32,
+    term: &Term,
+) -> Result<(), AllocError>
+    requires among { IsAmong (length layout.now.declared) (term_tree term.now) }
+    requires room { temporaries_offset layout.now.declared layout.now.controls layout.now.depths + 4 * slots_to layout.now.allocation.count (height_of (term_tree term.now) + place) ≤ 65536 }
+    ensures { OnOk result (code.new.items ≡ code.old.items ++ into_code layout.now.declared layout.now.allocation (temporaries_offset layout.now.declared layout.now.controls layout.now.depths) target place (term_tree term.now)) }
+{
+    match term {
+        Term::Number(value, _) => emit::constant(code, target, *value),
+        Term::Truth(value) => emit::constant(code, target, u32::from(*value)),
+        Term::Variable(number) => copy(code, target, &layout.variable_location(*number)),
+        Term::Prefix(operator, width, operand) => {
+            expression(code, layout, place, operand)?;
+            let register = fetched(code, layout, place, operand, FIRST_SPARE)?;
+            operators::prefix(code, target, register, *operator, *width)
+        }
+        Term::Binary(_, operator, width, left, right) => {
+            let next = layout.place_behind(place, 1);
+            expression(code, layout, place, left)?;
+            expression(code, layout, next, right)?;
+            let left = fetched(code, layout, place, left, FIRST_SPARE)?;
+            let right = fetched(code, layout, next, right, SECOND_SPARE)?;
+            let scratch = layout.working_register(next, SECOND_SPARE);
+            let registers = Operands {
+                target,
+                scratch,
+                left,
+                right,
+            };
+            operators::operator(code, &registers, *operator, *width)
+        }
+        Term::Rotate(width, operand, amount) => {
+            expression(code, layout, place, operand)?;
+            let register = fetched(code, layout, place, operand, FIRST_SPARE)?;
+            operators::rotate(code, target, register, *width, *amount)
+        }
+        Term::Convert(kind, operand) => {
+            expression(code, layout, place, operand)?;
+            let register = fetched(code, layout, place, operand, FIRST_SPARE)?;
+            operators::convert(code, target, register, *kind)
+        }
+        Term::Select(condition, accepted, otherwise) => {
+            let second = layout.place_behind(place, 1);
+            let third = layout.place_behind(place, 2);
+            expression(code, layout, place, condition)?;
+            expression(code, layout, second, accepted)?;
+            expression(code, layout, third, otherwise)?;
+            let registers = fetched_choice(code, layout, place, condition, accepted, otherwise)?;
+            operators::choice(code, target, &registers)
+        }
+        Term::Element(_, array, _, index) => {
+            expression(code, layout, place, index)?;
+            let register = fetched(code, layout, place, index, FIRST_SPARE)?;
+            emit::element(
+                code,
+                target,
+                register,
+                layout.kind(*array),
+                layout.variable(*array),
+            )
+        }
+    }
+}
+
+/// An expression into a place, where temporaries live in all lower ones. A variable that has a home needs no code.
+#[cycle(expressions)]
 pub fn expression(
     code: &mut Vec<Instr>,
     layout: &Layout<'_>,
@@ -47,52 +164,18 @@ pub fn expression(
     term: &Term,
 ) -> Result<(), AllocError>
     requires among { IsAmong (length layout.now.declared) (term_tree term.now) }
-    requires room { temporaries_offset layout.now.declared layout.now.controls layout.now.depths + 4 * slots_to (height_of (term_tree term.now) + place) ≤ 65536 }
-    ensures { OnOk result (code.new.items ≡ code.old.items ++ expr_code layout.now.declared (temporaries_offset layout.now.declared layout.now.controls layout.now.depths) place (term_tree term.now)) }
+    requires room { temporaries_offset layout.now.declared layout.now.controls layout.now.depths + 4 * slots_to layout.now.allocation.count (height_of (term_tree term.now) + place) ≤ 65536 }
+    ensures { OnOk result (code.new.items ≡ code.old.items ++ expr_code layout.now.declared layout.now.allocation (temporaries_offset layout.now.declared layout.now.controls layout.now.depths) place (term_tree term.now)) }
 {
-    let target = home(place, FIRST_SPARE);
-    match term {
-        Term::Number(value, _) => emit::constant(code, target, *value)?,
-        Term::Truth(value) => emit::constant(code, target, u32::from(*value))?,
-        Term::Variable(number) => emit::load(code, target, layout.variable(*number))?,
-        Term::Prefix(operator, width, operand) => {
-            expression(code, layout, place, operand)?;
-            fetch(code, layout, place, FIRST_SPARE)?;
-            operators::prefix(code, target, *operator, *width)?;
-        }
-        Term::Binary(_, operator, width, left, right) => {
-            expression(code, layout, place, left)?;
-            expression(code, layout, place + 1, right)?;
-            fetch(code, layout, place, FIRST_SPARE)?;
-            fetch(code, layout, place + 1, SECOND_SPARE)?;
-            let second = home(place + 1, SECOND_SPARE);
-            operators::operator(code, target, second, *operator, *width)?;
-        }
-        Term::Rotate(width, operand, amount) => {
-            expression(code, layout, place, operand)?;
-            fetch(code, layout, place, FIRST_SPARE)?;
-            operators::rotate(code, target, *width, *amount)?;
-        }
-        Term::Convert(kind, operand) => {
-            expression(code, layout, place, operand)?;
-            fetch(code, layout, place, FIRST_SPARE)?;
-            operators::convert(code, target, *kind)?;
-        }
-        Term::Select(condition, accepted, otherwise) => {
-            expression(code, layout, place, condition)?;
-            expression(code, layout, place + 1, accepted)?;
-            expression(code, layout, place + 2, otherwise)?;
-            fetch(code, layout, place, FIRST_SPARE)?;
-            fetch(code, layout, place + 1, SECOND_SPARE)?;
-            fetch(code, layout, place + 2, THIRD_SPARE)?;
-            let second = home(place + 1, SECOND_SPARE);
-            operators::choice(code, target, second, home(place + 2, THIRD_SPARE))?;
-        }
-        Term::Element(_, array, _, index) => {
-            expression(code, layout, place, index)?;
-            fetch(code, layout, place, FIRST_SPARE)?;
-            emit::element(code, target, layout.kind(*array), layout.variable(*array))?;
-        }
+    if layout.is_at_home(term) {
+        return Ok(());
     }
-    keep(code, layout, place)
+    into(
+        code,
+        layout,
+        layout.working_register(place, FIRST_SPARE),
+        place,
+        term,
+    )?;
+    keep(code, &layout.temporary(place))
 }

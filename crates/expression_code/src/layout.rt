@@ -1,29 +1,33 @@
 // Where a program's words lie in the frame.
 
-ghost use Rattle.std.specs.Prelude.{◌≡◌, ◌≤◌, ◌<◌, ◌+◌, ◌*◌, length, map, IfOk};
-ghost use Rattle.expression_code.specs.Layout.{variable_offset, result_offset, control_offset, next_offset, temporaries_offset, offsets_from, slots_from};
-ghost use Rattle.expression_code.specs.Registers.{slot_of, slots_to};
-ghost use Rattle.expression_code.specs.TermCode.{kind_at};
+ghost use Rattle.std.specs.Prelude.{◌≡◌, ◌≤◌, ◌<◌, ◌+◌, ◌*◌, length, map, slice_get, unwrap_or, IfOk};
+ghost use Rattle.expression_code.specs.Layout.{variable_offset, variable_location, result_offset, control_offset, next_offset, temporaries_offset, offsets_from, slots_from};
+ghost use Rattle.expression_code.specs.Allocation.{slots_to, temporary, working_register};
+ghost use Rattle.expression_code.specs.Registers.{value_register};
+ghost use Rattle.expression_code.specs.TermCode.{kind_at, is_at_home, operand};
 ghost use Rattle.inline.specs.FlatSize.{words_of, declared_words};
-ghost use Rattle.inline.specs.Flat.{declaration_of};
+ghost use Rattle.inline.specs.Flat.{declaration_of, term_tree};
 
+use crate::allocation::Allocation;
+use crate::locations::Location;
 use image_fields::Slot;
-use inline::FlatVariable;
+use inline::{FlatVariable, Term};
 use language::{Kind, Param};
+use rv_code::Reg;
 use std::alloc::{AllocError, Global};
 use std::marker::Model;
 
 /// The bytes of a slot that holds a word.
 pub const WORD_BYTES: u32 = 4;
 
-/// How many temporaries have registers.
-pub const REGISTER_COUNT: u32 = 16;
+/// The number of the first temporary's register.
+const FIRST_REGISTER: u32 = 5;
 
 /// The bytes of the two words of a loop.
 const LOOP_BYTES: u32 = 8;
 
-/// The variables with where they lie, how many control values there are, and how many loops stand in one
-/// another at most.
+/// The variables with where they lie, how many control values there are, how many loops stand in one another at most,
+/// and how registers are given out.
 #[derive(Debug, Drop)]
 pub struct Layout<'f> {
     declared: &'f [FlatVariable],
@@ -31,6 +35,7 @@ pub struct Layout<'f> {
     offsets: &'f [u32],
     controls: u32,
     depths: u32,
+    allocation: Allocation<'f>,
 }
 
 impl<'f> Model for Layout<'f> {
@@ -39,23 +44,30 @@ impl<'f> Model for Layout<'f> {
 
     ghost Value = { Frame };
 
-    ghost view = { λ l. record { declared = l.declared.now; controls = l.controls; depths = l.depths } };
+    ghost view = { λ l. record { declared = l.declared.now; controls = l.controls; depths = l.depths; allocation = l.allocation } };
 
     ghost invariant = { λ l. (l.offsets.now ≡ offsets_from 0 l.declared.now) × (temporaries_offset l.declared.now l.controls l.depths ≤ 65536) };
 }
 
 impl<'f> Layout<'f> {
     /// The layout of variables that lie at these offsets, with the words behind them.
-    pub fn new(declared: &'f [FlatVariable], offsets: &'f [u32], controls: u32, depths: u32) -> Self
+    pub fn new(
+        declared: &'f [FlatVariable],
+        offsets: &'f [u32],
+        controls: u32,
+        depths: u32,
+        allocation: Allocation<'f>,
+    ) -> Self
         requires offsets { offsets.now ≡ offsets_from 0 declared.now }
         requires room { temporaries_offset declared.now controls depths ≤ 65536 }
-        ensures { result ≡ record { declared = declared.now; controls = controls; depths = depths } }
+        ensures { result ≡ record { declared = declared.now; controls = controls; depths = depths; allocation = allocation.entry } }
     {
         Layout {
             declared,
             offsets,
             controls,
             depths,
+            allocation,
         }
     }
 
@@ -64,7 +76,15 @@ impl<'f> Layout<'f> {
         requires { number < length self.now.declared }
         ensures { result ≡ variable_offset self.now.declared number }
     {
-        self.offsets[number as usize]
+        self.offset_at(number as usize)
+    }
+
+    /// The same by its index among the variables.
+    pub fn offset_at(&self, index: usize) -> u32
+        requires { index < length self.now.declared }
+        ensures { result ≡ variable_offset self.now.declared index }
+    {
+        found(self.offsets, index)
     }
 
     /// The kind of a variable, or of its elements.
@@ -106,14 +126,99 @@ impl<'f> Layout<'f> {
         self.next(self.depths)
     }
 
-    /// Where a temporary lies that has no register.
-    pub fn slot(&self, place: u32) -> u32
-        requires beyond { 16 ≤ place }
-        requires room { temporaries_offset self.now.declared self.now.controls self.now.depths + 4 * slots_to place ≤ 65536 }
-        ensures { result ≡ slot_of (temporaries_offset self.now.declared self.now.controls self.now.depths) place }
+    /// The homes of the variables, by their numbers.
+    pub fn homes(&self) -> &[Option<Reg>]
+        ensures { result.now ≡ self.now.allocation.homes }
     {
-        self.temporaries() + WORD_BYTES * (place - REGISTER_COUNT)
+        self.allocation.homes()
     }
+
+    /// How many temporaries have registers.
+    pub fn register_count(&self) -> u32
+        ensures { result ≡ self.now.allocation.count }
+    {
+        self.allocation.count()
+    }
+
+    /// Where a variable is: in its home, or in its slot.
+    pub fn variable_location(&self, number: u32) -> Location
+        requires { number < length self.now.declared }
+        ensures { result ≡ variable_location self.now.declared self.now.allocation number }
+    {
+        Location::InSlot(self.variable(number)).unless_home(self.allocation.home(number))
+    }
+
+    /// Where the temporary of a place is.
+    pub fn temporary(&self, place: u32) -> Location
+        requires { temporaries_offset self.now.declared self.now.controls self.now.depths + 4 * slots_to self.now.allocation.count place ≤ 65536 }
+        ensures { result ≡ temporary self.now.allocation.count (temporaries_offset self.now.declared self.now.controls self.now.depths) place }
+    {
+        let count = self.allocation.count();
+        if place < count {
+            Location::InRegister(own_register(place))
+        } else {
+            Location::InSlot(self.temporaries() + WORD_BYTES * (place - count))
+        }
+    }
+
+    /// The place so many behind one.
+    pub fn place_behind(&self, place: u32, distance: u32) -> u32
+        requires near { distance ≤ 2 }
+        requires room { temporaries_offset self.now.declared self.now.controls self.now.depths + 4 * slots_to self.now.allocation.count place ≤ 65536 }
+        ensures { result ≡ place + distance }
+    {
+        // Few temporaries have registers, so the number of this one is not large.
+        let _count = self.allocation.count();
+        place + distance
+    }
+
+    /// The register that the value of a place is computed in: its temporary's own, or the spare one.
+    pub fn working_register(&self, place: u32, spare: Reg) -> Reg
+        ensures { result ≡ working_register self.now.allocation.count place spare }
+    {
+        if place < self.allocation.count() {
+            own_register(place)
+        } else {
+            spare
+        }
+    }
+
+    /// Whether an expression is a variable that has a home.
+    pub fn is_at_home(&self, term: &Term) -> bool
+        ensures { result ≡ is_at_home self.now.allocation (term_tree term.now) }
+    {
+        match term {
+            Term::Variable(number) => self.allocation.home(*number).is_some(),
+            _ => false,
+        }
+    }
+
+    /// Where the value of an expression is behind its code.
+    pub fn operand(&self, place: u32, term: &Term) -> Location
+        requires { temporaries_offset self.now.declared self.now.controls self.now.depths + 4 * slots_to self.now.allocation.count place ≤ 65536 }
+        ensures { result ≡ operand self.now.allocation (temporaries_offset self.now.declared self.now.controls self.now.depths) place (term_tree term.now) }
+    {
+        let place = self.temporary(place);
+        match term {
+            Term::Variable(number) => place.unless_home(self.allocation.home(*number)),
+            _ => place,
+        }
+    }
+}
+
+/// The offset that is listed for an index.
+fn found(offsets: &[u32], index: usize) -> u32
+    ensures { result ≡ unwrap_or (slice_get offsets.now index) 0 }
+{
+    offsets.get(index).copied().unwrap_or(0)
+}
+
+/// The register of a place that has one.
+fn own_register(place: u32) -> Reg
+    requires { place < 16 }
+    ensures { result ≡ value_register + place }
+{
+    Reg::from_bits(FIRST_REGISTER + place)
 }
 
 /// How many words a variable takes.

@@ -1,14 +1,13 @@
-// What the operators emit. An operator works on the registers of its operands, and its outcome comes into the first of them.
+// What the operators emit. An operator works on the registers of its operands, and its outcome comes into a target.
 
 ghost use Rattle.std.specs.Prelude.{◌≡◌, ◌++◌, ◌∷◌, ◌<◌, [], OnOk};
-ghost use Rattle.rv_code.specs.declared.instructions.Instr.TheVariants.{Register, Multiply, Divide};
-ghost use Rattle.rv_code.specs.declared.operations.MultiplyOperation.TheVariants.{Mul};
-ghost use Rattle.expression_code.specs.TermCode.{cut_code, is_zero_code, is_not_zero_code, both_truths_code, negation_code, operator_code, prefix_code, around_code, rotate_code, choice_code};
+ghost use Rattle.expression_code.specs.TermCode as terms;
+ghost use Rattle.expression_code.specs.TermCode.{move_code, cut_code, narrow_code, narrowed_in, convert_code, is_zero_code, is_not_zero_code, both_truths_code, negation_code, step_code, operator_code, prefix_code, around_code, rotate_code, choice_code};
 ghost use Rattle.language.specs.Operators.{width_of};
 ghost use Rattle.word.specs.Widths.{bits};
 
 use crate::emit::MINUS_ONE;
-use crate::temporaries::SECOND_SPARE;
+use crate::locations::{SECOND_SPARE, move_register};
 use language::{BinaryOperator, Kind, PrefixOperator};
 use rv_code::{
     DivideOperation, Immediate12, ImmediateOperation, Instr, MultiplyOperation, Reg,
@@ -17,32 +16,66 @@ use rv_code::{
 use std::alloc::AllocError;
 use word::Width;
 
-/// Two operands into the first.
-fn between(operation: Operation, l: Reg, r: Reg) -> Instr
-    ensures { result ≡ Register operation l l r }
-{
-    Instr::Register(operation, l, l, r)
+/// The registers of an operator between two operands: where its outcome comes, one that may be written as well, and
+/// those of both operands.
+#[derive(Debug, Drop)]
+pub struct Operands {
+    pub target: Reg,
+    pub scratch: Reg,
+    pub left: Reg,
+    pub right: Reg,
 }
 
-/// Two operands, turned round, into the first.
-fn turned(operation: Operation, l: Reg, r: Reg) -> Instr
-    ensures { result ≡ Register operation l r l }
-{
-    Instr::Register(operation, l, r, l)
+impl Operands {
+    /// An instruction between both operands.
+    fn between(&self, operation: Operation) -> Instr
+        ensures { result ≡ step_code self.now.target self.now.left self.now.right (terms.between operation) }
+    {
+        Instr::Register(operation, self.target, self.left, self.right)
+    }
+
+    /// An instruction between both operands, turned round.
+    fn turned(&self, operation: Operation) -> Instr
+        ensures { result ≡ step_code self.now.target self.now.left self.now.right (terms.turned operation) }
+    {
+        Instr::Register(operation, self.target, self.right, self.left)
+    }
+
+    /// The lower half of the product of both operands.
+    fn product(&self) -> Instr
+        ensures { result ≡ step_code self.now.target self.now.left self.now.right terms.product }
+    {
+        Instr::Multiply(MultiplyOperation::Mul, self.target, self.left, self.right)
+    }
+
+    /// The quotient or the remainder of the first operand by the second.
+    fn division(&self, operation: DivideOperation) -> Instr
+        ensures { result ≡ step_code self.now.target self.now.left self.now.right (terms.division operation) }
+    {
+        Instr::Divide(operation, self.target, self.left, self.right)
+    }
+
+    /// An instruction between two bools, each of which is 0 where its operand is 0, and else 1.
+    fn of_truths(&self, code: &mut Vec<Instr>, operation: Operation) -> Result<(), AllocError>
+        ensures { OnOk result (code.new.items ≡ code.old.items ++ both_truths_code self.now.target self.now.scratch self.now.left self.now.right ++ step_code self.now.target self.now.target self.now.scratch (terms.between operation) ∷ []) }
+    {
+        code.push(Instr::Register(Operation::Sltu, self.scratch, Reg::X0, self.right))?;
+        code.push(Instr::Register(Operation::Sltu, self.target, Reg::X0, self.left))?;
+        alone(
+            code,
+            Instr::Register(operation, self.target, self.target, self.scratch),
+        )
+    }
 }
 
-/// The lower half of the product of two operands, into the first.
-fn product(l: Reg, r: Reg) -> Instr
-    ensures { result ≡ Multiply Mul l l r }
-{
-    Instr::Multiply(MultiplyOperation::Mul, l, l, r)
-}
-
-/// The quotient or the remainder of the first operand by the second, into the first.
-fn division(operation: DivideOperation, l: Reg, r: Reg) -> Instr
-    ensures { result ≡ Divide operation l l r }
-{
-    Instr::Divide(operation, l, l, r)
+/// The registers of a choice: those that get the mask and what differs, and those of the operands.
+#[derive(Debug, Drop)]
+pub struct ChoiceOperands {
+    pub mask: Reg,
+    pub scratch: Reg,
+    pub condition: Reg,
+    pub accepted: Reg,
+    pub otherwise: Reg,
 }
 
 /// An instruction, of which nothing more has to be made.
@@ -53,31 +86,48 @@ fn alone(code: &mut Vec<Instr>, instruction: Instr) -> Result<(), AllocError>
     Ok(())
 }
 
-/// A register, cut to a width.
-fn cut(code: &mut Vec<Instr>, r: Reg, width: Width) -> Result<(), AllocError>
-    ensures { OnOk result (code.new.items ≡ code.old.items ++ cut_code r width) }
+/// A register, cut to a width where that is a narrow one, into another.
+fn narrow(code: &mut Vec<Instr>, d: Reg, r: Reg, width: Width) -> Result<(), AllocError>
+    ensures { OnOk result (code.new.items ≡ code.old.items ++ narrow_code d r width) }
 {
     match width {
         Width::W8 => {
             let ones = Immediate12::from_bits(255);
-            alone(code, Instr::Immediate(ImmediateOperation::Andi, r, r, ones))
+            alone(code, Instr::Immediate(ImmediateOperation::Andi, d, r, ones))
         }
         Width::W16 => {
             let half = ShiftAmount::from_bits(16);
-            code.push(Instr::Shift(ShiftOperation::Slli, r, r, half))?;
-            code.push(Instr::Shift(ShiftOperation::Srli, r, r, half))?;
+            code.push(Instr::Shift(ShiftOperation::Slli, d, r, half))?;
+            code.push(Instr::Shift(ShiftOperation::Srli, d, d, half))?;
             Ok(())
         }
         Width::W32 => Ok(()),
     }
 }
 
-/// 1 where a register is 0, and else 0.
-fn is_zero(code: &mut Vec<Instr>, r: Reg) -> Result<(), AllocError>
-    ensures { OnOk result (code.new.items ≡ code.old.items ++ is_zero_code r) }
+/// The register that the cut is in then.
+fn narrowed_in(d: Reg, r: Reg, width: Width) -> Reg
+    ensures { result ≡ narrowed_in d r width }
+{
+    match width {
+        Width::W8 | Width::W16 => d,
+        Width::W32 => r,
+    }
+}
+
+/// A register, cut to a width.
+fn cut(code: &mut Vec<Instr>, r: Reg, width: Width) -> Result<(), AllocError>
+    ensures { OnOk result (code.new.items ≡ code.old.items ++ cut_code r width) }
+{
+    narrow(code, r, r, width)
+}
+
+/// Into a register, 1 where another is 0, and else 0.
+fn is_zero(code: &mut Vec<Instr>, d: Reg, r: Reg) -> Result<(), AllocError>
+    ensures { OnOk result (code.new.items ≡ code.old.items ++ is_zero_code d r) }
 {
     let one = Immediate12::from_bits(1);
-    alone(code, Instr::Immediate(ImmediateOperation::Sltiu, r, r, one))
+    alone(code, Instr::Immediate(ImmediateOperation::Sltiu, d, r, one))
 }
 
 /// 0 where a register is 0, and else 1.
@@ -87,11 +137,11 @@ fn is_not_zero(code: &mut Vec<Instr>, r: Reg) -> Result<(), AllocError>
     alone(code, Instr::Register(Operation::Sltu, r, Reg::X0, r))
 }
 
-/// 0 less a register.
-fn negate(code: &mut Vec<Instr>, r: Reg) -> Result<(), AllocError>
-    ensures { OnOk result (code.new.items ≡ code.old.items ++ negation_code r) }
+/// Into a register, 0 less another.
+fn negate(code: &mut Vec<Instr>, d: Reg, r: Reg) -> Result<(), AllocError>
+    ensures { OnOk result (code.new.items ≡ code.old.items ++ negation_code d r) }
 {
-    alone(code, Instr::Register(Operation::Sub, r, Reg::X0, r))
+    alone(code, Instr::Register(Operation::Sub, d, Reg::X0, r))
 }
 
 /// An instruction, whose outcome in a register is cut where it is narrow.
@@ -109,10 +159,10 @@ fn narrowed(
 
 /// Whether an instruction gives 0 in a register.
 fn gives_zero(code: &mut Vec<Instr>, r: Reg, instruction: Instr) -> Result<(), AllocError>
-    ensures { OnOk result (code.new.items ≡ code.old.items ++ instruction ∷ is_zero_code r) }
+    ensures { OnOk result (code.new.items ≡ code.old.items ++ instruction ∷ is_zero_code r r) }
 {
     code.push(instruction)?;
-    is_zero(code, r)
+    is_zero(code, r, r)
 }
 
 /// Whether an instruction gives another number than 0 in a register.
@@ -123,110 +173,121 @@ fn gives_more(code: &mut Vec<Instr>, r: Reg, instruction: Instr) -> Result<(), A
     is_not_zero(code, r)
 }
 
-/// An instruction between two bools, each of which is 0 where its operand is 0, and else 1.
-fn of_truths(code: &mut Vec<Instr>, l: Reg, r: Reg, instruction: Instr) -> Result<(), AllocError>
-    ensures { OnOk result (code.new.items ≡ code.old.items ++ both_truths_code l r ++ instruction ∷ []) }
-{
-    code.push(Instr::Register(Operation::Sltu, r, Reg::X0, r))?;
-    is_not_zero(code, l)?;
-    alone(code, instruction)
-}
-
-/// An operator between two operands, into the register of the first.
+/// An operator between two operands, into its target.
 pub fn operator(
     code: &mut Vec<Instr>,
-    l: Reg,
-    r: Reg,
+    o: &Operands,
     operator: BinaryOperator,
     width: Width,
 ) -> Result<(), AllocError>
-    ensures { OnOk result (code.new.items ≡ code.old.items ++ operator_code l r operator width) }
+    ensures { OnOk result (code.new.items ≡ code.old.items ++ operator_code o.now.target o.now.scratch o.now.left o.now.right operator width) }
 {
     match operator {
-        BinaryOperator::Either => of_truths(code, l, r, between(Operation::Or, l, r)),
-        BinaryOperator::Both => of_truths(code, l, r, between(Operation::And, l, r)),
-        BinaryOperator::Equal => gives_zero(code, l, between(Operation::Sub, l, r)),
-        BinaryOperator::Unequal => gives_more(code, l, between(Operation::Sub, l, r)),
-        BinaryOperator::Less => alone(code, between(Operation::Sltu, l, r)),
-        BinaryOperator::LessOrEqual => gives_zero(code, l, turned(Operation::Sltu, l, r)),
-        BinaryOperator::Greater => alone(code, turned(Operation::Sltu, l, r)),
-        BinaryOperator::GreaterOrEqual => gives_zero(code, l, between(Operation::Sltu, l, r)),
-        BinaryOperator::BitOr => alone(code, between(Operation::Or, l, r)),
-        BinaryOperator::BitXor => alone(code, between(Operation::Xor, l, r)),
-        BinaryOperator::BitAnd => alone(code, between(Operation::And, l, r)),
-        BinaryOperator::ShiftLeft => narrowed(code, l, width, between(Operation::Sll, l, r)),
-        BinaryOperator::ShiftRight => narrowed(code, l, width, between(Operation::Srl, l, r)),
-        BinaryOperator::Add => narrowed(code, l, width, between(Operation::Add, l, r)),
-        BinaryOperator::Subtract => narrowed(code, l, width, between(Operation::Sub, l, r)),
-        BinaryOperator::Multiply => narrowed(code, l, width, product(l, r)),
-        BinaryOperator::Divide => alone(code, division(DivideOperation::Divu, l, r)),
-        BinaryOperator::Remainder => alone(code, division(DivideOperation::Remu, l, r)),
+        BinaryOperator::Either => o.of_truths(code, Operation::Or),
+        BinaryOperator::Both => o.of_truths(code, Operation::And),
+        BinaryOperator::Equal => gives_zero(code, o.target, o.between(Operation::Sub)),
+        BinaryOperator::Unequal => gives_more(code, o.target, o.between(Operation::Sub)),
+        BinaryOperator::Less => alone(code, o.between(Operation::Sltu)),
+        BinaryOperator::LessOrEqual => gives_zero(code, o.target, o.turned(Operation::Sltu)),
+        BinaryOperator::Greater => alone(code, o.turned(Operation::Sltu)),
+        BinaryOperator::GreaterOrEqual => gives_zero(code, o.target, o.between(Operation::Sltu)),
+        BinaryOperator::BitOr => alone(code, o.between(Operation::Or)),
+        BinaryOperator::BitXor => alone(code, o.between(Operation::Xor)),
+        BinaryOperator::BitAnd => alone(code, o.between(Operation::And)),
+        BinaryOperator::ShiftLeft => narrowed(code, o.target, width, o.between(Operation::Sll)),
+        BinaryOperator::ShiftRight => narrowed(code, o.target, width, o.between(Operation::Srl)),
+        BinaryOperator::Add => narrowed(code, o.target, width, o.between(Operation::Add)),
+        BinaryOperator::Subtract => narrowed(code, o.target, width, o.between(Operation::Sub)),
+        BinaryOperator::Multiply => narrowed(code, o.target, width, o.product()),
+        BinaryOperator::Divide => alone(code, o.division(DivideOperation::Divu)),
+        BinaryOperator::Remainder => alone(code, o.division(DivideOperation::Remu)),
     }
 }
 
-/// An operator before an operand, in its register.
+/// An operator before an operand, into a register.
 pub fn prefix(
     code: &mut Vec<Instr>,
+    d: Reg,
     r: Reg,
     operator: PrefixOperator,
     width: Width,
 ) -> Result<(), AllocError>
-    ensures { OnOk result (code.new.items ≡ code.old.items ++ prefix_code r operator width) }
+    ensures { OnOk result (code.new.items ≡ code.old.items ++ prefix_code d r operator width) }
 {
     match operator {
-        PrefixOperator::Not => is_zero(code, r),
+        PrefixOperator::Not => is_zero(code, d, r),
         PrefixOperator::Complement => {
             let less_one = Immediate12::from_bits(MINUS_ONE);
-            let decrement = Instr::Immediate(ImmediateOperation::Addi, r, r, less_one);
-            negate(code, r)?;
-            narrowed(code, r, width, decrement)
+            let decrement = Instr::Immediate(ImmediateOperation::Addi, d, d, less_one);
+            negate(code, d, r)?;
+            narrowed(code, d, width, decrement)
         }
         PrefixOperator::Negate => {
-            negate(code, r)?;
-            cut(code, r, width)
+            negate(code, d, r)?;
+            cut(code, d, width)
         }
     }
 }
 
-/// A register's bits, moved up by an amount below the width and round its end.
-fn around(code: &mut Vec<Instr>, r: Reg, width: Width, amount: u32) -> Result<(), AllocError>
+/// A register's bits, moved up by an amount below the width and round its end, into another.
+fn around(
+    code: &mut Vec<Instr>,
+    d: Reg,
+    r: Reg,
+    width: Width,
+    amount: u32,
+) -> Result<(), AllocError>
     requires { amount < bits width }
-    ensures { OnOk result (code.new.items ≡ code.old.items ++ around_code r width amount) }
+    ensures { OnOk result (code.new.items ≡ code.old.items ++ around_code d r width amount) }
 {
     if amount == 0 {
-        return Ok(());
+        return move_register(code, d, r);
     }
     let moved = SECOND_SPARE;
     let up = ShiftAmount::from_bits(amount);
     let down = ShiftAmount::from_bits(width.bits() - amount);
     code.push(Instr::Shift(ShiftOperation::Slli, moved, r, up))?;
-    code.push(Instr::Shift(ShiftOperation::Srli, r, r, down))?;
-    let sum = Instr::Register(Operation::Add, r, moved, r);
-    narrowed(code, r, width, sum)
+    code.push(Instr::Shift(ShiftOperation::Srli, d, r, down))?;
+    let sum = Instr::Register(Operation::Add, d, moved, d);
+    narrowed(code, d, width, sum)
 }
 
-/// An operand, rotated to the left within its width, in its register.
-pub fn rotate(code: &mut Vec<Instr>, r: Reg, width: Width, amount: u32) -> Result<(), AllocError>
-    ensures { OnOk result (code.new.items ≡ code.old.items ++ rotate_code r width amount) }
+/// An operand, rotated to the left within its width, into a register.
+pub fn rotate(
+    code: &mut Vec<Instr>,
+    d: Reg,
+    r: Reg,
+    width: Width,
+    amount: u32,
+) -> Result<(), AllocError>
+    ensures { OnOk result (code.new.items ≡ code.old.items ++ rotate_code d r width amount) }
 {
-    cut(code, r, width)?;
-    around(code, r, width, amount % width.bits())
+    narrow(code, d, r, width)?;
+    around(
+        code,
+        d,
+        narrowed_in(d, r, width),
+        width,
+        amount % width.bits(),
+    )
 }
 
-/// An operand, as a number of this kind, in its register.
-pub fn convert(code: &mut Vec<Instr>, r: Reg, kind: Kind) -> Result<(), AllocError>
-    ensures { OnOk result (code.new.items ≡ code.old.items ++ cut_code r (width_of kind)) }
+/// An operand, as a number of this kind, into a register.
+pub fn convert(code: &mut Vec<Instr>, d: Reg, r: Reg, kind: Kind) -> Result<(), AllocError>
+    ensures { OnOk result (code.new.items ≡ code.old.items ++ convert_code d r (width_of kind)) }
 {
-    cut(code, r, kind.width())
+    let width = kind.width();
+    narrow(code, d, r, width)?;
+    move_register(code, d, narrowed_in(d, r, width))
 }
 
-/// Of three operands, the second where the first is 1 and the third where it is 0, in the register of the first.
-pub fn choice(code: &mut Vec<Instr>, c: Reg, l: Reg, r: Reg) -> Result<(), AllocError>
-    ensures { OnOk result (code.new.items ≡ code.old.items ++ choice_code c l r) }
+/// Of three operands, the second where the first is 1 and the third where it is 0, into a register.
+pub fn choice(code: &mut Vec<Instr>, target: Reg, c: &ChoiceOperands) -> Result<(), AllocError>
+    ensures { OnOk result (code.new.items ≡ code.old.items ++ choice_code target c.now.mask c.now.scratch c.now.condition c.now.accepted c.now.otherwise) }
 {
-    code.push(Instr::Register(Operation::Sub, c, Reg::X0, c))?;
-    code.push(Instr::Register(Operation::Xor, l, l, r))?;
-    code.push(Instr::Register(Operation::And, l, l, c))?;
-    code.push(Instr::Register(Operation::Xor, c, r, l))?;
+    code.push(Instr::Register(Operation::Sub, c.mask, Reg::X0, c.condition))?;
+    code.push(Instr::Register(Operation::Xor, c.scratch, c.accepted, c.otherwise))?;
+    code.push(Instr::Register(Operation::And, c.scratch, c.scratch, c.mask))?;
+    code.push(Instr::Register(Operation::Xor, target, c.otherwise, c.scratch))?;
     Ok(())
 }

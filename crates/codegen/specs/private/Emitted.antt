@@ -2,9 +2,12 @@
 use Rattle.std.specs.Prelude.{ℕ, ◌+◌, ◌*◌, List, [], ◌∷◌, ◌++◌, Option, None, Some, max, if◌then◌else◌}
 use Rattle.branch_removal.specs.Straight.{StraightTree, set, clear, fill, put, take, set_under, put_under, branch, repeats, StraightBlock, nothing, first}
 use Rattle.codegen.specs.private.Jumps.{branch_code, loop_code}
-use Rattle.expression_code.specs.Layout.{variable_offset, control_offset, next_offset, temporaries_offset}
+use Rattle.expression_code.specs.Allocation.{Allocation}
+use Rattle.expression_code.specs.Layout.{variable_offset, variable_location, control_offset, next_offset, temporaries_offset}
 use Rattle.expression_code.specs.Registers.{zero_register, frame_register, value_register, second_register, third_register, address_register, first_spare}
-use Rattle.expression_code.specs.TermCode.{is_near, upper_part, lower_part, load_code, store_code, constant_code, address_code, load_by, kind_at, expr_code, height_of}
+use Rattle.expression_code.specs.TermCode.{is_near, upper_part, lower_part, load_code, store_code, constant_code, address_code, load_by, kind_at, move_code, into_code, height_of}
+use Rattle.expression_code.specs.declared.locations.Location.{Location}
+use Rattle.expression_code.specs.declared.locations.Location.TheVariants.{InRegister, InSlot}
 use Rattle.inline.specs.declared.flat.FlatVariable.{FlatVariable}
 use Rattle.inline.specs.Flat.{TermTree}
 use Rattle.rv_code.specs.declared.instructions.Instr.{Instr}
@@ -38,9 +41,32 @@ abbrev pub within_code : List FlatVariable → Option ℕ → List Instr
 within_code declared None = []
 within_code declared (Some control) = join_code (control_offset declared control)
 
--- of three registers, the new word where the mask is all ones, and the old one where it is 0
-abbrev pub merge_code : ℕ → ℕ → ℕ → List Instr
-merge_code new old mask = Register Xor new new old ∷ Register And new new mask ∷ Register Xor new old new ∷ []
+-- of three registers, the new word where the mask is all ones, and the old one where it is 0, into another
+abbrev pub merge_code : ℕ → ℕ → ℕ → ℕ → List Instr
+merge_code d new old mask = Register Xor new new old ∷ Register And new new mask ∷ Register Xor d old new ∷ []
+
+-- Words.
+
+-- the value of an expression into the value register
+abbrev pub value_code : List FlatVariable → Allocation → ℕ → TermTree → List Instr
+value_code declared allocation free e = into_code declared allocation free value_register 0 e
+
+-- a register into a variable: its home, or its slot
+abbrev pub put_word_code : ℕ → Location → List Instr
+put_word_code register (InRegister home) = move_code home register
+put_word_code register (InSlot offset) = store_code register offset
+
+-- the value of an expression into a variable
+abbrev pub set_code : List FlatVariable → Allocation → ℕ → Location → TermTree → List Instr
+set_code declared allocation free (InRegister home) e = into_code declared allocation free home 0 e
+set_code declared allocation free (InSlot offset) e = value_code declared allocation free e ++ store_code value_register offset
+
+-- the value where the control value in a slot is true, and else the old one, into a variable
+abbrev pub set_under_code : Location → ℕ → List Instr
+set_under_code (InRegister home) control = load_code third_register control ++ merge_code home value_register home third_register
+set_under_code (InSlot offset) control =
+    load_code second_register offset ++ load_code third_register control
+    ++ merge_code value_register value_register second_register third_register ++ store_code value_register offset
 
 -- Arrays.
 
@@ -71,34 +97,37 @@ clear_code offset words =
     (Store Sw zero_register second_register 0 ∷ Immediate Addi second_register second_register 4 ∷ [])
 
 -- values into the elements from this one on
-abbrev pub fill_code : List FlatVariable → ℕ → Kind → ℕ → List TermTree → List Instr
-fill_code declared free kind offset [] = []
-fill_code declared free kind offset (e ∷ es) =
-    expr_code declared free 0 e ++ element_store_code kind offset ++ fill_code declared free kind (offset + element_bytes kind) es
+abbrev pub fill_code : List FlatVariable → Allocation → ℕ → Kind → ℕ → List TermTree → List Instr
+fill_code declared allocation free kind offset [] = []
+fill_code declared allocation free kind offset (e ∷ es) =
+    value_code declared allocation free e ++ element_store_code kind offset
+    ++ fill_code declared allocation free kind (offset + element_bytes kind) es
 
 -- an index and a value, the first two temporaries
-abbrev pub index_code : List FlatVariable → ℕ → TermTree → TermTree → List Instr
-index_code declared free index value = expr_code declared free 0 index ++ expr_code declared free 1 value
+abbrev pub index_code : List FlatVariable → Allocation → ℕ → TermTree → TermTree → List Instr
+index_code declared allocation free index value =
+    value_code declared allocation free index ++ into_code declared allocation free second_register 1 value
 
 -- the value into the element at the index
 abbrev pub put_code : Kind → ℕ → List Instr
 put_code kind offset =
-    address_code value_register kind offset ++ Store (store_by kind) second_register value_register (lower_part offset) ∷ []
+    address_code value_register value_register kind offset ++ Store (store_by kind) second_register value_register (lower_part offset) ∷ []
 
 -- the value where the control value is true, and else the old one, into the element
 abbrev pub put_under_code : ℕ → Kind → ℕ → List Instr
 put_under_code control kind offset =
-    address_code value_register kind offset ++ Load (load_by kind) third_register value_register (lower_part offset) ∷ []
+    address_code value_register value_register kind offset ++ Load (load_by kind) third_register value_register (lower_part offset) ∷ []
     ++ load_code first_spare control
-    ++ merge_code second_register third_register first_spare
+    ++ merge_code second_register second_register third_register first_spare
     ++ Store (store_by kind) second_register value_register (lower_part offset) ∷ []
 
 -- Loops.
 
 -- both bounds into the loop's words, the first one first
-abbrev pub bounds_code : List FlatVariable → ℕ → ℕ → TermTree → TermTree → List Instr
-bounds_code declared next free low high =
-    expr_code declared free 0 low ++ store_code value_register next ++ expr_code declared free 0 high ++ store_code value_register (next + 4)
+abbrev pub bounds_code : List FlatVariable → Allocation → ℕ → ℕ → TermTree → TermTree → List Instr
+bounds_code declared allocation next free low high =
+    value_code declared allocation free low ++ store_code value_register next
+    ++ value_code declared allocation free high ++ store_code value_register (next + 4)
 
 -- whether the next number is below the bound
 abbrev pub test_code : ℕ → List Instr
@@ -106,41 +135,47 @@ test_code next =
     load_code second_register next ++ load_code value_register (next + 4) ++ Register Sltu value_register second_register value_register ∷ []
 
 -- the next number into the counter, and one more for the turn after this one
-abbrev pub count_code : ℕ → ℕ → List Instr
+abbrev pub count_code : ℕ → Location → List Instr
 count_code next counter =
-    store_code second_register counter ++ Immediate Addi second_register second_register 1 ∷ [] ++ store_code second_register next
+    put_word_code second_register counter ++ Immediate Addi second_register second_register 1 ∷ [] ++ store_code second_register next
 
--- Statements of a program with these variables, so many control values, and room for so many loops, one in the other.
-module _ (declared : List FlatVariable) (controls depths : ℕ) where
+-- Statements of a program with these variables, with registers given out so, so many control values, and room for so many
+-- loops, one in the other.
+module _ (declared : List FlatVariable) (allocation : Allocation) (controls depths : ℕ) where
+  -- where a variable is
+  abbrev pub location : ℕ → Location
+  location x = variable_location declared allocation x
+
+  -- where the slots of temporaries begin
+  abbrev pub free_slots : ℕ
+  free_slots = temporaries_offset declared controls depths
+
   abbrev mutual
     -- of a statement that so many loops are around
     pub statement_code : ℕ → StraightTree → List Instr
-    statement_code depth (set x value) =
-        expr_code declared (temporaries_offset declared controls depths) 0 value ++ store_code value_register (variable_offset declared x)
+    statement_code depth (set x value) = set_code declared allocation free_slots (location x) value
     statement_code depth (clear x size) = clear_code (variable_offset declared x) (array_words (kind_at declared x) size)
     statement_code depth (fill x values) =
-        fill_code declared (temporaries_offset declared controls depths) (kind_at declared x) (variable_offset declared x) values
+        fill_code declared allocation free_slots (kind_at declared x) (variable_offset declared x) values
     statement_code depth (put place x size index value) =
-        index_code declared (temporaries_offset declared controls depths) index value ++ put_code (kind_at declared x) (variable_offset declared x)
+        index_code declared allocation free_slots index value ++ put_code (kind_at declared x) (variable_offset declared x)
     statement_code depth (take control within condition) =
-        expr_code declared (temporaries_offset declared controls depths) 0 condition ++ masks_code ++ within_code declared within
+        value_code declared allocation free_slots condition ++ masks_code ++ within_code declared within
         ++ store_code third_register (control_offset declared control)
         ++ store_code value_register (control_offset declared (control + 1))
     statement_code depth (set_under control x value) =
-        expr_code declared (temporaries_offset declared controls depths) 0 value
-        ++ load_code second_register (variable_offset declared x) ++ load_code third_register (control_offset declared control)
-        ++ merge_code value_register second_register third_register ++ store_code value_register (variable_offset declared x)
+        value_code declared allocation free_slots value ++ set_under_code (location x) (control_offset declared control)
     statement_code depth (put_under control place x size index value) =
-        index_code declared (temporaries_offset declared controls depths) index value
+        index_code declared allocation free_slots index value
         ++ put_under_code (control_offset declared control) (kind_at declared x) (variable_offset declared x)
     statement_code depth (branch condition accepted otherwise) =
-        expr_code declared (temporaries_offset declared controls depths) 0 condition
+        value_code declared allocation free_slots condition
         ++ branch_code (block_code depth accepted) (block_code depth otherwise)
     statement_code depth (repeats x low high body) =
-        bounds_code declared (next_offset declared controls depth) (temporaries_offset declared controls depths) low high
+        bounds_code declared allocation (next_offset declared controls depth) free_slots low high
         ++ loop_code
         (test_code (next_offset declared controls depth))
-        (count_code (next_offset declared controls depth) (variable_offset declared x) ++ block_code (depth + 1) body)
+        (count_code (next_offset declared controls depth) (location x) ++ block_code (depth + 1) body)
 
     -- of statements, one after the other
     pub block_code : ℕ → StraightBlock → List Instr

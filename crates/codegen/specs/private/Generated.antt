@@ -10,24 +10,43 @@ use Rattle.image_fields.specs.declared.slot.ResultSlot.{ResultSlot}
 use Rattle.inline.specs.declared.flat.FlatVariable.{FlatVariable}
 use Rattle.inline.specs.Flat.{TermTree}
 use Rattle.language.specs.declared.typing.WordType.{WordType}
-use Rattle.codegen.specs.private.Emitted.{block_code, height_in_all, depth_in_all}
-use Rattle.expression_code.specs.Layout.{slots_from, result_offset, temporaries_offset}
-use Rattle.expression_code.specs.Registers.{value_register, slots_to}
-use Rattle.expression_code.specs.TermCode.{expr_code, store_code, height_of}
+use Rattle.codegen.specs.private.Emitted.{block_code, value_code, height_in_all, depth_in_all}
+use Rattle.expression_code.specs.Allocation.{Allocation, slots_to}
+use Rattle.expression_code.specs.Layout.{slots_from, result_offset, temporaries_offset, variable_offset}
+use Rattle.expression_code.specs.Registers.{value_register}
+use Rattle.expression_code.specs.TermCode.{load_code, store_code, height_of}
 
 -- the value into the result's slot, where there is one
-abbrev pub result_code : List FlatVariable → ℕ → Option TermTree → List Instr
-result_code declared free None = []
-result_code declared free (Some value) = expr_code declared free 0 value ++ store_code value_register (result_offset declared)
+abbrev pub result_code : List FlatVariable → Allocation → ℕ → Option TermTree → List Instr
+result_code declared allocation free None = []
+result_code declared allocation free (Some value) =
+    value_code declared allocation free value ++ store_code value_register (result_offset declared)
 
 -- where the temporaries of a program begin
 abbrev pub program_base : StraightProgram → ℕ
 program_base p = temporaries_offset p.declared p.controls (depth_in_all p.body)
 
--- the statements, the result, and the end
-abbrev pub program_code : StraightProgram → List Instr
-program_code p =
-    block_code p.declared p.controls (depth_in_all p.body) 0 p.body ++ result_code p.declared (program_base p) p.value ++ Ecall ∷ []
+-- the words of variables that have homes, from their slots into these: of the variable x and those behind it
+abbrev pub entry_code : List FlatVariable → ℕ → List (Option ℕ) → List Instr
+entry_code declared x [] = []
+entry_code declared x (None ∷ homes) = entry_code declared (x + 1) homes
+entry_code declared x (Some home ∷ homes) =
+    load_code home (variable_offset declared x) ++ entry_code declared (x + 1) homes
+
+abbrev pub home_count : List (Option ℕ) → ℕ
+home_count [] = 0
+home_count (None ∷ homes) = home_count homes
+home_count (Some home ∷ homes) = 1 + home_count homes
+
+-- the homes, the statements and the result
+abbrev pub body_of : Allocation → StraightProgram → List Instr
+body_of a p =
+    entry_code p.declared 0 a.homes
+    ++ (block_code p.declared a p.controls (depth_in_all p.body) 0 p.body ++ result_code p.declared a (program_base p) p.value)
+
+-- and the end
+abbrev pub program_code : Allocation → StraightProgram → List Instr
+program_code a p = body_of a p ++ Ecall ∷ []
 
 abbrev pub result_height : Option TermTree → ℕ
 result_height None = 0
@@ -38,8 +57,8 @@ abbrev pub program_height : StraightProgram → ℕ
 program_height p = max (height_in_all p.body) (result_height p.value)
 
 -- how many slots they take
-abbrev pub program_slots : StraightProgram → ℕ
-program_slots p = slots_to (program_height p)
+abbrev pub program_slots : Allocation → StraightProgram → ℕ
+program_slots a p = slots_to a.count (program_height p)
 
 -- the result's slot, behind the variables
 abbrev pub result_slot : List FlatVariable → WordType → ResultSlot
@@ -49,12 +68,12 @@ result_slot declared word = record { kind = word.kind; label = word.label; offse
 abbrev pub step_limit : ℕ → ℕ
 step_limit work = 32 * work + 64
 
-abbrev pub image_of : StraightProgram → Fields
-image_of p = record {
+abbrev pub image_of : Allocation → StraightProgram → Fields
+image_of a p = record {
   profile = p.profile;
   slots = slots_from 0 p.parameters;
   returned = option_map (result_slot p.declared) p.returned;
-  frame_bytes = program_base p + 4 * program_slots p;
+  frame_bytes = program_base p + 4 * program_slots a p;
   max_steps = step_limit p.work;
-  words = map word_of (program_code p);
+  words = map word_of (program_code a p);
 }

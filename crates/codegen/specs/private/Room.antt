@@ -5,7 +5,8 @@ use Rattle.branch_removal.specs.Bounds.{block_nodes, block_work}
 use Rattle.branch_removal.specs.Straight.{StraightProgram}
 use Rattle.branch_removal.specs.StraightTyping.{IsTypedStraight}
 use Rattle.codegen.specs.private.Emitted.{depth_in_all}
-use Rattle.codegen.specs.private.Generated.{program_code, program_height}
+use Rattle.codegen.specs.private.Generated.{home_count, program_height}
+use Rattle.expression_code.specs.Allocation.{Allocation, IsAllocation}
 use Rattle.expression_code.specs.Layout.{Frame}
 use Rattle.inline.specs.Flat.{declaration_of}
 use Rattle.inline.specs.Limits.{most_variable_bytes}
@@ -23,11 +24,16 @@ pub record HasRoom (p : StraightProgram) : Type 0 where
   pub nodes : p.nodes ≤ most_nodes
   pub work : p.work ≤ most_work
   pub worked : block_work p.turns p.body + value_nodes p.value ≤ p.work
-  pub counted : block_nodes p.body ≤ p.nodes
+  pub counted : block_nodes p.body + value_nodes p.value ≤ p.nodes
   -- the words that lie behind the variables and the result
   pub frame : p.controls + 2 * depth_in_all p.body + program_height p ≤ p.nodes
-  pub code : length (program_code p) ≤ 32 * p.nodes + 64
+
+-- Homes that a program may have: of its variables, and so few that an image has room for the code that fills them.
+pub record IsFitting (p : StraightProgram) (a : Allocation) : Type 0 where
+  pub allocated : IsAllocation p.declared a
+  pub within : length a.homes ≤ length p.declared
+  pub few : home_count a.homes ≤ 20
 
 -- how a program is laid out
-abbrev pub frame_of : StraightProgram → Frame
-frame_of p = record { declared = p.declared; controls = p.controls; depths = depth_in_all p.body }
+abbrev pub frame_of : Allocation → StraightProgram → Frame
+frame_of a p = record { declared = p.declared; controls = p.controls; depths = depth_in_all p.body; allocation = a }

@@ -1,51 +1,18 @@
-use Rattle.std.proofs.Common.{◌≡◌, ℕ, List, ap, ap₂, sym, subst, ◌∙◌, arith}
-use Rattle.codegen.proofs.Machine.{depth_in_all, IsGenerated, frame_of, Frame, temporaries_offset, Fields}
+use Rattle.std.proofs.Common.{◌≡◌, IfOk, ℕ, List, Option, ap, sym, subst, ◌∙◌}
+use Rattle.codegen.proofs.Machine.{Allocation, image_of, IsFitting, plain}
 use Rattle.codegen.specs.Exact.{fields_of}
-use Rattle.codegen.proofs.BodyRuns.{is_generated}
-use Rattle.codegen.proofs.ImageLemmas.{room_frame, has_room}
-use Rattle.codegen.proofs.Language.{FlatVariable, declared_words}
+use Rattle.codegen.proofs.ImageLemmas.{plain_fits}
 use Rattle.codegen.proofs.generator.generate.Goals as goal
 
-pub greatest_depth-depths-requires : goal.greatest_depth-depths-requires
-greatest_depth-depths-requires c =
-    let room = has_room c.args.straight.now c.body.ensures.kept.typed c.body.ensures.kept.bounded in
-    omega (arith, ap depth_in_all c.body.ensures.body, room.frame, room.nodes)
-
-pub offsets-requires : goal.offsets-requires
-offsets-requires c =
-    let few = (has_room c.args.straight.now c.body.ensures.kept.typed c.body.ensures.kept.bounded).declared in
-    omega (arith, ap declared_words c.declared-declared.ensures, few)
-
-pub new-layout-requires-clause-room : goal.new-layout-requires-clause-room
-new-layout-requires-clause-room c =
-    let p = c.args.straight.now in
-    let made : List FlatVariable → ℕ → ℕ → Frame = λ declared controls depths. record { declared = declared; controls = controls; depths = depths } in
-    let depths = c.greatest_depth-depths.ensures ∙ ap depth_in_all c.body.ensures.body in
-    let laid : made c.declared-declared.result.now c.controls.result c.greatest_depth-depths.result ≡ frame_of p =
-    ap (λ declared. made declared c.controls.result c.greatest_depth-depths.result) c.declared-declared.ensures
-    ∙ ap₂ (made p.declared) c.controls.ensures depths in
-    let same = ap (λ (f : Frame). temporaries_offset f.declared f.controls f.depths) laid in
-    omega (arith, same, room_frame p (has_room p c.body.ensures.kept.typed c.body.ensures.kept.bounded))
-
-pub listed-requires : goal.listed-requires
-listed-requires c =
-    let p = c.args.straight.now in
-    let made : List FlatVariable → ℕ → ℕ → Frame = λ declared controls depths. record { declared = declared; controls = controls; depths = depths } in
-    let depths = c.greatest_depth-depths.ensures ∙ ap depth_in_all c.body.ensures.body in
-    record {
-      room = has_room p c.body.ensures.kept.typed c.body.ensures.kept.bounded;
-      frame =
-          c.new-layout.ensures
-          ∙ (ap (λ declared. made declared c.controls.result c.greatest_depth-depths.result) c.declared-declared.ensures
-          ∙ ap₂ (made p.declared) c.controls.ensures depths);
-    }
-
-pub returns-clause-generated : goal.returns-clause-generated
-returns-clause-generated c =
-    let p = c.args.straight.now in
-    let room = has_room p c.body.ensures.kept.typed c.body.ensures.kept.bounded in
-    subst (λ (fields : Fields). IsGenerated p fields) (sym (c.new.ensures ∙ c.in_ok-fields.ensures.exact)) (is_generated p room)
+pub generate_with-requires : goal.generate_with-requires
+generate_with-requires c =
+    let none : List (Option ℕ) → Allocation = λ homes. record { count = 16; homes = homes } in
+    let bare : c.new.result ≡ plain = c.new.ensures ∙ ap none (c.as_slice.ensures.value ∙ c.new-homes.ensures.items) in
+    subst (IsFitting c.args.straight.now) (sym bare) (plain_fits c.args.straight.now)
 
 pub returns-clause-exact : goal.returns-clause-exact
 unfolding fields_of
-returns-clause-exact c = c.new.ensures ∙ c.in_ok-fields.ensures.exact
+returns-clause-exact c =
+    let none : List (Option ℕ) → Allocation = λ homes. record { count = 16; homes = homes } in
+    let bare : c.new.result ≡ plain = c.new.ensures ∙ ap none (c.as_slice.ensures.value ∙ c.new-homes.ensures.items) in
+    subst (λ (a : Allocation). IfOk c.generate_with.result (λ code. code ≡ image_of a c.args.straight.now)) bare c.generate_with.ensures.exact

@@ -8,15 +8,16 @@ use Rattle.codegen.proofs.generator.program_code.Goals as goal
 pub statements-requires : goal.statements-requires
 statements-requires c =
     let p = c.args.straight.now in
+    let a = c.args.layout.now.allocation in
     let body = straight_block c.body.result.now in
     record {
       placed =
-          subst (λ (frame : Frame). HavePlaces frame.declared frame.controls frame.depths 0 body) (sym c.requires.frame)
-          (subst (λ (b : StraightBlock). HavePlaces p.declared p.controls (depth_in_all p.body) 0 b) (sym c.body.ensures.body) (body_placed p c.requires.room));
+          subst (λ (frame : Frame). HavePlaces frame.declared a frame.controls frame.depths 0 body) (sym c.requires.frame)
+          (subst (λ (b : StraightBlock). HavePlaces p.declared a p.controls (depth_in_all p.body) 0 b) (sym c.body.ensures.body) (body_placed a p c.requires.room));
     }
 
-pub expression-requires-clause-among : goal.expression-requires-clause-among
-expression-requires-clause-among c =
+pub into-requires-clause-among : goal.into-requires-clause-among
+into-requires-clause-among c =
     let p = c.args.straight.now in
     let e = term_tree c.in-Some.value.now in
     let is : p.value ≡ Some e = sym c.value.ensures ∙ ap (option_map (λ term. term_tree term.now)) c.in-Some.is in
