@@ -9,8 +9,6 @@ mod pieces;
 mod registers;
 mod room;
 mod sections;
-#[cfg(test)]
-mod tests;
 mod words;
 
 pub use room::{ABOVE_FRAME, room_of};

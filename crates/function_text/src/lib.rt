@@ -9,8 +9,6 @@ mod header;
 mod laws;
 mod lines;
 mod naming;
-#[cfg(test)]
-mod tests;
 mod texts;
 
 pub use assembler::assembler_text;

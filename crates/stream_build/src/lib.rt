@@ -11,6 +11,3 @@ pub use building::{build_source, build_source_as, build_stream, build_stream_as}
 pub use fault::BuildFault;
 pub use laws::streams_agree;
 pub use reading::{read_text, text_of};
-
-#[cfg(test)]
-mod tests;

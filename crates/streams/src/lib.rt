@@ -12,6 +12,3 @@ pub use faltering::Faltering;
 pub use memory::{ByteSink, ByteSource};
 pub use sink::{Sink, SinkFault, put_all};
 pub use source::{ReadFault, Source, SourceFault, get_up_to};
-
-#[cfg(test)]
-mod tests;

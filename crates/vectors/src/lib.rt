@@ -12,8 +12,6 @@ mod laws;
 mod lines;
 mod reading;
 mod running;
-#[cfg(test)]
-mod tests;
 mod texts;
 mod trying;
 mod wanted;

@@ -1,4 +1,4 @@
-use crate::{assembler_text, function_of, header_text, texts_of};
+use function_text::{assembler_text, function_of, header_text, texts_of};
 use language::Profile;
 use std::test::Fail;
 

@@ -1,11 +1,11 @@
 ghost use Rattle.std.specs.Prelude.{◌≤◌};
 
-use super::{BuildFault, build_stream};
 use hepurita::build;
 use language::Refusal;
 use std::alloc::{AllocError, Global};
 use std::process::Abort;
 use std::test::Fail;
+use stream_build::{BuildFault, build_stream};
 use streams::{ByteSink, ByteSource, Faltering};
 
 const ADDS: &str = "export secret uint32 f(secret uint32 x) { return x + 1; }";

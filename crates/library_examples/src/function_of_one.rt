@@ -1,4 +1,4 @@
-use crate::function_words;
+use function_code::function_words;
 use image_fields::{ImageFields, ResultSlot, Slot};
 use language::{Form, Kind, Label, Param, Profile};
 use std::test::Fail;

@@ -1,5 +1,5 @@
-use super::{ByteSink, ByteSource, Faltering, ReadFault, SinkFault, get_up_to, put_all};
 use std::test::Fail;
+use streams::{ByteSink, ByteSource, Faltering, ReadFault, SinkFault, get_up_to, put_all};
 
 #[test]
 fn moves_all_bytes_in_pieces(rt: HostRuntime) -> Result<(), Fail> {

@@ -1,6 +1,6 @@
-use crate::{VectorsFault, read, try_vectors};
 use language::Profile;
 use std::test::Fail;
+use vectors::{VectorsFault, read, try_vectors};
 
 const SWAP: &str =
     "export secret uint32 swap(public uint32 n, secret mut uint8[2] a) { secret uint8 x = a[0]; a[0] = a[1]; a[1] = x; return n + 1; }";
