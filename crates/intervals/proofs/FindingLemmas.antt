@@ -10,7 +10,7 @@ use Rattle.intervals.specs.Findings.{because, sooner_finding, term_findings, ter
 use Rattle.intervals.specs.Intervals.{Bounds}
 use Rattle.intervals.specs.Narrowing.{where_true, where_false}
 use Rattle.intervals.specs.Ranges.{bounds_after, bounds_after_all, first_bounds, in_loop, term_violations, terms_violations, violations, violations_all, result_violations, range_violations}
-use Rattle.labels.specs.Sooner.{comes_before, sooner}
+use Rattle.language.specs.Sooner.{comes_before, sooner}
 use Rattle.language.specs.declared.typing.Violation.{Violation}
 
 abbrev pub violation_of : Finding → Violation

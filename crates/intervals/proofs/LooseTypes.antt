@@ -7,7 +7,7 @@ use Rattle.inline.specs.FlatTyping.{Types, types_of, HasType, of_number, of_trut
 use Rattle.language.specs.Types.{joined}
 use Rattle.language.specs.declared.signature.Label.{Label}
 use Rattle.language.specs.declared.signature.Label.TheVariants.{Public, Secret}
-use Rattle.language.specs.declared.typing.Operation.{Operation}
+use Rattle.language.specs.declared.operation.Operation.{Operation}
 use Rattle.language.specs.declared.typing.WordType.{WordType}
 use Rattle.language.specs.WellTyped.{labelled, Makes, arithmetic, multiplication, division, shift, equality, order, logic}
 use Rattle.language.specs.declared.signature.Kind.TheVariants.{Boolean}

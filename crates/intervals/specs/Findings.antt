@@ -10,7 +10,7 @@ use Rattle.intervals.specs.declared.interval.Interval.{Interval}
 use Rattle.intervals.specs.Intervals.{Bounds, interval}
 use Rattle.intervals.specs.Narrowing.{where_true, where_false}
 use Rattle.intervals.specs.Ranges.{bounds_after, bounds_after_all, first_bounds, in_loop, index_violations}
-use Rattle.labels.specs.Sooner.{comes_before}
+use Rattle.language.specs.Sooner.{comes_before}
 use Rattle.language.specs.Operators.{divides}
 use Rattle.language.specs.Types.{at, when}
 use Rattle.language.specs.declared.rule.Rule.TheVariants.{DivisorMayBeZero}

@@ -2,7 +2,6 @@
 
 ghost use Rattle.std.specs.Prelude.{◌≡◌, fold};
 ghost use Rattle.intervals.specs.Findings.{because, sooner_finding};
-ghost use Rattle.labels.specs.Sooner.{comes_before};
 ghost use Rattle.language.specs.Types.{at, when};
 
 use crate::Interval;
@@ -24,14 +23,6 @@ pub struct Finding {
     pub cause: Cause,
 }
 
-/// Whether one violation is named rather than another.
-fn precedes(one: Violation, other: Violation) -> bool
-    ensures { result ≡ comes_before one other }
-{
-    one.place.offset < other.place.offset
-        || (one.place.offset == other.place.offset && one.rule.rank() < other.rule.rank())
-}
-
 /// The first of the violations seen so far.
 #[derive(Drop)]
 pub struct FirstFinding {
@@ -48,7 +39,7 @@ impl FirstFinding {
         }
         let violation = Violation { place, rule };
         match self.seen {
-            Some(other) if !precedes(violation, other.violation) => {}
+            Some(other) if !violation.precedes(other.violation) => {}
             _ => self.seen = Some(Finding { violation, cause }),
         }
     }

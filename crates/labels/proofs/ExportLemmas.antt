@@ -14,8 +14,8 @@ use Rattle.language.specs.Types.{empty}
 use Rattle.language.specs.Typing.{exports, export_place, export_violations, procedures_violations, violations}
 use Rattle.language.specs.declared.typing.Violation.{Violation}
 use Rattle.labels.specs.Exports.{export_index}
-use Rattle.labels.specs.Sooner.{sooner}
-use Rattle.labels.proofs.SoonerLemmas.{kept_over}
+use Rattle.language.specs.Sooner.{sooner}
+use Rattle.language.proofs.SoonerLemmas.{kept_over}
 
 -- the exported procedure, and those before it, if there is one
 abbrev pub Export : Type 0

@@ -1,4 +1,3 @@
-pub mod SoonerLemmas
 mod TypeLemmas
 mod RuleLemmas
 mod ClashLemmas

@@ -12,7 +12,7 @@ use Rattle.language.specs.declared.typing.Violation.{Violation}
 use Rattle.language.specs.Tree.{expr_tree, parameter_tree}
 use Rattle.language.specs.Types.{Scope, are_met, at}
 use Rattle.language.specs.Typing.{all_passed_rules, passed, passed_rules}
-use Rattle.labels.specs.Sooner.{sooner}
+use Rattle.language.specs.Sooner.{sooner}
 
 pub are_met-append : (one rest : List Rule) → are_met (one ++ rest) ≡ (are_met one && are_met rest)
 are_met-append [] rest = refl

@@ -17,8 +17,8 @@ use Rattle.language.specs.declared.typing.ValueType.{ValueType}
 use Rattle.language.specs.ExprTyping.{expr_violations, type_of}
 use Rattle.language.specs.Types.{Scope, at, declared, found, of_one, of_two, when}
 use Rattle.language.specs.Typing.{block_assigns, block_violations, bounds_rules, condition_rules, control_under, counter_as, declared_array, declared_as, parameter_as, scope_after, scope_after_all, statement_assigns, statement_violations, with_parameters}
-use Rattle.labels.specs.Shortened.{shortened}
-use Rattle.labels.specs.Sooner.{sooner}
+use Rattle.scopes.specs.Shortened.{shortened}
+use Rattle.language.specs.Sooner.{sooner}
 
 -- names, and what they stand for
 abbrev Names : Type 0
@@ -98,27 +98,6 @@ scope_before_body scope ps b =
     let others = all_more b (with_parameters scope ps) in
     ap (shortened (length scope.names)) (one_after scope one.0 others.0 others.1 one.1)
     ∙ shortened_extended scope (one.0 ++ others.0)
-
--- whether a conditional or a loop may assign to something public, by the lists of its statements
-pub conditional_assigns : (scope : Scope) (statement : Statement) (place : Place) (condition : Expr) (accepted otherwise : Vec Statement Global) (ones others : List Statement) → statement ≡ If place condition accepted otherwise → ones ≡ accepted.items → others ≡ otherwise.items →
-    (block_assigns scope (block_tree ones) || block_assigns scope (block_tree others)) ≡ statement_assigns scope (statement_tree statement)
-conditional_assigns scope statement place condition accepted otherwise ones others is first_arm second_arm =
-    ap₂ (λ a b. block_assigns scope (block_tree a) || block_assigns scope (block_tree b)) first_arm second_arm
-    ∙ sym (ap (statement_assigns scope) (ap statement_tree is ∙ conditional_tree place condition accepted otherwise))
-
-pub loop_assigns : (scope : Scope) (statement : Statement) (place : Place) (counter : Counter) (low high : Expr) (body : Vec Statement Global) (ones : List Statement) → statement ≡ For place counter low high body → ones ≡ body.items →
-    block_assigns scope (block_tree ones) ≡ statement_assigns scope (statement_tree statement)
-loop_assigns scope statement place counter low high body ones is items =
-    ap (λ a. block_assigns scope (block_tree a)) items
-    ∙ sym (ap (statement_assigns scope) (ap statement_tree is ∙ loop_tree place counter low high body))
-
-pub first_does : (result one other : Bool) → result ≡ one → result ≡ true → result ≡ (one || other)
-first_does result true other same does = same
-first_does result false other same does = cc
-
-pub second_does : (result none one other : Bool) → none ≡ one → none ≡ false → result ≡ other → result ≡ (one || other)
-second_does result none true other fails does_not same = cc
-second_does result none false other fails does_not same = same
 
 -- what a conditional violates, by the lists of its arms
 conditional_violations : (seen : Option Violation) (earlier : List ProcedureTree) (scope : Scope) (control : Label) (statement : Statement) (place : Place) (condition : Expr) (accepted otherwise : Vec Statement Global) → statement ≡ If place condition accepted otherwise →

@@ -1,4 +1,2 @@
-pub mod Sooner
 pub mod Written
 pub mod Exports
-pub mod Shortened

@@ -2,14 +2,13 @@ ghost use Rattle.std.specs.Prelude.{◌≡◌, ◌++◌, [], fold, length, map};
 ghost use Rattle.language.specs.Tree.{expr_tree, parameter_tree};
 ghost use Rattle.language.specs.Types.{are_met, at};
 ghost use Rattle.language.specs.Typing.{all_passed_rules, argument_variable, is_immutable, parameter_value, passed, passed_rules};
-ghost use Rattle.labels.specs.Sooner.{sooner};
+ghost use Rattle.language.specs.Sooner.{sooner};
 
-use crate::first::First;
-use crate::kinds::{is_mutable, variable};
-use crate::scope::Scope;
-use crate::types::{is_array, word};
 use crate::values::note_argument;
-use language::{ArrayType, Expr, Form, Parameter, Place, Rule, ValueType, VariableType, WordType};
+use language::{
+    ArrayType, Expr, First, Form, Parameter, Place, Rule, ValueType, VariableType, WordType,
+};
+use scopes::Scope;
 
 /// What a parameter is.
 pub fn parameter_value(parameter: &Parameter<'_>) -> ValueType
@@ -21,7 +20,7 @@ pub fn parameter_value(parameter: &Parameter<'_>) -> ValueType
     };
     let length = parameter.length;
     match parameter.form {
-        Form::SingleWord => word(parameter.kind, parameter.label),
+        Form::SingleWord => ValueType::word(parameter.kind, parameter.label),
         Form::FixedArray => ValueType::Array(ArrayType { element, length }),
         Form::MutableArray => ValueType::Array(ArrayType { element, length }),
     }
@@ -32,7 +31,7 @@ fn argument_variable(names: &Scope<'_>, argument: &Expr<'_>) -> Option<VariableT
     ensures { result ≡ argument_variable names.now (expr_tree argument.now) }
 {
     match argument {
-        Expr::Name(_, text) => variable(names.find(text)),
+        Expr::Name(_, text) => names.variable(text),
         _ => None,
     }
 }
@@ -42,7 +41,7 @@ fn is_immutable(variable: Option<VariableType>) -> bool
     ensures { result ≡ is_immutable variable }
 {
     match variable {
-        Some(variable) => is_array(variable.value) && !variable.mutable,
+        Some(variable) => variable.value.is_array() && !variable.mutable,
         None => false,
     }
 }
@@ -60,7 +59,7 @@ fn note_passed(
     ensures first { first.new.seen ≡ fold sooner first.old.seen (at place (passed_rules names.now (record { parameter = parameter_tree parameter.now; given = given; argument = expr_tree argument.now }))) }
 {
     let fits = note_argument(first, place, parameter_value(parameter), given);
-    let fixed = is_mutable(parameter.form) && is_immutable(argument_variable(names, argument));
+    let fixed = parameter.form.is_mutable() && is_immutable(argument_variable(names, argument));
     first.note_if(fixed, place, Rule::NotMutable);
     fits && !fixed
 }

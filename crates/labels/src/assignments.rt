@@ -3,19 +3,17 @@ ghost use Rattle.language.specs.Tree.{procedure_tree, statement_tree};
 ghost use Rattle.language.specs.Types.{at};
 ghost use Rattle.language.specs.declared.tree.Statement.{Assign, AssignElement};
 ghost use Rattle.language.specs.Typing.{assignment_rules, change_rules, element_assignment_rules, statement_violations, target_rules};
-ghost use Rattle.labels.specs.Sooner.{sooner};
+ghost use Rattle.language.specs.Sooner.{sooner};
 
 use crate::declarations::right_side;
 use crate::expressions::{expression, name};
-use crate::first::First;
-use crate::kinds::variable;
 use crate::nodes::element;
-use crate::scope::Scope;
-use crate::types::{kind_of, label_of};
 use crate::values::{note_control, note_value};
 use language::{
-    Assignment, ElementAssignment, Label, Place, Procedure, Rule, ValueType, VariableType, WordType,
+    Assignment, ElementAssignment, First, Label, Place, Procedure, Rule, ValueType, VariableType,
+    WordType,
 };
+use scopes::Scope;
 use std::alloc::{AllocError, Global};
 
 /// Notes what a value violates that is put into a target. An array as a whole is none.
@@ -58,7 +56,7 @@ fn note_assignment(
         place,
         control,
         variable.mutable,
-        label_of(variable.value),
+        variable.value.label(),
     );
 }
 
@@ -73,7 +71,7 @@ pub fn assignment(
 ) -> Result<(), AllocError>
     ensures { OnOk result (first.new.seen ≡ fold sooner first.old.seen (statement_violations (map procedure_tree earlier.now) names.now control (statement_tree (Assign assignment.now)))) }
 {
-    let variable = variable(names.find(assignment.name));
+    let variable = names.variable(assignment.name);
     first.note_if(variable.is_none(), assignment.target, Rule::UndeclaredName);
     let given = right_side(alloc, first, names, earlier, control, &assignment.value)?;
     note_assignment(first, assignment.place, control, variable, given);
@@ -95,11 +93,11 @@ fn note_element_assignment(
         return;
     };
     let wanted = WordType {
-        kind: kind_of(element),
-        label: label_of(element),
+        kind: element.kind(),
+        label: element.label(),
     };
     note_value(first, place, wanted, given);
-    note_change(first, place, control, variable.mutable, label_of(element));
+    note_change(first, place, control, variable.mutable, element.label());
 }
 
 /// An assignment to an element.
@@ -113,7 +111,7 @@ pub fn element_assignment(
 ) -> Result<(), AllocError>
     ensures { OnOk result (first.new.seen ≡ fold sooner first.old.seen (statement_violations (map procedure_tree earlier.now) names.now control (statement_tree (AssignElement assignment.now)))) }
 {
-    let variable = variable(names.find(assignment.name));
+    let variable = names.variable(assignment.name);
     let array = name(first, names, assignment.target, assignment.name);
     let index = expression(first, names, &assignment.index);
     let element = element(first, assignment.bracket, array, index);

@@ -4,15 +4,15 @@ ghost use Rattle.language.specs.Tree.{call_tree, expr_tree, parameter_tree, proc
 ghost use Rattle.language.specs.Types.{are_met, at, is_secret, when};
 ghost use Rattle.language.specs.Typing.{arguments_rules, call_type, call_violations, called_one, result_value};
 ghost use Rattle.language.specs.declared.rule.Rule.TheVariants.{CallAssignsPublicUnderSecretControl};
-ghost use Rattle.labels.specs.Sooner.{sooner};
+ghost use Rattle.language.specs.Sooner.{sooner};
 
 use crate::arguments::note_all_passed;
 use crate::clashes::arrays_clash;
 use crate::expressions::expressions;
-use crate::first::First;
-use crate::kinds::{callee, is_secret};
-use crate::scope::Scope;
-use language::{Call, Callee, Label, Parameter, Place, Procedure, Rule, ValueType, WordType};
+use language::{
+    Call, Callee, First, Label, Parameter, Place, Procedure, Rule, ValueType, WordType,
+};
+use scopes::Scope;
 use std::alloc::{AllocError, Global};
 
 /// What a procedure gives.
@@ -65,7 +65,7 @@ fn note_call_control(first: &mut First, place: Place, control: Label, callee: Ca
     ensures met { result ≡ are_met (when (is_secret control && callee.assigns_public) CallAssignsPublicUnderSecretControl) }
     ensures first { first.new.seen ≡ fold sooner first.old.seen (at place (when (is_secret control && callee.assigns_public) CallAssignsPublicUnderSecretControl)) }
 {
-    let told = is_secret(control) && callee.assigns_public;
+    let told = control.is_secret() && callee.assigns_public;
     first.note_if(told, place, Rule::CallAssignsPublicUnderSecretControl);
     !told
 }
@@ -97,7 +97,7 @@ pub fn call(
     let Some(types) = expressions(alloc, first, names, arguments)? else {
         return Ok(None);
     };
-    let Some((callee, procedure)) = called(earlier, callee(names.find(call.name))) else {
+    let Some((callee, procedure)) = called(earlier, names.callee(call.name)) else {
         first.note_if(true, call.place, Rule::ProcedureNotDeclaredEarlier);
         return Ok(None);
     };

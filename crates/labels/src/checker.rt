@@ -10,12 +10,11 @@ ghost use Rattle.language.specs.Tree.{procedure_tree, program_tree};
 ghost use Rattle.language.specs.Types.{empty};
 ghost use Rattle.language.specs.Typing.{export_violations, exports, procedures_violations, violations};
 ghost use Rattle.labels.specs.Exports.{export_index};
-ghost use Rattle.labels.specs.Sooner.{sooner};
+ghost use Rattle.language.specs.Sooner.{sooner};
 
-use crate::first::First;
 use crate::procedures::procedure;
-use crate::scope::Scope;
-use language::{Place, Procedure, Profile, Program, Refusal, Rule, Violation};
+use language::{First, Place, Procedure, Profile, Program, Refusal, Rule, Violation};
+use scopes::Scope;
 use std::alloc::{AllocError, Global};
 
 /// A program that violates no rule on names, types and labels, where this is the observer; so one of

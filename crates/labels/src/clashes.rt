@@ -6,7 +6,6 @@ ghost use Rattle.language.specs.Typing.{array_name, clashes, passed};
 ghost use Rattle.language.specs.declared.typing.ArrayType.{ArrayType};
 ghost use Rattle.language.specs.declared.typing.ValueType.TheVariants.{Array};
 
-use crate::kinds::is_mutable;
 use language::{Expr, Parameter, ValueType};
 use names::Names;
 use std::alloc::{AllocError, Global};
@@ -75,7 +74,7 @@ pub fn arrays_clash(
     let mut clash = false;
     for (index, parameter) in parameters.iter().enumerate() {
         if let Some(name) = array_name(types[index], &arguments[index]) {
-            clash |= arrays.give(name, is_mutable(parameter.form))?;
+            clash |= arrays.give(name, parameter.form.is_mutable())?;
         }
     }
     Ok(clash)

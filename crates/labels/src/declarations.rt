@@ -5,19 +5,17 @@ ghost use Rattle.language.specs.Tree.{procedure_tree, right_tree, statement_tree
 ghost use Rattle.language.specs.declared.tree.Statement.{Declare, DeclareArray};
 ghost use Rattle.language.specs.Types.{at, found, of_all, of_one};
 ghost use Rattle.language.specs.Typing.{array_rules, count_rules, declaration_control_rules, declaration_rules, right_type, right_violations, scope_after, statement_violations, values_rules};
-ghost use Rattle.labels.specs.Sooner.{sooner};
+ghost use Rattle.language.specs.Sooner.{sooner};
 ghost use Rattle.labels.specs.Written.{values_tree};
 
 use crate::calls::call;
 use crate::expressions::{expression, expressions};
-use crate::first::First;
-use crate::scope::Scope;
-use crate::types::word;
 use crate::values::{note_control, note_value};
 use language::{
-    ArrayDeclaration, ArrayType, Declaration, Declared, Expr, Label, Place, Procedure, RightSide,
-    Rule, ValueType, VariableType, WordType,
+    ArrayDeclaration, ArrayType, Declaration, Declared, Expr, First, Label, Place, Procedure,
+    RightSide, Rule, ValueType, VariableType, WordType,
 };
+use scopes::Scope;
 use std::alloc::{AllocError, Global};
 
 /// Notes what a right side violates, and gives its type where it is well typed.
@@ -85,7 +83,7 @@ pub fn declaration<'a>(
 {
     let given = right_side(alloc, first, names, earlier, control, &declaration.value)?;
     let variable = VariableType {
-        value: word(declaration.kind, declaration.label),
+        value: ValueType::word(declaration.kind, declaration.label),
         mutable: declaration.mutable,
     };
     let taken = names.declare(declaration.name, Declared::Variable(variable))?;

@@ -4,14 +4,11 @@ ghost use Rattle.language.specs.ExprTyping.{expr_violations, exprs_violations, n
 ghost use Rattle.language.specs.Tree.{expr_tree};
 ghost use Rattle.language.specs.Types.{at};
 ghost use Rattle.language.specs.declared.typing.VariableType.{VariableType};
-ghost use Rattle.labels.specs.Sooner.{sooner};
+ghost use Rattle.language.specs.Sooner.{sooner};
 
-use crate::first::First;
-use crate::kinds::variable;
 use crate::nodes::{binary, choice, convert, element, number, prefix, rotate};
-use crate::scope::Scope;
-use crate::types::word;
-use language::{Expr, Kind, Label, Place, Rule, ValueType, VariableType};
+use language::{Expr, First, Kind, Label, Place, Rule, ValueType, VariableType};
+use scopes::Scope;
 use std::alloc::{AllocError, Global};
 
 /// The type of a variable, where there is one.
@@ -29,7 +26,7 @@ pub fn name(first: &mut First, names: &Scope<'_>, place: Place, text: &str) -> O
     ensures typed { result ≡ name_type names.now text.now }
     ensures first { first.new.seen ≡ fold sooner first.old.seen (at place (name_rules names.now text.now)) }
 {
-    let variable = variable(names.find(text));
+    let variable = names.variable(text);
     first.note_if(variable.is_none(), place, Rule::UndeclaredName);
     value_of(variable)
 }
@@ -41,7 +38,7 @@ pub fn expression(first: &mut First, names: &Scope<'_>, expr: &Expr<'_>) -> Opti
 {
     match expr {
         Expr::Number(place, value, kind) => number(first, *place, *value, *kind),
-        Expr::Truth(_, _) => Some(word(Kind::Boolean, Label::Public)),
+        Expr::Truth(_, _) => Some(ValueType::word(Kind::Boolean, Label::Public)),
         Expr::Name(place, text) => name(first, names, *place, text),
         Expr::Prefix(place, operator, operand) => {
             let operand = expression(first, names, operand);

@@ -8,17 +8,10 @@ mod calls;
 mod checker;
 mod clashes;
 mod declarations;
-mod effects;
 mod expressions;
-mod first;
-mod kinds;
 mod nodes;
-mod operations;
 mod procedures;
-mod scope;
 mod statements;
-mod types;
 mod values;
 
 pub use checker::{Checked, check, check_as};
-pub use first::First;

@@ -2,16 +2,11 @@ ghost use Rattle.std.specs.Prelude.{◌≡◌, fold, nat_lt, ◌^◌, None, []};
 ghost use Rattle.language.specs.ExprTyping.{binary_rules, binary_type, convert_rules, convert_type, element_rules, element_type, number_rules, prefix_rules, prefix_type, rotate_rules, rotate_type, select_rules, select_type};
 ghost use Rattle.language.specs.Types.{at, bits_of, of_one, of_two, of_three, unless, word};
 ghost use Rattle.language.specs.declared.signature.Label.TheVariants.{Public};
-ghost use Rattle.labels.specs.Sooner.{sooner};
+ghost use Rattle.language.specs.Sooner.{sooner};
 
-use crate::first::First;
-use crate::kinds::{bits, join};
-use crate::operations::{divides_secret, is_uneven, multiplies_secret, takes};
-use crate::types::{
-    are_alike, is_array, is_bool, is_hidden, is_narrow, is_numeric, kind_of, label_of,
-    widths_differ, word,
+use language::{
+    BinaryOperator, First, Kind, Label, Place, PrefixOperator, Profile, Rule, ValueType,
 };
-use language::{BinaryOperator, Kind, Label, Place, PrefixOperator, Profile, Rule, ValueType};
 
 /// Whether a number is one of its kind.
 fn is_within(value: u32, kind: Kind) -> bool
@@ -33,7 +28,7 @@ pub fn number(first: &mut First, place: Place, value: u32, kind: Kind) -> Option
 {
     let within = is_within(value, kind);
     first.note_if(!within, place, Rule::LiteralOutOfRange);
-    within.then_some(word(kind, Label::Public))
+    within.then_some(ValueType::word(kind, Label::Public))
 }
 
 /// A sign before an operand.
@@ -48,9 +43,9 @@ pub fn prefix(
 {
     let operand = operand?;
     let fits = match operator {
-        PrefixOperator::Not => is_bool(operand),
-        PrefixOperator::Complement => is_numeric(operand),
-        PrefixOperator::Negate => is_numeric(operand),
+        PrefixOperator::Not => operand.is_bool(),
+        PrefixOperator::Complement => operand.is_numeric(),
+        PrefixOperator::Negate => operand.is_numeric(),
     };
     first.note_if(!fits, place, Rule::WrongKind);
     fits.then_some(operand)
@@ -72,10 +67,10 @@ pub fn binary(
         return None;
     };
     let operation = operator.operation();
-    let uneven = is_uneven(operation, left, right);
-    let wrong = !takes(operation, left, right);
-    let told = divides_secret(operation, left, right);
-    let shown = multiplies_secret(profile, operation, left, right);
+    let uneven = operation.is_uneven(left, right);
+    let wrong = !operation.takes(left, right);
+    let told = operation.divides_secret(left, right);
+    let shown = operation.multiplies_secret(profile, left, right);
     first.note_if(uneven, place, Rule::WidthsDiffer);
     first.note_if(wrong, place, Rule::WrongKind);
     first.note_if(told, place, Rule::SecretDivisionOperand);
@@ -83,8 +78,8 @@ pub fn binary(
     if uneven || wrong || told || shown {
         return None;
     }
-    let kind = operation.result_kind(kind_of(left));
-    Some(word(kind, join(label_of(left), label_of(right))))
+    let kind = operation.result_kind(left.kind());
+    Some(ValueType::word(kind, left.label().join(right.label())))
 }
 
 /// A rotation by so many bits.
@@ -98,9 +93,9 @@ pub fn rotate(
     ensures first { first.new.seen ≡ fold sooner first.old.seen (at place (of_one [] (rotate_rules amount) operand)) }
 {
     let operand = operand?;
-    let wrong = !is_numeric(operand);
-    let within = 0 < amount && amount < bits(kind_of(operand));
-    let outside = is_numeric(operand) && !within;
+    let wrong = !operand.is_numeric();
+    let within = 0 < amount && amount < operand.kind().bits();
+    let outside = operand.is_numeric() && !within;
     first.note_if(wrong, place, Rule::WrongKind);
     first.note_if(outside, place, Rule::LiteralOutOfRange);
     if wrong || outside {
@@ -120,9 +115,9 @@ pub fn convert(
     ensures first { first.new.seen ≡ fold sooner first.old.seen (at place (of_one [] convert_rules operand)) }
 {
     let operand = operand?;
-    let fits = is_numeric(operand) || is_bool(operand);
+    let fits = operand.is_numeric() || operand.is_bool();
     first.note_if(!fits, place, Rule::WrongKind);
-    fits.then_some(word(kind, label_of(operand)))
+    fits.then_some(ValueType::word(kind, operand.label()))
 }
 
 /// A choice between two operands.
@@ -139,15 +134,15 @@ pub fn choice(
     let (Some(condition), Some(accepted), Some(otherwise)) = (condition, accepted, otherwise) else {
         return None;
     };
-    let uneven = widths_differ(accepted, otherwise);
-    let wrong = !(is_bool(condition) && are_alike(accepted, otherwise));
+    let uneven = accepted.differs_in_width(otherwise);
+    let wrong = !(condition.is_bool() && accepted.is_alike(otherwise));
     first.note_if(uneven, place, Rule::WidthsDiffer);
     first.note_if(wrong, place, Rule::WrongKind);
     if uneven || wrong {
         return None;
     }
-    let label = join(label_of(accepted), label_of(otherwise));
-    Some(word(kind_of(accepted), join(label_of(condition), label)))
+    let label = accepted.label().join(otherwise.label());
+    Some(ValueType::word(accepted.kind(), condition.label().join(label)))
 }
 
 /// An element of an array.
@@ -163,14 +158,14 @@ pub fn element(
     let (Some(array), Some(index)) = (array, index) else {
         return None;
     };
-    let uneven = is_narrow(index);
-    let wrong = !(is_array(array) && is_numeric(index));
-    let told = is_hidden(index);
+    let uneven = index.is_narrow();
+    let wrong = !(array.is_array() && index.is_numeric());
+    let told = index.is_hidden();
     first.note_if(uneven, place, Rule::WidthsDiffer);
     first.note_if(wrong, place, Rule::WrongKind);
     first.note_if(told, place, Rule::SecretIndex);
     if uneven || wrong || told {
         return None;
     }
-    Some(word(kind_of(array), label_of(array)))
+    Some(ValueType::word(array.kind(), array.label()))
 }

@@ -3,20 +3,17 @@ ghost use Rattle.std.specs.Option.{option_map};
 ghost use Rattle.language.specs.Tree.{parameter_tree, procedure_tree, return_tree};
 ghost use Rattle.language.specs.Types.{at, of_one};
 ghost use Rattle.language.specs.Typing.{parameter_violations, procedure_rules, procedure_violations, return_rules, return_violations, with_parameters, with_procedure};
-ghost use Rattle.labels.specs.Sooner.{sooner};
+ghost use Rattle.language.specs.Sooner.{sooner};
 
 use crate::arguments::parameter_value;
-use crate::effects::assigns_public;
 use crate::expressions::expression;
-use crate::first::First;
-use crate::kinds::is_mutable;
-use crate::scope::Scope;
 use crate::statements::statements;
 use crate::values::note_value;
 use language::{
-    Callee, Declared, Label, Parameter, Place, Procedure, Return, Rule, ValueType, VariableType,
-    WordType,
+    Callee, Declared, First, Label, Parameter, Place, Procedure, Return, Rule, ValueType,
+    VariableType, WordType,
 };
+use scopes::{Scope, assigns_public};
 use std::alloc::{AllocError, Global};
 
 /// Declares the parameters, and notes the names that are taken.
@@ -31,7 +28,7 @@ fn parameters<'a>(
     for parameter in parameters {
         let variable = VariableType {
             value: parameter_value(parameter),
-            mutable: is_mutable(parameter.form),
+            mutable: parameter.form.is_mutable(),
         };
         let taken = names.declare(parameter.name, Declared::Variable(variable))?;
         first.note_if(taken, parameter.place, Rule::NameDeclaredTwice);

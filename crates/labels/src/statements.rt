@@ -3,19 +3,17 @@ ghost use Rattle.language.specs.Tree.{block_tree, procedure_tree, statement_tree
 ghost use Rattle.language.specs.Types.{at, declared, found, of_one, of_two, when};
 ghost use Rattle.language.specs.Typing.{block_violations, bounds_rules, condition_rules, control_under, counter_as, scope_after, scope_after_all, statement_violations};
 ghost use Rattle.language.specs.declared.rule.Rule.TheVariants.{NameDeclaredTwice};
-ghost use Rattle.labels.specs.Sooner.{sooner};
+ghost use Rattle.language.specs.Sooner.{sooner};
 
 use crate::assignments::{assignment, element_assignment};
 use crate::calls::call;
 use crate::declarations::{array, declaration};
 use crate::expressions::expression;
-use crate::first::First;
-use crate::kinds::join;
-use crate::scope::Scope;
-use crate::types::{is_bool, is_hidden, is_narrow, is_numeric, label_of, word};
 use language::{
-    Counter, Declared, Kind, Label, Place, Procedure, Rule, Statement, ValueType, VariableType,
+    Counter, Declared, First, Kind, Label, Place, Procedure, Rule, Statement, ValueType,
+    VariableType,
 };
+use scopes::Scope;
 use std::alloc::{AllocError, Global};
 
 /// Notes what a condition of this type violates.
@@ -23,7 +21,7 @@ fn note_condition(first: &mut First, place: Place, condition: Option<ValueType>)
     ensures { first.new.seen ≡ fold sooner first.old.seen (at place (of_one [] condition_rules condition)) }
 {
     if let Some(condition) = condition {
-        first.note_if(!is_bool(condition), place, Rule::WrongKind);
+        first.note_if(!condition.is_bool(), place, Rule::WrongKind);
     }
 }
 
@@ -32,7 +30,7 @@ fn control_under(control: Label, condition: Option<ValueType>) -> Label
     ensures { result ≡ control_under control condition }
 {
     match condition {
-        Some(condition) => join(label_of(condition), control),
+        Some(condition) => condition.label().join(control),
         None => control,
     }
 }
@@ -44,9 +42,9 @@ fn note_bounds(first: &mut First, place: Place, low: Option<ValueType>, high: Op
     let (Some(low), Some(high)) = (low, high) else {
         return;
     };
-    let uneven = is_narrow(low) || is_narrow(high);
-    let wrong = !(is_numeric(low) && is_numeric(high));
-    let told = is_hidden(low) || is_hidden(high);
+    let uneven = low.is_narrow() || high.is_narrow();
+    let wrong = !(low.is_numeric() && high.is_numeric());
+    let told = low.is_hidden() || high.is_hidden();
     first.note_if(uneven, place, Rule::WidthsDiffer);
     first.note_if(wrong, place, Rule::WrongKind);
     first.note_if(told, place, Rule::SecretBound);
@@ -137,7 +135,7 @@ fn turns<'a>(
 {
     let before = names.len();
     let variable = VariableType {
-        value: word(Kind::Uint32, Label::Public),
+        value: ValueType::word(Kind::Uint32, Label::Public),
         mutable: false,
     };
     let taken = names.declare(counter.name, Declared::Variable(variable))?;

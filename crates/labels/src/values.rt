@@ -1,12 +1,9 @@
 ghost use Rattle.std.specs.Prelude.{◌≡◌, fold};
 ghost use Rattle.language.specs.Types.{are_met, at};
 ghost use Rattle.language.specs.Typing.{argument_rules, control_rules, same_array, shape_rules, value_rules};
-ghost use Rattle.labels.specs.Sooner.{sooner};
+ghost use Rattle.language.specs.Sooner.{sooner};
 
-use crate::first::First;
-use crate::kinds::{is_same_kind, is_same_label, is_secret};
-use crate::types::{are_alike, is_hidden, widths_differ};
-use language::{ArrayType, Label, Place, Rule, ValueType, WordType};
+use language::{ArrayType, First, Label, Place, Rule, ValueType, WordType};
 
 /// Notes what a value of one type violates where a word of another is wanted, and says whether it
 /// violates nothing.
@@ -14,9 +11,9 @@ pub fn note_value(first: &mut First, place: Place, wanted: WordType, given: Valu
     ensures met { result ≡ are_met (value_rules wanted given) }
     ensures first { first.new.seen ≡ fold sooner first.old.seen (at place (value_rules wanted given)) }
 {
-    let uneven = widths_differ(ValueType::Word(wanted), given);
-    let wrong = !are_alike(ValueType::Word(wanted), given);
-    let leaks = !is_secret(wanted.label) && is_hidden(given);
+    let uneven = ValueType::Word(wanted).differs_in_width(given);
+    let wrong = !ValueType::Word(wanted).is_alike(given);
+    let leaks = !wanted.label.is_secret() && given.is_hidden();
     first.note_if(uneven, place, Rule::WidthsDiffer);
     first.note_if(wrong, place, Rule::WrongKind);
     first.note_if(leaks, place, Rule::SecretToPublic);
@@ -27,7 +24,7 @@ pub fn note_value(first: &mut First, place: Place, wanted: WordType, given: Valu
 pub fn note_control(first: &mut First, place: Place, control: Label, label: Label)
     ensures { first.new.seen ≡ fold sooner first.old.seen (at place (control_rules control label)) }
 {
-    let told = !is_secret(label) && is_secret(control);
+    let told = !label.is_secret() && control.is_secret();
     first.note_if(told, place, Rule::PublicAssignedUnderSecretControl);
 }
 
@@ -35,9 +32,9 @@ pub fn note_control(first: &mut First, place: Place, control: Label, label: Labe
 fn is_same_array(one: ArrayType, other: ArrayType) -> bool
     ensures { result ≡ same_array one other }
 {
-    is_same_kind(one.element.kind, other.element.kind)
+    one.element.kind.is_same(other.element.kind)
         && one.length == other.length
-        && is_same_label(one.element.label, other.element.label)
+        && one.element.label.is_same(other.element.label)
 }
 
 /// Notes what a value violates where an array is wanted, and says whether it violates nothing.

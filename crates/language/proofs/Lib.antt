@@ -1,2 +1,3 @@
 pub mod BlockLemmas
 pub mod KnownLemmas
+pub mod SoonerLemmas

@@ -16,4 +16,5 @@ pub mod Size
 pub mod Evaluation
 pub mod WantOfMemory
 pub mod FirstViolation
+pub mod Sooner
 pub mod Grammatical

@@ -17,8 +17,8 @@ use Rattle.language.specs.declared.tree.PrefixOperator.TheVariants.{Not, Complem
 use Rattle.language.specs.declared.typing.ArrayType.{ArrayType}
 use Rattle.language.specs.declared.typing.Callee.{Callee}
 use Rattle.language.specs.declared.typing.Declared.TheVariants.{Procedure, Variable}
-use Rattle.language.specs.declared.typing.Operation.{Operation}
-use Rattle.language.specs.declared.typing.Operation.TheVariants.{Arithmetic, Multiplication, Division, Shift, Equality, Order, Logic}
+use Rattle.language.specs.declared.operation.Operation.{Operation}
+use Rattle.language.specs.declared.operation.Operation.TheVariants.{Arithmetic, Multiplication, Division, Shift, Equality, Order, Logic}
 use Rattle.language.specs.declared.typing.ValueType.{ValueType}
 use Rattle.language.specs.declared.typing.ValueType.TheVariants.{Word, Array}
 use Rattle.language.specs.declared.typing.WordType.{WordType}

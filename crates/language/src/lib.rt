@@ -3,8 +3,10 @@
 // promises of all crates above are stated. It stands on the words and the places of `word`.
 #![tactic(auto)]
 
+mod first;
 mod laws;
 mod limits;
+mod operation;
 mod refusal;
 mod rule;
 mod signature;
@@ -12,10 +14,12 @@ mod tree;
 mod typing;
 mod values;
 
+pub use first::First;
 pub use laws::rows_are_blocks;
 pub use limits::{
     MOST_BODIES, MOST_DECLARED_BYTES, MOST_ELEMENTS, MOST_NODES, limits_are_as_stated,
 };
+pub use operation::Operation;
 pub use refusal::Refusal;
 pub use rule::Rule;
 pub use signature::{Form, Kind, Label, Param};
@@ -24,8 +28,6 @@ pub use tree::{
     Expr, Parameter, PrefixOperator, Procedure, Program, Return, RightSide, Statement,
     procedure_named,
 };
-pub use typing::{
-    ArrayType, Callee, Declared, Operation, ValueType, VariableType, Violation, WordType,
-};
+pub use typing::{ArrayType, Callee, Declared, ValueType, VariableType, Violation, WordType};
 pub use values::{Arg, Args, Numbers, Outcome};
 pub use word::{Place, Profile};

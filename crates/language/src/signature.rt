@@ -14,6 +14,33 @@ pub enum Kind {
 impl Kind {
     ghost use Rattle.language.specs.Operators.{width_of};
     ghost use Rattle.language.specs.Size.{array_words, element_bytes};
+    ghost use Rattle.language.specs.Types.{bits_of, is_number, same_kind};
+
+    /// How many bits a number has; a bool has one.
+    pub fn bits(self) -> u32
+        ensures { result ≡ bits_of self }
+    {
+        match self {
+            Kind::Boolean => 1,
+            Kind::Uint8 => 8,
+            Kind::Uint16 => 16,
+            Kind::Uint32 => 32,
+        }
+    }
+
+    /// Whether it is that of numbers.
+    pub fn is_number(self) -> bool
+        ensures { result ≡ is_number self }
+    {
+        !matches!(self, Kind::Boolean)
+    }
+
+    /// Whether these are one kind.
+    pub fn is_same(self, other: Kind) -> bool
+        ensures { result ≡ same_kind self other }
+    {
+        self.bits() == other.bits()
+    }
 
     /// The width of a number. A bool lies in the narrowest.
     pub fn width(self) -> Width
@@ -52,12 +79,55 @@ pub enum Label {
     Secret,
 }
 
+impl Label {
+    ghost use Rattle.language.specs.Types.{is_secret, joined, same_label};
+
+    /// Whether no observer may learn the value.
+    pub fn is_secret(self) -> bool
+        ensures { result ≡ is_secret self }
+    {
+        matches!(self, Label::Secret)
+    }
+
+    /// Whether these are one label.
+    pub fn is_same(self, other: Label) -> bool
+        ensures { result ≡ same_label self other }
+    {
+        match self {
+            Label::Public => !other.is_secret(),
+            Label::Secret => other.is_secret(),
+        }
+    }
+
+    /// The label of what two operands make.
+    pub fn join(self, other: Label) -> Label
+        ensures { result ≡ joined self other }
+    {
+        if self.is_secret() {
+            Label::Secret
+        } else {
+            other
+        }
+    }
+}
+
 /// How a parameter holds its words.
 #[derive(Clone, Copy, Debug, PartialEq, Eq)]
 pub enum Form {
     SingleWord,
     FixedArray,
     MutableArray,
+}
+
+impl Form {
+    ghost use Rattle.language.specs.Typing.{is_mutable};
+
+    /// Whether a parameter of this form may be assigned to.
+    pub fn is_mutable(self) -> bool
+        ensures { result ≡ is_mutable self }
+    {
+        matches!(self, Form::MutableArray)
+    }
 }
 
 /// A parameter of the export, without its name.

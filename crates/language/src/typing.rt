@@ -26,6 +26,97 @@ pub enum ValueType {
     Nothing,
 }
 
+impl ValueType {
+    ghost use Rattle.language.specs.Types.{are_alike, is_array, is_bool, is_hidden, is_narrow, is_numeric, kind_of, label_of, widths_differ, word};
+
+    /// The type of a word.
+    pub fn word(kind: Kind, label: Label) -> ValueType
+        ensures { result ≡ word kind label }
+    {
+        ValueType::Word(WordType { kind, label })
+    }
+
+    /// Whether it is a number.
+    pub fn is_numeric(self) -> bool
+        ensures { result ≡ is_numeric self }
+    {
+        match self {
+            ValueType::Word(word) => word.kind.is_number(),
+            ValueType::Array(_) | ValueType::Nothing => false,
+        }
+    }
+
+    /// Whether it is a bool.
+    pub fn is_bool(self) -> bool
+        ensures { result ≡ is_bool self }
+    {
+        match self {
+            ValueType::Word(word) => !word.kind.is_number(),
+            ValueType::Array(_) | ValueType::Nothing => false,
+        }
+    }
+
+    /// Whether it is an array.
+    pub fn is_array(self) -> bool
+        ensures { result ≡ is_array self }
+    {
+        matches!(self, ValueType::Array(_))
+    }
+
+    /// Whether it is a number other than `uint32`.
+    pub fn is_narrow(self) -> bool
+        ensures { result ≡ is_narrow self }
+    {
+        match self {
+            ValueType::Word(word) => word.kind.is_number() && !word.kind.is_same(Kind::Uint32),
+            ValueType::Array(_) | ValueType::Nothing => false,
+        }
+    }
+
+    /// The kind of a word, or of an array's elements; of nothing it is that of a bool.
+    pub fn kind(self) -> Kind
+        ensures { result ≡ kind_of self }
+    {
+        match self {
+            ValueType::Word(word) => word.kind,
+            ValueType::Array(array) => array.element.kind,
+            ValueType::Nothing => Kind::Boolean,
+        }
+    }
+
+    /// The label of a word, or of an array's elements; nothing is public.
+    pub fn label(self) -> Label
+        ensures { result ≡ label_of self }
+    {
+        match self {
+            ValueType::Word(word) => word.label,
+            ValueType::Array(array) => array.element.label,
+            ValueType::Nothing => Label::Public,
+        }
+    }
+
+    /// Whether it is secret.
+    pub fn is_hidden(self) -> bool
+        ensures { result ≡ is_hidden self }
+    {
+        self.label().is_secret()
+    }
+
+    /// Whether these are numbers of unequal width.
+    pub fn differs_in_width(self, other: ValueType) -> bool
+        ensures { result ≡ widths_differ self other }
+    {
+        self.is_numeric() && other.is_numeric() && !self.kind().is_same(other.kind())
+    }
+
+    /// Whether these are two numbers, or two bools.
+    pub fn is_alike(self, other: ValueType) -> bool
+        ensures { result ≡ are_alike self other }
+    {
+        (self.is_numeric() && other.is_numeric()) || (self.is_bool() && other.is_bool())
+    }
+}
+
 /// A variable's type, and whether it may be assigned to.
 #[derive(Clone, Copy, Debug, PartialEq, Eq)]
 pub struct VariableType {
@@ -54,40 +145,15 @@ pub struct Violation {
     pub rule: Rule,
 }
 
-/// What an operator between two operands makes of them.
-#[derive(Clone, Copy, Debug, PartialEq, Eq)]
-pub enum Operation {
-    /// A number of two numbers of one width.
-    Arithmetic,
-    /// The product of two numbers of one width.
-    Multiplication,
-    /// A number of two public numbers of one width.
-    Division,
-    /// A number of a number, and of a `uint32` by which it is shifted.
-    Shift,
-    /// A bool of two numbers of one width, or of two bools.
-    Equality,
-    /// A bool of two numbers of one width.
-    Order,
-    /// A bool of two bools.
-    Logic,
-}
+impl Violation {
+    ghost use Rattle.language.specs.Sooner.{comes_before};
 
-impl Operation {
-    ghost use Rattle.language.specs.ExprTyping.{operation_kind};
-
-    /// The kind of what it gives, by the kind of its first operand.
-    pub fn result_kind(self, first: Kind) -> Kind
-        ensures { result ≡ operation_kind self first }
+    /// Whether this one is named rather than another: it stands before it, or at its place with a rule that is asked
+    /// sooner.
+    pub fn precedes(self, other: Violation) -> bool
+        ensures { result ≡ comes_before self other }
     {
-        match self {
-            Operation::Arithmetic => first,
-            Operation::Multiplication => first,
-            Operation::Division => first,
-            Operation::Shift => first,
-            Operation::Equality => Kind::Boolean,
-            Operation::Order => Kind::Boolean,
-            Operation::Logic => Kind::Boolean,
-        }
+        self.place.offset < other.place.offset
+            || (self.place.offset == other.place.offset && self.rule.rank() < other.rule.rank())
     }
 }

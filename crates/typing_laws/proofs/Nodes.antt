@@ -12,8 +12,8 @@ use Rattle.language.specs.declared.signature.Label.TheVariants.{Public}
 use Rattle.language.specs.declared.tree.PrefixOperator.{PrefixOperator}
 use Rattle.language.specs.declared.tree.PrefixOperator.TheVariants.{Not, Complement, Negate}
 use Rattle.language.specs.declared.typing.ArrayType.{ArrayType}
-use Rattle.language.specs.declared.typing.Operation.{Operation}
-use Rattle.language.specs.declared.typing.Operation.TheVariants.{Arithmetic, Multiplication, Division, Shift, Equality, Order, Logic}
+use Rattle.language.specs.declared.operation.Operation.{Operation}
+use Rattle.language.specs.declared.operation.Operation.TheVariants.{Arithmetic, Multiplication, Division, Shift, Equality, Order, Logic}
 use Rattle.language.specs.declared.typing.ValueType.{ValueType}
 use Rattle.language.specs.declared.typing.ValueType.TheVariants.{Word, Array, Nothing}
 use Rattle.language.specs.declared.typing.WordType.{WordType}

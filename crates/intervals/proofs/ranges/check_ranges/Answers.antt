@@ -2,7 +2,7 @@ use Rattle.std.specs.Option.{option_map}
 use Rattle.std.proofs.Common.{sym, ap, subst, ◌∙◌, inl, inr}
 use Rattle.intervals.specs.Loose.{IsSafe}
 use Rattle.intervals.specs.Ranges.{range_violations}
-use Rattle.labels.proofs.SoonerLemmas.{found_first, found_none}
+use Rattle.language.proofs.SoonerLemmas.{found_first, found_none}
 use Rattle.intervals.proofs.FindingLemmas.{violation_of, first_found}
 use Rattle.intervals.proofs.RefusalLemmas.{on_any, on_error}
 use Rattle.intervals.proofs.ranges.check_ranges.Goals as goal

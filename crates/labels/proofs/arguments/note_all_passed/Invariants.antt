@@ -2,7 +2,7 @@ use Rattle.std.proofs.Common.{◌≡◌, ◌&&◌, map, drop, fold}
 use Rattle.language.specs.Tree.{expr_tree, parameter_tree}
 use Rattle.language.specs.Types.{are_met, at}
 use Rattle.language.specs.Typing.{all_passed_rules, passed}
-use Rattle.labels.specs.Sooner.{sooner}
+use Rattle.language.specs.Sooner.{sooner}
 use Rattle.labels.proofs.arguments.note_all_passed.Given as goal
 
 -- what is left of the arguments leads to the same as all of them

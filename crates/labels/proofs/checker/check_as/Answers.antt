@@ -2,7 +2,7 @@ use Rattle.std.proofs.Common.{inr, sym, ◌∙◌}
 use Rattle.language.specs.Tree.{program_tree}
 use Rattle.language.specs.Typing.{violations}
 use Rattle.labels.proofs.ExportLemmas.{index_of, one_exported, seen_over}
-use Rattle.labels.proofs.SoonerLemmas.{found_first, found_none}
+use Rattle.language.proofs.SoonerLemmas.{found_first, found_none}
 use Rattle.labels.proofs.checker.check_as.Goals as goal
 
 pub unreachable-requires : goal.unreachable-requires

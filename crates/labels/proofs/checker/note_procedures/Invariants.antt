@@ -2,7 +2,7 @@ use Rattle.std.proofs.Common.{◌≡◌, [], map, take, drop, fold}
 use Rattle.language.specs.Tree.{procedure_tree}
 use Rattle.language.specs.Types.{empty}
 use Rattle.language.specs.Typing.{procedures_violations}
-use Rattle.labels.specs.Sooner.{sooner}
+use Rattle.language.specs.Sooner.{sooner}
 use Rattle.labels.proofs.checker.note_procedures.Given as goal
 
 -- what is left of the procedures leads to the same first violation as all of them

@@ -1,7 +1,7 @@
 use Rattle.std.proofs.Common.{◌≡◌, drop, fold}
 use Rattle.language.specs.Types.{at}
 use Rattle.language.specs.Typing.{values_rules}
-use Rattle.labels.specs.Sooner.{sooner}
+use Rattle.language.specs.Sooner.{sooner}
 use Rattle.labels.proofs.declarations.note_values.Given as goal
 
 -- what is left of the values leads to the same first violation as all of them

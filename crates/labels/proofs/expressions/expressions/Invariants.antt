@@ -1,7 +1,7 @@
 use Rattle.std.proofs.Common.{◌≡◌, true, length, map, drop, fold}
 use Rattle.language.specs.ExprTyping.{exprs_violations, types_of}
 use Rattle.language.specs.Tree.{expr_tree}
-use Rattle.labels.specs.Sooner.{sooner}
+use Rattle.language.specs.Sooner.{sooner}
 use Rattle.labels.proofs.TypeLemmas.{found_before}
 use Rattle.labels.proofs.expressions.expressions.Given as goal
 

@@ -3,7 +3,7 @@ use Rattle.language.specs.declared.typing.Declared.TheVariants.{Procedure}
 use Rattle.language.specs.Tree.{block_tree, parameter_tree}
 use Rattle.language.specs.Types.{declared}
 use Rattle.language.specs.Typing.{scope_after_all}
-use Rattle.labels.specs.Shortened.{shortened}
+use Rattle.scopes.specs.Shortened.{shortened}
 use Rattle.labels.proofs.TreeLemmas.{scope_before_body}
 use Rattle.labels.proofs.procedures.procedure.Goals as goal
 

@@ -1,7 +1,7 @@
 use Rattle.std.proofs.Common.{◌≡◌, drop}
 use Rattle.language.specs.Tree.{block_tree}
 use Rattle.language.specs.Typing.{block_assigns}
-use Rattle.labels.proofs.effects.+effect.Given as goal
+use Rattle.scopes.proofs.effects.+effect.Given as goal
 
 -- the statements so far assign to nothing public
 abbrev pub invariant-block_assigns-loop-one : goal.invariant-block_assigns-loop-one

@@ -2,7 +2,6 @@ ghost use Rattle.std.specs.Prelude.{◌≡◌, map};
 ghost use Rattle.language.specs.Tree.{block_tree, call_tree, parameter_tree, procedure_tree, right_tree, statement_tree};
 ghost use Rattle.language.specs.Typing.{assigns_public, block_assigns, calls_one, is_public_mutable, may_assign, parameters_assign, right_assigns, statement_assigns};
 
-use crate::kinds::{callee, is_mutable, is_secret};
 use crate::scope::Scope;
 use language::{Call, Callee, Label, Parameter, Procedure, RightSide, Statement};
 
@@ -10,7 +9,7 @@ use language::{Call, Callee, Label, Parameter, Procedure, RightSide, Statement};
 fn is_public_mutable(label: Label, mutable: bool) -> bool
     ensures { result ≡ is_public_mutable label mutable }
 {
-    mutable && !is_secret(label)
+    mutable && !label.is_secret()
 }
 
 /// Whether it is a procedure that may assign to something public.
@@ -27,7 +26,7 @@ fn may_assign(callee: Option<Callee>) -> bool
 fn call_assigns(names: &Scope<'_>, call: &Call<'_>) -> bool
     ensures { result ≡ calls_one names.now (call_tree call.now) }
 {
-    may_assign(callee(names.find(call.name)))
+    may_assign(names.callee(call.name))
 }
 
 /// Whether a right side may assign to something public.
@@ -79,7 +78,7 @@ fn parameters_assign(parameters: &[Parameter<'_>]) -> bool
     ensures { result ≡ parameters_assign (map parameter_tree parameters.now) }
 {
     for parameter in parameters {
-        if is_public_mutable(parameter.label, is_mutable(parameter.form)) {
+        if is_public_mutable(parameter.label, parameter.form.is_mutable()) {
             return true;
         }
     }

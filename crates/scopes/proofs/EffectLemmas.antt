@@ -1,4 +1,4 @@
--- The trees of conditionals and loops, by the lists of their statements.
+-- Whether a conditional or a loop may assign to something public, by the lists of its statements.
 use Rattle.std.proofs.Common.{◌≡◌, Bool, true, false, ◌||◌, List, Vec, Global, sym, ap, ap₂, ◌∙◌}
 use Rattle.word.specs.declared.place.Place.{Place}
 use Rattle.language.proofs.BlockLemmas.{conditional_tree, loop_tree}

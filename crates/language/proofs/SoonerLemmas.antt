@@ -6,7 +6,7 @@ use Rattle.std.proofs.lemmas.List.Elements.{All-cons, All-nil, All-head, All-tai
 use Rattle.language.specs.declared.typing.Violation.{Violation}
 use Rattle.language.specs.Rules.{rank_of}
 use Rattle.language.specs.FirstViolation.{IsNoLaterThan, IsFirst}
-use Rattle.labels.specs.Sooner.{comes_before, sooner}
+use Rattle.language.specs.Sooner.{comes_before, sooner}
 
 earlier : (a b c d : ℕ) → (nat_lt a b || ((a == b) && nat_lt c d)) ≡ true → (a < b) ⊎ ((a ≡ b) × (c ≤ d))
 earlier a b c d h = grind (arith, nat_tests)

@@ -1,16 +1,8 @@
-ghost use Rattle.std.specs.Prelude.{◌≡◌, ◌==◌, ◌&&◌, ◌||◌, nat_lt, fold};
+ghost use Rattle.std.specs.Prelude.{◌≡◌, fold};
 ghost use Rattle.language.specs.Types.{at, when};
-ghost use Rattle.labels.specs.Sooner.{comes_before, sooner};
+ghost use Rattle.language.specs.Sooner.{sooner};
 
-use language::{Place, Rule, Violation};
-
-/// Whether one violation is named rather than another.
-fn precedes(one: Violation, other: Violation) -> bool
-    ensures { result ≡ comes_before one other }
-{
-    one.place.offset < other.place.offset
-        || (one.place.offset == other.place.offset && one.rule.rank() < other.rule.rank())
-}
+use crate::{Place, Rule, Violation};
 
 /// The first of the violations seen so far.
 #[derive(Drop)]
@@ -28,7 +20,7 @@ impl First {
         }
         let one = Violation { place, rule };
         match self.seen {
-            Some(other) if !precedes(one, other) => {}
+            Some(other) if !one.precedes(other) => {}
             _ => self.seen = Some(one),
         }
     }

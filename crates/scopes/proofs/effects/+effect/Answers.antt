@@ -1,8 +1,8 @@
 use Rattle.std.proofs.Common.{refl, ◌∙◌}
 use Rattle.language.specs.Tree.{block_tree}
 use Rattle.language.specs.Typing.{block_assigns}
-use Rattle.labels.proofs.TreeLemmas.{conditional_assigns, first_does, loop_assigns, second_does}
-use Rattle.labels.proofs.effects.+effect.Goals as goal
+use Rattle.scopes.proofs.EffectLemmas.{conditional_assigns, first_does, loop_assigns, second_does}
+use Rattle.scopes.proofs.effects.+effect.Goals as goal
 
 pub statement_assigns-returns-then-block_assigns :
     goal.statement_assigns-returns-then-block_assigns

@@ -1,8 +1,8 @@
 ghost use Rattle.std.specs.Prelude.{◌≡◌, is_some, length, IfOk, OnOk};
-ghost use Rattle.language.specs.Types.{declared, empty, found};
-ghost use Rattle.labels.specs.Shortened.{shortened};
+ghost use Rattle.language.specs.Types.{callee, declared, empty, found, variable};
+ghost use Rattle.scopes.specs.Shortened.{shortened};
 
-use language::{Declared, Profile};
+use language::{Callee, Declared, Profile, VariableType};
 use names::Names;
 use std::alloc::{AllocError, Global};
 use std::marker::Model;
@@ -59,6 +59,26 @@ impl<'a> Scope<'a> {
         ensures { result ≡ found self.now name.now }
     {
         self.names.find(name)
+    }
+
+    /// The variable that a name stands for, where it is one.
+    pub fn variable(&self, name: &str) -> Option<VariableType>
+        ensures { result ≡ variable (found self.now name.now) }
+    {
+        match self.find(name) {
+            Some(Declared::Variable(variable)) => Some(variable),
+            Some(Declared::Procedure(_)) | None => None,
+        }
+    }
+
+    /// The procedure that a name stands for, where it is one.
+    pub fn callee(&self, name: &str) -> Option<Callee>
+        ensures { result ≡ callee (found self.now name.now) }
+    {
+        match self.find(name) {
+            Some(Declared::Procedure(callee)) => Some(callee),
+            Some(Declared::Variable(_)) | None => None,
+        }
     }
 
     /// Declares a name, and answers whether it was taken: the first declaration of a name keeps it.

@@ -1,7 +1,7 @@
 use Rattle.std.proofs.Common.{◌≡◌, map, drop}
 use Rattle.language.specs.Tree.{parameter_tree}
 use Rattle.language.specs.Typing.{parameters_assign}
-use Rattle.labels.proofs.effects.parameters_assign.Given as goal
+use Rattle.scopes.proofs.effects.parameters_assign.Given as goal
 
 -- the parameters so far are none of those that are looked for
 abbrev pub invariant-loop-parameter : goal.invariant-loop-parameter
