@@ -4,3 +4,5 @@ pub mod RowLaws
 pub mod FieldLaws
 pub mod WordLaws
 pub mod Text
+pub mod Signed
+pub mod FieldText

@@ -1,7 +1,7 @@
 -- The assembly text of instructions.
 use Rattle.std.specs.Prelude.{ℕ, List, ◌++◌, codes}
 use Rattle.std.specs.Fmt.{decimal}
-use Rattle.rv_fields.specs.Text.{reg_text, immediate_text, upper_text, branch_offset_text, jump_offset_text}
+use Rattle.rv_code.specs.FieldText.{reg_text, immediate_text, upper_text, branch_offset_text, jump_offset_text}
 use Rattle.rv_code.specs.declared.instructions.Instr.{Instr}
 use Rattle.rv_code.specs.declared.instructions.Instr.TheVariants.{Upper, Jump, JumpRegister, Branch, Load, Store, Immediate, Shift, Register, Multiply, Divide, Fence, Ecall, Ebreak}
 use Rattle.rv_code.specs.declared.operations.UpperOperation.{UpperOperation}

@@ -7,9 +7,7 @@ use crate::instructions::Instr;
 use crate::operations::{
     BRANCH, EBREAK, ECALL, JAL, JALR, LOAD, MISC_MEM, MULDIV, OP, OP_IMM, STORE,
 };
-use rv_fields::{
-    BranchOffset, FenceBits, Immediate12, JumpOffset, Reg, ShiftAmount, UpperImmediate,
-};
+use crate::{BranchOffset, FenceBits, Immediate12, JumpOffset, Reg, ShiftAmount, UpperImmediate};
 
 /// The word of an instruction.
 #[tactic(auto, unfolding(crate::specs::Words::word_of))]

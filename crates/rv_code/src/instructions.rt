@@ -6,9 +6,7 @@ use crate::operations::{
     BranchTest, DivideOperation, ImmediateOperation, LoadOperation, MultiplyOperation,
     RegisterOperation, ShiftOperation, StoreOperation, UpperOperation,
 };
-use rv_fields::{
-    BranchOffset, FenceBits, Immediate12, JumpOffset, Reg, ShiftAmount, UpperImmediate,
-};
+use crate::{BranchOffset, FenceBits, Immediate12, JumpOffset, Reg, ShiftAmount, UpperImmediate};
 
 /// An instruction.
 #[derive(Clone, Copy, Debug, PartialEq, Eq)]

@@ -2,26 +2,35 @@
 //
 // It promises that `encode` gives an instruction the word that the RISC-V Unprivileged ISA gives
 // it (`specs/Words.antt`), that `decode` gives back an instruction exactly for its word, and that
-// two instructions have two words. It stands on `rv_fields`, whose types it passes on.
+// two instructions have two words; and that a register, an immediate or another field is made exactly
+// where it can hold the number, and gives that number back. It stands on nothing but the standard library.
 #![tactic(auto)]
 
 pub mod decoding;
 pub mod encoding;
+mod field_text;
 mod fields;
+pub mod immediates;
 pub mod instructions;
 pub mod laws;
 mod mnemonics;
+pub mod offsets;
 pub mod operations;
+pub mod registers;
 mod rows;
+pub mod small_fields;
 mod text;
+pub mod upper_immediates;
 
 pub use decoding::decode;
 pub use encoding::encode;
+pub use immediates::Immediate12;
 pub use instructions::Instr;
+pub use offsets::{BranchOffset, JumpOffset};
 pub use operations::{
     BranchTest, DivideOperation, ImmediateOperation, LoadOperation, MultiplyOperation,
     RegisterOperation, ShiftOperation, StoreOperation, UpperOperation,
 };
-pub use rv_fields::{
-    BranchOffset, FenceBits, Immediate12, JumpOffset, Reg, ShiftAmount, UpperImmediate,
-};
+pub use registers::Reg;
+pub use small_fields::{FenceBits, ShiftAmount};
+pub use upper_immediates::UpperImmediate;

@@ -1,7 +1,7 @@
 // How far branches and jumps go.
 
 ghost use Rattle.std.specs.Prelude.{◌≡◌, ℕ, ◌*◌, ◌%◌, ◌^◌, ◌<◌, Some, IfSome};
-ghost use Rattle.rv_fields.specs.Signed.{signed_value};
+ghost use Rattle.rv_code.specs.Signed.{signed_value};
 
 use std::marker::Model;
 

@@ -1,7 +1,7 @@
 -- The assembly text of operands.
 use Rattle.std.specs.Prelude.{ℕ, ◌-◌, ◌*◌, ◌^◌, List, [], ◌++◌, codes, false}
 use Rattle.std.specs.Fmt.{decimal, signed_decimal, digits, padded_integral, format_spec}
-use Rattle.rv_fields.specs.Signed.{signed_value}
+use Rattle.rv_code.specs.Signed.{signed_value}
 
 abbrev pub reg_text : ℕ → List ℕ
 reg_text number = codes "x" ++ decimal number

@@ -2,7 +2,7 @@
 
 ghost use Rattle.std.specs.Prelude.{Some};
 ghost use Rattle.std.specs.Fmt.{decimal};
-ghost use Rattle.rv_fields.specs.Text.{reg_text, immediate_text, upper_text, branch_offset_text, jump_offset_text};
+ghost use Rattle.rv_code.specs.FieldText.{reg_text, immediate_text, upper_text, branch_offset_text, jump_offset_text};
 
 use crate::immediates::Immediate12;
 use crate::offsets::{BranchOffset, JumpOffset};

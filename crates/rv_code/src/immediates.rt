@@ -1,7 +1,7 @@
 // The signed immediate of the I and S formats.
 
 ghost use Rattle.std.specs.Prelude.{◌≡◌, ◌%◌, ◌^◌, ◌<◌, ◌↔◌, IsSome, IfSome, pos, negsuc, ◌≤ℤ◌};
-ghost use Rattle.rv_fields.specs.Signed.{signed_value};
+ghost use Rattle.rv_code.specs.Signed.{signed_value};
 
 use std::marker::Model;
 

@@ -1,2 +1,0 @@
-pub mod Signed
-pub mod Text
