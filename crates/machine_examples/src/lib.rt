@@ -6,6 +6,8 @@
 #[cfg(test)]
 mod certified;
 #[cfg(test)]
+mod expecting;
+#[cfg(test)]
 mod fields;
 #[cfg(test)]
 mod instructions;

@@ -1,5 +1,6 @@
 // Memories of ranges of addresses, and turns recorded one at a time.
 
+use crate::expecting::has;
 use rv_machine::hart::Hart;
 use rv_machine::memory::Memory;
 use rv_machine::{
@@ -25,16 +26,26 @@ const RANGES: [AddressRange; 2] = [
 fn keeps_the_bytes_of_ranges_alone(rt: HostRuntime) -> Result<(), Fail> {
     let mut memory = PagedMemory::new(rt.alloc(), &RANGES)?;
     assert!(rt; memory.store(0x1000_0004, Size::Word, 0x1234_5678));
-    assert_eq!(rt; memory.load(0x1000_0006, Size::Half), Some(0x1234));
-    assert_eq!(rt; memory.load(0x1000_0008, Size::Byte), None);
-    assert_eq!(rt; memory.load(0x1000_0006, Size::Word), None);
-    assert_eq!(rt; memory.load(0x1000_000f, Size::Byte), None);
+    has(
+        &rt,
+        &memory,
+        &[
+            (0x1000_0006, Size::Half, Some(0x1234)),
+            (0x1000_0008, Size::Byte, None),
+            (0x1000_0006, Size::Word, None),
+            (0x1000_000f, Size::Byte, None),
+        ],
+    );
     assert!(rt; !memory.store(0x1000_000e, Size::Word, 1));
-    assert_eq!(rt; memory.load(0x1000_0010, Size::Half), Some(0));
+    has(&rt, &memory, &[(0x1000_0010, Size::Half, Some(0))]);
     assert!(rt; memory.store(0x1000_2013, Size::Byte, 0xff));
-    assert_eq!(rt; memory.load(0x1000_2010, Size::Word), Some(0xff00_0000));
+    has(
+        &rt,
+        &memory,
+        &[(0x1000_2010, Size::Word, Some(0xff00_0000))],
+    );
     assert!(rt; !memory.store(0x1000_2014, Size::Byte, 1));
-    assert_eq!(rt; memory.load(0x1000_0ffc, Size::Word), Some(0));
+    has(&rt, &memory, &[(0x1000_0ffc, Size::Word, Some(0))]);
     Ok(())
 }
 
@@ -42,16 +53,22 @@ fn keeps_the_bytes_of_ranges_alone(rt: HostRuntime) -> Result<(), Fail> {
 fn stores_a_word_across_two_pages(rt: HostRuntime) -> Result<(), Fail> {
     let mut memory = PagedMemory::new(rt.alloc(), &RANGES)?;
     assert!(rt; memory.store(0x1000_100d, Size::Word, 0x1234_5678));
-    assert_eq!(rt; memory.load(0x1000_100d, Size::Word), Some(0x1234_5678));
-    assert_eq!(rt; memory.load(0x1000_100f, Size::Half), Some(0x1234));
-    assert_eq!(rt; memory.load(0x1000_1010, Size::Byte), Some(0x12));
+    has(
+        &rt,
+        &memory,
+        &[
+            (0x1000_100d, Size::Word, Some(0x1234_5678)),
+            (0x1000_100f, Size::Half, Some(0x1234)),
+            (0x1000_1010, Size::Byte, Some(0x12)),
+        ],
+    );
     Ok(())
 }
 
 #[test]
 fn has_no_data_without_ranges(rt: HostRuntime) -> Result<(), Fail> {
     let memory = PagedMemory::new(rt.alloc(), &[])?;
-    assert_eq!(rt; memory.load(0, Size::Byte), None);
+    has(&rt, &memory, &[(0, Size::Byte, None)]);
     let memory = PagedMemory::new(
         rt.alloc(),
         &[AddressRange {
@@ -59,8 +76,14 @@ fn has_no_data_without_ranges(rt: HostRuntime) -> Result<(), Fail> {
             end: 0x1_0000_0000,
         }],
     )?;
-    assert_eq!(rt; memory.load(0xffff_fffc, Size::Word), Some(0));
-    assert_eq!(rt; memory.load(0xffff_ffff, Size::Half), None);
+    has(
+        &rt,
+        &memory,
+        &[
+            (0xffff_fffc, Size::Word, Some(0)),
+            (0xffff_ffff, Size::Half, None),
+        ],
+    );
     Ok(())
 }
 

@@ -2,7 +2,7 @@
 
 ghost use Rattle.std.specs.Prelude.{◌≤◌, length};
 
-use rv_code::Reg;
+use crate::expecting::{has, holds};
 use rv_machine::hart::Hart;
 use rv_machine::memory::Memory;
 use rv_machine::recording::Recorder;
@@ -10,6 +10,7 @@ use rv_machine::{
     CodeRegion, Event, FlatMemory, ListRecorder, NullRecorder, Observation, Size, Stop, run, step,
 };
 use std::alloc::{AllocError, Global};
+use std::process::Abort;
 use std::test::Fail;
 
 const CODE: u32 = 0x0001_0000;
@@ -42,8 +43,10 @@ fn run_of(alloc: Global, words: &[u32], bytes: u32, budget: u64) -> Result<Seen,
     })
 }
 
-fn register(hart: &Hart, number: u8) -> Option<u32> {
-    Some(hart.reg(Reg::new(number)?))
+/// The run stopped so, and showed this.
+fn ends(rt: &(impl Abort + AllocGlobal), run: &Seen, stop: Stop, shown: &[Observation]) {
+    assert_eq!(rt; run.stop, stop);
+    assert_eq!(rt; run.recorder.list(), shown);
 }
 
 fn at(pc: u32) -> Observation {
@@ -65,8 +68,7 @@ fn stores_within_its_data(rt: HostRuntime) -> Result<(), Fail> {
         shown(CODE, Event::Store(0x1000_0004, Size::Word)),
         at(CODE + 4),
     ];
-    assert_eq!(rt; run.stop, Stop::Ecall);
-    assert_eq!(rt; run.recorder.list(), expected.as_slice());
+    ends(&rt, &run, Stop::Ecall, &expected);
     assert_eq!(rt; run.hart.pc(), CODE + 4);
     Ok(())
 }
@@ -74,8 +76,7 @@ fn stores_within_its_data(rt: HostRuntime) -> Result<(), Fail> {
 #[test]
 fn faults_outside_its_data(rt: HostRuntime) -> Result<(), Fail> {
     let run = run_of(rt.alloc(), &[0x0051_2223, 0x0000_0073], 4, 10)?;
-    assert_eq!(rt; run.stop, Stop::AccessFault);
-    assert_eq!(rt; run.recorder.list(), [at(CODE)].as_slice());
+    ends(&rt, &run, Stop::AccessFault, &[at(CODE)]);
     assert_eq!(rt; run.hart.pc(), CODE);
     Ok(())
 }
@@ -83,16 +84,14 @@ fn faults_outside_its_data(rt: HostRuntime) -> Result<(), Fail> {
 #[test]
 fn stops_at_a_word_that_is_no_instruction(rt: HostRuntime) -> Result<(), Fail> {
     let run = run_of(rt.alloc(), &[0x0000_0000], 0, 10)?;
-    assert_eq!(rt; run.stop, Stop::Illegal);
-    assert_eq!(rt; run.recorder.list(), [at(CODE)].as_slice());
+    ends(&rt, &run, Stop::Illegal, &[at(CODE)]);
     Ok(())
 }
 
 #[test]
 fn breaks(rt: HostRuntime) -> Result<(), Fail> {
     let run = run_of(rt.alloc(), &[0x0010_0073], 0, 10)?;
-    assert_eq!(rt; run.stop, Stop::Break);
-    assert_eq!(rt; run.recorder.list(), [at(CODE)].as_slice());
+    ends(&rt, &run, Stop::Break, &[at(CODE)]);
     Ok(())
 }
 
@@ -100,25 +99,20 @@ fn breaks(rt: HostRuntime) -> Result<(), Fail> {
 #[test]
 fn makes_as_many_turns_as_allowed(rt: HostRuntime) -> Result<(), Fail> {
     let none = run_of(rt.alloc(), &[0x0010_0093, 0x0000_0073], 0, 0)?;
-    assert_eq!(rt; none.stop, Stop::Budget);
-    assert_eq!(rt; none.recorder.list().len(), 0);
+    ends(&rt, &none, Stop::Budget, &[]);
     let one = run_of(rt.alloc(), &[0x0010_0093, 0x0000_0073], 0, 1)?;
-    assert_eq!(rt; one.stop, Stop::Budget);
-    assert_eq!(rt; one.recorder.list(), [at(CODE)].as_slice());
+    ends(&rt, &one, Stop::Budget, &[at(CODE)]);
     let both = run_of(rt.alloc(), &[0x0010_0093, 0x0000_0073], 0, 2)?;
-    assert_eq!(rt; both.stop, Stop::Ecall);
-    assert_eq!(rt; both.recorder.list(), [at(CODE), at(CODE + 4)].as_slice());
+    ends(&rt, &both, Stop::Ecall, &[at(CODE), at(CODE + 4)]);
     Ok(())
 }
 
 #[test]
 fn shows_nothing_where_there_is_no_word(rt: HostRuntime) -> Result<(), Fail> {
     let empty = run_of(rt.alloc(), &[], 0, 10)?;
-    assert_eq!(rt; empty.stop, Stop::AccessFault);
-    assert_eq!(rt; empty.recorder.list().len(), 0);
+    ends(&rt, &empty, Stop::AccessFault, &[]);
     let past = run_of(rt.alloc(), &[0x0010_0093], 0, 10)?;
-    assert_eq!(rt; past.stop, Stop::AccessFault);
-    assert_eq!(rt; past.recorder.list(), [at(CODE)].as_slice());
+    ends(&rt, &past, Stop::AccessFault, &[at(CODE)]);
     Ok(())
 }
 
@@ -138,8 +132,7 @@ fn shows_nothing_at_a_misaligned_pc(rt: HostRuntime) -> Result<(), Fail> {
 #[test]
 fn shows_no_address_of_a_misaligned_load(rt: HostRuntime) -> Result<(), Fail> {
     let run = run_of(rt.alloc(), &[0x0021_2283], 8, 10)?;
-    assert_eq!(rt; run.stop, Stop::Misaligned);
-    assert_eq!(rt; run.recorder.list(), [at(CODE)].as_slice());
+    ends(&rt, &run, Stop::Misaligned, &[at(CODE)]);
     Ok(())
 }
 
@@ -156,12 +149,18 @@ fn computes_modulo_two_to_32(rt: HostRuntime) -> Result<(), Fail> {
     ];
     let run = run_of(rt.alloc(), &words, 0, 6)?;
     assert_eq!(rt; run.stop, Stop::Budget);
-    assert_eq!(rt; register(&run.hart, 0), Some(0));
-    assert_eq!(rt; register(&run.hart, 1), Some(0xffff_ffff));
-    assert_eq!(rt; register(&run.hart, 2), Some(DATA));
-    assert_eq!(rt; register(&run.hart, 3), Some(0x1000_0001));
-    assert_eq!(rt; register(&run.hart, 5), Some(0x1234_5000));
-    assert_eq!(rt; register(&run.hart, 6), Some(1));
+    holds(
+        &rt,
+        &run.hart,
+        &[
+            (0, 0),
+            (1, 0xffff_ffff),
+            (2, DATA),
+            (3, 0x1000_0001),
+            (5, 0x1234_5000),
+            (6, 1),
+        ],
+    );
     Ok(())
 }
 
@@ -182,11 +181,17 @@ fn extends_what_it_loads(rt: HostRuntime) -> Result<(), Fail> {
     ];
     let run = run_of(rt.alloc(), &words, 4, 10)?;
     assert_eq!(rt; run.stop, Stop::Ecall);
-    assert_eq!(rt; register(&run.hart, 5), Some(0xffff_ff89));
-    assert_eq!(rt; register(&run.hart, 7), Some(0x89));
-    assert_eq!(rt; register(&run.hart, 28), Some(0xffff_8900));
-    assert_eq!(rt; register(&run.hart, 29), Some(0x8900));
-    assert_eq!(rt; register(&run.hart, 30), Some(0x0089_8900));
+    holds(
+        &rt,
+        &run.hart,
+        &[
+            (5, 0xffff_ff89),
+            (7, 0x89),
+            (28, 0xffff_8900),
+            (29, 0x8900),
+            (30, 0x0089_8900),
+        ],
+    );
     let list = run.recorder.list();
     assert_eq!(rt;
         list.get(1).copied(),
@@ -209,8 +214,7 @@ fn shows_which_way_it_branched(rt: HostRuntime) -> Result<(), Fail> {
         at(CODE + 4),
         at(CODE + 12),
     ];
-    assert_eq!(rt; run.stop, Stop::Ecall);
-    assert_eq!(rt; run.recorder.list(), expected.as_slice());
+    ends(&rt, &run, Stop::Ecall, &expected);
     Ok(())
 }
 
@@ -225,9 +229,8 @@ fn divides_the_least_by_minus_one(rt: HostRuntime) -> Result<(), Fail> {
         shown(CODE + 8, Event::Div(0x8000_0000, 0xffff_ffff)),
         at(CODE + 12),
     ];
-    assert_eq!(rt; run.stop, Stop::Ecall);
-    assert_eq!(rt; run.recorder.list(), expected.as_slice());
-    assert_eq!(rt; register(&run.hart, 5), Some(0x8000_0000));
+    ends(&rt, &run, Stop::Ecall, &expected);
+    holds(&rt, &run.hart, &[(5, 0x8000_0000)]);
     Ok(())
 }
 
@@ -235,11 +238,7 @@ fn divides_the_least_by_minus_one(rt: HostRuntime) -> Result<(), Fail> {
 #[test]
 fn goes_round_until_the_budget_is_spent(rt: HostRuntime) -> Result<(), Fail> {
     let run = run_of(rt.alloc(), &[0x0000_006f], 0, 3)?;
-    assert_eq!(rt; run.stop, Stop::Budget);
-    assert_eq!(rt;
-        run.recorder.list(),
-        [at(CODE), at(CODE), at(CODE)].as_slice()
-    );
+    ends(&rt, &run, Stop::Budget, &[at(CODE), at(CODE), at(CODE)]);
     Ok(())
 }
 
@@ -255,11 +254,17 @@ fn loads_what_it_stored(rt: HostRuntime) -> Result<(), Fail> {
     ];
     let run = run_of(rt.alloc(), &words, 8, 10)?;
     assert_eq!(rt; run.stop, Stop::Ecall);
-    assert_eq!(rt; register(&run.hart, 6), Some(0x1234_5678));
-    assert_eq!(rt; run.memory.load(DATA + 4, Size::Byte), Some(0x78));
-    assert_eq!(rt; run.memory.load(DATA + 6, Size::Half), Some(0x1234));
-    assert_eq!(rt; run.memory.load(DATA, Size::Word), Some(0));
-    assert_eq!(rt; run.memory.load(DATA + 5, Size::Word), None);
+    holds(&rt, &run.hart, &[(6, 0x1234_5678)]);
+    has(
+        &rt,
+        &run.memory,
+        &[
+            (DATA + 4, Size::Byte, Some(0x78)),
+            (DATA + 6, Size::Half, Some(0x1234)),
+            (DATA, Size::Word, Some(0)),
+            (DATA + 5, Size::Word, None),
+        ],
+    );
     Ok(())
 }
 
@@ -270,7 +275,7 @@ fn runs_unrecorded(rt: HostRuntime) -> Result<(), Fail> {
     let mut hart = Hart::new(CODE, DATA);
     let stop = run(&mut hart, &code, &mut memory, &mut NullRecorder, 10);
     assert_eq!(rt; stop, Stop::Ecall);
-    assert_eq!(rt; register(&hart, 1), Some(1));
+    holds(&rt, &hart, &[(1, 1)]);
     Ok(())
 }
 
@@ -310,7 +315,7 @@ fn does_nothing_after_a_refused_record(rt: HostRuntime) -> Result<(), Fail> {
     assert_eq!(rt; stop, Stop::RecorderRefused);
     assert_eq!(rt; recorder.refusals, 1);
     assert_eq!(rt; hart.pc(), CODE);
-    assert_eq!(rt; memory.load(DATA, Size::Word), Some(0));
+    has(&rt, &memory, &[(DATA, Size::Word, Some(0))]);
     Ok(())
 }
 
@@ -320,10 +325,16 @@ fn keeps_the_first_and_the_last_of_many_bytes(rt: HostRuntime) -> Result<(), Fai
     let mut memory = FlatMemory::new(rt.alloc(), DATA, 65_536)?;
     assert!(rt; memory.store(DATA, Size::Byte, 0x1ab));
     assert!(rt; memory.store(DATA + 65_535, Size::Byte, 0xcd));
-    assert_eq!(rt; memory.load(DATA, Size::Byte), Some(0xab));
-    assert_eq!(rt; memory.load(DATA + 65_535, Size::Byte), Some(0xcd));
-    assert_eq!(rt; memory.load(DATA + 65_532, Size::Word), Some(0xcd00_0000));
-    assert_eq!(rt; memory.load(DATA + 65_535, Size::Half), None);
+    has(
+        &rt,
+        &memory,
+        &[
+            (DATA, Size::Byte, Some(0xab)),
+            (DATA + 65_535, Size::Byte, Some(0xcd)),
+            (DATA + 65_532, Size::Word, Some(0xcd00_0000)),
+            (DATA + 65_535, Size::Half, None),
+        ],
+    );
     assert!(rt; !memory.store(DATA + 65_536, Size::Byte, 1));
     Ok(())
 }
