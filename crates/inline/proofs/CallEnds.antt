@@ -34,7 +34,8 @@ use Rattle.inline.proofs.Passing.{passed_keeps, passed_comes}
 use Rattle.inline.proofs.Terms.{Holds, Shows}
 
 -- before the first parameter
-pub no_names : (scope : Scope) → NoVariables scope → (types : Types) (n : ℕ) → types.profile ≡ scope.profile → ((x : ℕ) → n ≤ x → types.at x ≡ None) → Linked scope [] types n
+pub no_names : (scope : Scope) → NoVariables scope → (types : Types) (n : ℕ) → types.profile ≡ scope.profile
+    → ((x : ℕ) → n ≤ x → types.at x ≡ None) → Linked scope [] types n
 no_names scope none types n observed fresh = record {
   observed = observed;
   known = λ text v is. absurd (none text v is);
@@ -53,9 +54,12 @@ mutable_is_array p free = by_form p.form free
     by_form MutableArray free = refl
 
 -- a call changes only what may be changed
-no_change : (scope : Scope) {ps : List ParameterTree} {es : List ExprTree} → ArePassed scope ps es → (names : Numbers) (types : Types) (n x : ℕ) → Linked scope names types n → Spares names n x → Changes names x ps es → ⊥
+no_change : (scope : Scope) {ps : List ParameterTree} {es : List ExprTree} → ArePassed scope ps es
+    → (names : Numbers) (types : Types) (n x : ℕ) → Linked scope names types n → Spares names n x
+    → Changes names x ps es → ⊥
 no_change scope none_passed names types n x linked spares changes = changes
-no_change scope (one_passed {p = p} {ps = ps} {argument = e} {arguments = es} is shares are) names types n x linked spares changes = by_first changes (no_change scope are names types n x linked spares)
+no_change scope (one_passed {p = p} {ps = ps} {argument = e} {arguments = es} is shares are) names types n x linked
+    spares changes = by_first changes (no_change scope are names types n x linked spares)
   where
     by_first : Changes names x (p ∷ ps) (e ∷ es) → (Changes names x ps es → ⊥) → ⊥
     by_first (inl here) rest =
@@ -65,7 +69,9 @@ no_change scope (one_passed {p = p} {ps = ps} {argument = e} {arguments = es} is
 
 module _ (earlier : List ProcedureTree) (scope : Scope) (names : Numbers) (n : ℕ) (ready : Ready earlier scope names n) where
   -- a call of a procedure that means the same
-  module _ (c : CallTree) (callee : Callee) (p : ProcedureTree) (meant : IsCallable IsKept earlier scope.profile c.name callee p) (passed_are : ArePassed scope p.parameters c.arguments) where
+  module _ (c : CallTree) (callee : Callee) (p : ProcedureTree)
+      (meant : IsCallable IsKept earlier scope.profile c.name callee p)
+      (passed_are : ArePassed scope p.parameters c.arguments) where
     abbrev own : Numbers
     own = begun names [] n p.parameters c.arguments
 
@@ -84,11 +90,15 @@ module _ (earlier : List ProcedureTree) (scope : Scope) (names : Numbers) (n : �
     entered : Enters meant.good.scope names p.parameters c.arguments own own_types start
     entered =
         enters scope names passed_are meant.good.scope [] ready.types n meant.good.parameters ready.linked
-        (no_names meant.good.scope meant.good.procedures ready.types n (ready.linked.observed ∙ sym (meant.good.observed ∙ meant.observed)) ready.linked.fresh) (distinct_none names p.parameters c.arguments)
+        (no_names meant.good.scope meant.good.procedures ready.types n
+        (ready.linked.observed ∙ sym (meant.good.observed ∙ meant.observed)) ready.linked.fresh)
+        (distinct_none names p.parameters c.arguments)
 
-    body_kept : (x : ℕ) → x < n → (Changes names x p.parameters c.arguments → ⊥) → (m : Values) → after_all (after_all m passed_block) body_block x ≡ m x
+    body_kept : (x : ℕ) → x < n → (Changes names x p.parameters c.arguments → ⊥) → (m : Values)
+        → after_all (after_all m passed_block) body_block x ≡ m x
     body_kept x low none m =
-        meant.good.keeps own own_types start entered.linked x (spares_begun names n start x p.parameters c.arguments (omega arith) none) (after_all m passed_block)
+        meant.good.keeps own own_types start entered.linked x
+        (spares_begun names n start x p.parameters c.arguments (omega arith) none) (after_all m passed_block)
         ∙ passed_keeps names p.parameters c.arguments n x low m
 
     -- what is to be shown of the call, by what is known of its name
@@ -97,7 +107,8 @@ module _ (earlier : List ProcedureTree) (scope : Scope) (names : Numbers) (n : �
         let tree = call_block o names n c.arguments in
         let value = call_value o names n c.arguments in
         let end = after_all m tree in
-        Comes (Calls earlier s c) (Agrees names end (call_result o) value) (either (first_fault (path_along m tree)) (first_fault (path_of_result end value)))
+        Comes (Calls earlier s c) (Agrees names end (call_result o) value)
+        (either (first_fault (path_along m tree)) (first_fault (path_of_result end value)))
 
     abbrev own_callable : Callable
     own_callable = callable (callables meant.before) p
@@ -114,28 +125,37 @@ module _ (earlier : List ProcedureTree) (scope : Scope) (names : Numbers) (n : �
         let g = first_fault (path_along middle body_block) in
         let linked = entered.linked in
         let named = entered.named in
-        subst (λ (last : Values). Comes (Calls earlier s c) (Agrees names last p.result value) (either (first_fault (path_along m (chain passed_block body_block))) (first_fault (path_of_result last value))))
+        subst (λ (last : Values). Comes (Calls earlier s c) (Agrees names last p.result value)
+        (either (first_fault (path_along m (chain passed_block body_block)))
+        (first_fault (path_of_result last value))))
         (sym (after_chain passed_block body_block m))
         (subst (Comes (Calls earlier s c) (Agrees names end p.result value))
-        (sym (either-assoc f g (first_fault (path_of_result end value))) ∙ ap (λ h. either h (first_fault (path_of_result end value))) (sym (fault_chain passed_block body_block m)))
+        (sym (either-assoc f g (first_fault (path_of_result end value)))
+        ∙ ap (λ h. either h (first_fault (path_of_result end value))) (sym (fault_chain passed_block body_block m)))
         (then_comes (passed_comes scope names ready.types s passed_are small n ready.linked m shows)
         (λ vs are held.
-        also (meant.good.comes own own_types start (meaning.begun s p.parameters c.arguments vs) middle linked (λ text x is. held [] text x refl is))
+        also (meant.good.comes own own_types start (meaning.begun s p.parameters c.arguments vs) middle linked
+        (λ text x is. held [] text x refl is))
         (λ r body agrees. (
           record { word = r.word; state = copied_out s r.state p.parameters c.arguments },
           body_ends meant.is are body,
           record {
             word = agrees.word;
-            shows = copied scope names ready.types n ready.linked r.state end own agrees.shows passed_are named s (λ text x there. goes_back end text x there (changes_or_not names x.number p.parameters c.arguments));
+            shows = copied scope names ready.types n ready.linked r.state end own agrees.shows passed_are named s
+                (λ text x there. goes_back end text x there (changes_or_not names x.number p.parameters c.arguments));
           },
         ))
         (λ at body. body_faults meant.is are body))
         (λ at are. argument_faults meant.is are)))
       where
-        goes_back : (end : Values) (text : List ℕ) (x : Numbered) → found names text ≡ Some x → Changes names x.number p.parameters c.arguments ⊎ (Changes names x.number p.parameters c.arguments → ⊥)
-            → Changes names x.number p.parameters c.arguments ⊎ Holds x.declaration (s text) (after_all (after_all m passed_block) body_block x.number)
+        goes_back : (end : Values) (text : List ℕ) (x : Numbered) → found names text ≡ Some x
+            → Changes names x.number p.parameters c.arguments ⊎ (Changes names x.number p.parameters c.arguments → ⊥)
+            → Changes names x.number p.parameters c.arguments ⊎ Holds x.declaration (s text)
+            (after_all (after_all m passed_block) body_block x.number)
         goes_back end text x there (inl changes) = inl changes
-        goes_back end text x there (inr none) = inr (subst (Holds x.declaration (s text)) (sym (body_kept x.number (ready.linked.below text x there) none m)) (shows text x there))
+        goes_back end text x there (inr none) = inr
+            (subst (Holds x.declaration (s text)) (sym (body_kept x.number (ready.linked.below text x there) none m))
+            (shows text x there))
 
     call_ends_here : (s : State) (m : Values) → Shows names s m → AreAllSmall c.arguments → CallEnds (callables earlier c.name) s m
     call_ends_here s m shows small = subst (λ o. CallEnds o s m) (sym known_call) (own_ends s m shows small)
@@ -143,10 +163,12 @@ module _ (earlier : List ProcedureTree) (scope : Scope) (names : Numbers) (n : �
     result_here : call_result (callables earlier c.name) ≡ p.result
     result_here = ap call_result known_call
 
-    call_keeps_here : (x : ℕ) → Spares names n x → (m : Values) → after_all m (call_block (callables earlier c.name) names n c.arguments) x ≡ m x
+    call_keeps_here : (x : ℕ) → Spares names n x → (m : Values)
+        → after_all m (call_block (callables earlier c.name) names n c.arguments) x ≡ m x
     call_keeps_here x spares m =
         ap (λ o. after_all m (call_block o names n c.arguments) x) known_call
-        ∙ (ap (λ (end : Values). end x) (after_chain passed_block body_block m) ∙ body_kept x spares.below (no_change scope passed_are names ready.types n x ready.linked spares) m)
+        ∙ (ap (λ (end : Values). end x) (after_chain passed_block body_block m)
+        ∙ body_kept x spares.below (no_change scope passed_are names ready.types n x ready.linked spares) m)
 
     nothing_here : call_result (callables earlier c.name) ≡ None → call_value (callables earlier c.name) names n c.arguments ≡ None
     nothing_here none =
@@ -160,7 +182,8 @@ module _ (earlier : List ProcedureTree) (scope : Scope) (names : Numbers) (n : �
         (let tree = call_block (callables earlier c.name) names n c.arguments in
         let value = call_value (callables earlier c.name) names n c.arguments in
         let end = after_all m tree in
-        Comes (Calls earlier s c) (Agrees names end (call_result (callables earlier c.name)) value) (either (first_fault (path_along m tree)) (first_fault (path_of_result end value))))
+        Comes (Calls earlier s c) (Agrees names end (call_result (callables earlier c.name)) value)
+        (either (first_fault (path_along m tree)) (first_fault (path_of_result end value))))
     pub nothing : call_result (callables earlier c.name) ≡ None → call_value (callables earlier c.name) names n c.arguments ≡ None
     pub keeps : (x : ℕ) → Spares names n x → (m : Values) → after_all m (call_block (callables earlier c.name) names n c.arguments) x ≡ m x
 

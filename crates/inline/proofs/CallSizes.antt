@@ -31,7 +31,8 @@ same_nodes names (prefix place operator operand) = omega (arith, same_nodes name
 same_nodes names (binary place operator one other) = omega (arith, same_nodes names one, same_nodes names other)
 same_nodes names (rotate place operand amount) = omega (arith, same_nodes names operand)
 same_nodes names (convert place kind operand) = omega (arith, same_nodes names operand)
-same_nodes names (select place condition accepted otherwise) = omega (arith, same_nodes names condition, same_nodes names accepted, same_nodes names otherwise)
+same_nodes names (select place condition accepted otherwise) =
+    omega (arith, same_nodes names condition, same_nodes names accepted, same_nodes names otherwise)
 same_nodes names (element place target text index) = omega (arith, same_nodes names index)
 
 pub same_all : (names : Numbers) (es : List ExprTree) → terms_nodes (map (term names) es) ≡ nodes_in_all es
@@ -63,26 +64,31 @@ GoTogether None (Some b) = ⊥
 GoTogether (Some a) None = ⊥
 GoTogether (Some a) (Some b) = Unit {0}
 
-value_together : (names : Numbers) (result : Option WordType) (returned : Option ReturnTree) → GoTogether result returned → GoTogether result (value_of names returned)
+value_together : (names : Numbers) (result : Option WordType) (returned : Option ReturnTree)
+    → GoTogether result returned → GoTogether result (value_of names returned)
 value_together names None None is = tt
 value_together names None (Some r) is = absurd is
 value_together names (Some word) None is = absurd is
 value_together names (Some word) (Some r) is = tt
 
 -- a value that is taken
-pub value_there : (result : Option WordType) (value : Option TermTree) (given : WordType) → Word given ≡ result_value result → GoTogether result value → value_nodes value ≡ 1 + term_nodes (value_given value)
+pub value_there : (result : Option WordType) (value : Option TermTree) (given : WordType)
+    → Word given ≡ result_value result → GoTogether result value
+    → value_nodes value ≡ 1 + term_nodes (value_given value)
 value_there None value given is together = absurd cc
 value_there (Some word) None given is together = absurd together
 value_there (Some word) (Some value) given is together = refl
 
 -- and one that is dropped
-pub dropped_nodes : (n : ℕ) (result : Option WordType) (value : Option TermTree) → GoTogether result value → body_nodes (dropped_block n result value) ≡ value_nodes value
+pub dropped_nodes : (n : ℕ) (result : Option WordType) (value : Option TermTree) → GoTogether result value
+    → body_nodes (dropped_block n result value) ≡ value_nodes value
 dropped_nodes n None None together = refl
 dropped_nodes n None (Some value) together = absurd together
 dropped_nodes n (Some word) None together = absurd together
 dropped_nodes n (Some word) (Some value) together = omega arith
 
-pub dropped_words : (result : Option WordType) (value : Option TermTree) → GoTogether result value → 3 * declared_words (dropped_variables result) ≤ 1 + value_nodes value
+pub dropped_words : (result : Option WordType) (value : Option TermTree) → GoTogether result value
+    → 3 * declared_words (dropped_variables result) ≤ 1 + value_nodes value
 dropped_words None None together = omega arith
 dropped_words None (Some value) together = absurd together
 dropped_words (Some word) None together = absurd together
@@ -97,27 +103,35 @@ words-append (x ∷ xs) ys = omega (arith, words-append xs ys)
 -- a called body within its extent
 pub record SizedBody (before : List ProcedureTree) (at : Scope) (p : ProcedureTree) : Type 0 where
   pub nodes : (names : Numbers) (n : ℕ) → body_nodes (block (callables before) names n p.body) ≡ block_nodes (extents_of before) p.body
-  pub words : 3 * declared_words (declared_in_all (callables before) p.body) ≤ 3 * block_words (extents_of before) p.body + block_nodes (extents_of before) p.body
+  pub words : 3 * declared_words (declared_in_all (callables before) p.body)
+      ≤ 3 * block_words (extents_of before) p.body + block_nodes (extents_of before) p.body
   pub returns : GoTogether p.result p.returned
 
 -- Calls.
 
-passed_nodes : (names : Numbers) (n : ℕ) (ps : List ParameterTree) (es : List ExprTree) → body_nodes (passed names n ps es) ≡ nodes_passed (word_arguments ps es)
+passed_nodes : (names : Numbers) (n : ℕ) (ps : List ParameterTree) (es : List ExprTree)
+    → body_nodes (passed names n ps es) ≡ nodes_passed (word_arguments ps es)
 passed_nodes names n [] es = refl
 passed_nodes names n (p ∷ ps) [] = refl
 passed_nodes names n (p ∷ ps) (e ∷ es) = by_form (is_word p.form) (passed_nodes names (n + 1) ps es) (passed_nodes names n ps es)
   where
-    by_form : (b : Bool) → body_nodes (passed names (n + 1) ps es) ≡ nodes_passed (word_arguments ps es) → body_nodes (passed names n ps es) ≡ nodes_passed (word_arguments ps es)
-        → body_nodes (if b then flat.first (flat.declare n (labelled p.kind p.label) false (term names e)) (passed names (n + 1) ps es) else passed names n ps es) ≡ nodes_passed (if b then e ∷ word_arguments ps es else word_arguments ps es)
+    by_form : (b : Bool) → body_nodes (passed names (n + 1) ps es) ≡ nodes_passed (word_arguments ps es)
+        → body_nodes (passed names n ps es) ≡ nodes_passed (word_arguments ps es)
+        → body_nodes (if b then flat.first (flat.declare n (labelled p.kind p.label) false (term names e))
+        (passed names (n + 1) ps es) else passed names n ps es)
+        ≡ nodes_passed (if b then e ∷ word_arguments ps es else word_arguments ps es)
     by_form true one other = omega (arith, one, same_nodes names e)
     by_form false one other = other
 
-passed_take : {scope : Scope} {ps : List ParameterTree} {es : List ExprTree} → ArePassed scope ps es → declared_words (passed_variables ps es) ≡ passed_words ps
+passed_take : {scope : Scope} {ps : List ParameterTree} {es : List ExprTree} → ArePassed scope ps es
+    → declared_words (passed_variables ps es) ≡ passed_words ps
 passed_take none_passed = refl
 passed_take (one_passed {p = p} {ps = ps} {arguments = es} is shares are) = by_form p.form (passed_take are)
   where
     by_form : (form : Form) → declared_words (passed_variables ps es) ≡ passed_words ps
-        → declared_words (if is_word form then record { word = labelled p.kind p.label; mutable = is_mutable form; elements = elements_by form p.length } ∷ passed_variables ps es else passed_variables ps es) ≡ (if is_word form then 1 else 0) + passed_words ps
+        → declared_words (if is_word form then record
+        { word = labelled p.kind p.label; mutable = is_mutable form; elements = elements_by form p.length } ∷
+        passed_variables ps es else passed_variables ps es) ≡ (if is_word form then 1 else 0) + passed_words ps
     by_form SingleWord same = omega (arith, same)
     by_form FixedArray same = omega (arith, same)
     by_form MutableArray same = omega (arith, same)
@@ -125,11 +139,13 @@ passed_take (one_passed {p = p} {ps = ps} {arguments = es} is shares are) = by_f
 -- a call, with the variables that it declares
 pub record CallSized (names : Numbers) (n : ℕ) (c : CallTree) (type : ValueType) (o : Option Callable) (x : Option Extent) : Type 0 where
   pub nodes : 1 + body_nodes (call_block o names n c.arguments) + value_nodes (call_value o names n c.arguments) ≡ called_nodes x c
-  pub words : 3 * declared_words (call_variables o c.arguments) + 1 + value_nodes (call_value o names n c.arguments) ≤ 3 * words_of_called x + called_nodes x c
+  pub words : 3 * declared_words (call_variables o c.arguments) + 1 + value_nodes (call_value o names n c.arguments)
+      ≤ 3 * words_of_called x + called_nodes x c
   pub gives : type ≡ result_value (call_result o)
   pub returns : GoTogether (call_result o) (call_value o names n c.arguments)
 
-body_sized : (before : List ProcedureTree) (at : Scope) (p : ProcedureTree) → SizedBody before at p → (scope : Scope) (names : Numbers) (n : ℕ) (c : CallTree) → ArePassed scope p.parameters c.arguments
+body_sized : (before : List ProcedureTree) (at : Scope) (p : ProcedureTree) → SizedBody before at p
+    → (scope : Scope) (names : Numbers) (n : ℕ) (c : CallTree) → ArePassed scope p.parameters c.arguments
     → CallSized names n c (result_value p.result) (Some (callable (callables before) p)) (Some (extent_of (extents_of before) p))
 body_sized before at p body scope names n c are =
     let vars = passed_variables p.parameters c.arguments in
@@ -153,10 +169,13 @@ body_sized before at p body scope names n c are =
     }
 
 module _ (earlier : List ProcedureTree) (at : Scope) (stand : Stand SizedBody earlier at) where
-  pub call_sized : {scope : Scope} {control : Label} {c : CallTree} {type : ValueType} → IsCall earlier scope control c type → IsWithin earlier at scope → (names : Numbers) (n : ℕ)
+  pub call_sized : {scope : Scope} {control : Label} {c : CallTree} {type : ValueType}
+      → IsCall earlier scope control c type → IsWithin earlier at scope → (names : Numbers) (n : ℕ)
       → CallSized names n c type (callables earlier c.name) (extents_of earlier c.name)
   call_sized {scope = scope} (of_procedure {c = c} {callee = own} {p = p} is get are quiet) within names n =
       let k = stand.callable c.name own p (within c.name own p is get).1 get in
-      subst (λ o. CallSized names n c (result_value p.result) o (extents_of earlier c.name)) (sym (known-named callable earlier k.before p c.name k.is))
-      (subst (CallSized names n c (result_value p.result) (Some (callable (callables k.before) p))) (sym (known-named extent_of earlier k.before p c.name k.is))
+      subst (λ o. CallSized names n c (result_value p.result) o (extents_of earlier c.name))
+      (sym (known-named callable earlier k.before p c.name k.is))
+      (subst (CallSized names n c (result_value p.result) (Some (callable (callables k.before) p)))
+      (sym (known-named extent_of earlier k.before p c.name k.is))
       (body_sized k.before k.at p k.good scope names n c are))

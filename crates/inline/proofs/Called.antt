@@ -27,7 +27,8 @@ use Rattle.inline.proofs.Terms.{Shows, word_at}
 -- a result that is the flat one's value, where there is one
 pub data HasResult (m : Values) : Option WordType → Option TermTree → Option Word → Type 0 where
   nothing_given : HasResult m None None None
-  a_word : {word : WordType} {value : TermTree} {w : Word} → w ≡ word_at word.kind (value_in m value) → HasResult m (Some word) (Some value) (Some w)
+  a_word : {word : WordType} {value : TermTree} {w : Word} → w ≡ word_at word.kind (value_in m value)
+      → HasResult m (Some word) (Some value) (Some w)
 
 -- what a body or a call came to is what the flat one came to
 pub record Agrees (names : Numbers) (m : Values) (result : Option WordType) (value : Option TermTree) (r : Returned) : Type 0 where
@@ -46,7 +47,8 @@ BodyComes before p names n s m =
     let body = block known names n p.body in
     let value = value_of (names_after_all known names n p.body) p.returned in
     let end = after_all m body in
-    Comes (Bodies before p s) (Agrees names end p.result value) (either (first_fault (path_along m body)) (first_fault (path_of_result end value)))
+    Comes (Bodies before p s) (Agrees names end p.result value)
+    (either (first_fault (path_along m body)) (first_fault (path_of_result end value)))
 
 -- a procedure behind those that it may call means the same once its names are numbers
 pub record Behaves (profile : Profile) (before : List ProcedureTree) (p : ProcedureTree) : Type 0 where
@@ -55,8 +57,10 @@ pub record Behaves (profile : Profile) (before : List ProcedureTree) (p : Proced
   pub procedures : NoVariables scope
   pub parameters : AreNew scope p.parameters
   pub returns : p.result ≡ None → p.returned ≡ None
-  pub comes : (names : Numbers) (types : Types) (n : ℕ) (s : State) (m : Values) → Linked (with_parameters scope p.parameters) names types n → Shows names s m → BodyComes before p names n s m
-  pub keeps : (names : Numbers) (types : Types) (n : ℕ) → Linked (with_parameters scope p.parameters) names types n → (x : ℕ) → Spares names n x → (m : Values)
+  pub comes : (names : Numbers) (types : Types) (n : ℕ) (s : State) (m : Values)
+      → Linked (with_parameters scope p.parameters) names types n → Shows names s m → BodyComes before p names n s m
+  pub keeps : (names : Numbers) (types : Types) (n : ℕ) → Linked (with_parameters scope p.parameters) names types n
+      → (x : ℕ) → Spares names n x → (m : Values)
       → after_all m (block (callables before) names n p.body) x ≡ m x
 
 -- the statement that each procedure meets, in the scope of those before it
@@ -69,11 +73,14 @@ pub record Ready (earlier : List ProcedureTree) (scope : Scope) (names : Numbers
   pub linked : Linked scope names types n
   pub calls : EachCallable earlier (IsCallable IsKept earlier) scope
 
-pub ready_later : {earlier : List ProcedureTree} {scope : Scope} {names : Numbers} (n m : ℕ) → n ≤ m → Ready earlier scope names n → Ready earlier scope names m
-ready_later {scope = scope} {names = names} n m more ready = record { types = ready.types; linked = later scope names ready.types n m more ready.linked; calls = ready.calls }
+pub ready_later : {earlier : List ProcedureTree} {scope : Scope} {names : Numbers} (n m : ℕ) → n ≤ m
+    → Ready earlier scope names n → Ready earlier scope names m
+ready_later {scope = scope} {names = names} n m more ready = record
+    { types = ready.types; linked = later scope names ready.types n m more ready.linked; calls = ready.calls }
 
 -- after a declaration
-pub ready_declared : {earlier : List ProcedureTree} {scope : Scope} {names : Numbers} (n : ℕ) → Ready earlier scope names n → (text : List ℕ) (own : FlatVariable) → found scope.names text ≡ None
+pub ready_declared : {earlier : List ProcedureTree} {scope : Scope} {names : Numbers} (n : ℕ)
+    → Ready earlier scope names n → (text : List ℕ) (own : FlatVariable) → found scope.names text ≡ None
     → Ready earlier (declared scope text (Variable (variable_as own))) (naming names text n own) (n + 1)
 ready_declared {earlier = earlier} {scope = scope} {names = names} n ready text own new = record {
   types = with_type ready.types n own;
@@ -82,25 +89,41 @@ ready_declared {earlier = earlier} {scope = scope} {names = names} n ready text 
 }
 
 module _ (earlier : List ProcedureTree) where
-  pub ready_after : {scope : Scope} {control : Label} {s : StatementTree} → IsWellTyped earlier scope control s → (names : Numbers) (n : ℕ) → Ready earlier scope names n
+  pub ready_after : {scope : Scope} {control : Label} {s : StatementTree} → IsWellTyped earlier scope control s
+      → (names : Numbers) (n : ℕ) → Ready earlier scope names n
       → Ready earlier (scope_after scope s) (names_after (callables earlier) names n s) (n + numbers_taken (callables earlier) s)
-  ready_after (declares {scope = scope} {label = label} {mutable = mutable} {kind = kind} {text = text} {right = right} new has suit flow) names n ready =
+  ready_after (declares {scope = scope} {label = label} {mutable = mutable} {kind = kind} {text = text} {right = right}
+      new has suit flow) names n ready =
       let k = right_end (callables earlier) n right in
       let own = word_as (labelled kind label) mutable in
       let count = length-append (right_variables (callables earlier) right) (own ∷ []) in
-      ready_later (k + 1) (n + length (right_variables (callables earlier) right ++ own ∷ [])) (omega (arith, count)) (ready_declared k (ready_later n k (omega arith) ready) text own new)
-  ready_after (declares_array {scope = scope} {label = label} {mutable = mutable} {kind = kind} {size = size} {text = text} new all count flow) names n ready = ready_declared n ready text (array_as (labelled kind label) mutable size) new
-  ready_after (assigns {right = right} is has suit flow) names n ready = ready_later n (n + length (right_variables (callables earlier) right)) (omega arith) ready
-  ready_after (assigns_element {right = right} is has value suit flow) names n ready = ready_later n (n + length (element_variables (callables earlier) right)) (omega arith) ready
-  ready_after (calls {c = c} is) names n ready = ready_later n (n + length (call_variables (callables earlier c.name) c.arguments ++ dropped_variables (call_result (callables earlier c.name)))) (omega arith) ready
-  ready_after (chooses {accepted = accepted} {otherwise = otherwise} has one other) names n ready = ready_later n (n + length (declared_in_all (callables earlier) accepted ++ declared_in_all (callables earlier) otherwise)) (omega arith) ready
-  ready_after (repeats {body = body} low high new inner) names n ready = ready_later n (n + suc (numbers_taken_all (callables earlier) body)) (omega arith) ready
+      ready_later (k + 1) (n + length (right_variables (callables earlier) right ++ own ∷ [])) (omega (arith, count))
+      (ready_declared k (ready_later n k (omega arith) ready) text own new)
+  ready_after (declares_array {scope = scope} {label = label} {mutable = mutable} {kind = kind} {size = size}
+      {text = text} new all count flow) names n ready = ready_declared n ready text
+      (array_as (labelled kind label) mutable size) new
+  ready_after (assigns {right = right} is has suit flow) names n ready =
+      ready_later n (n + length (right_variables (callables earlier) right)) (omega arith) ready
+  ready_after (assigns_element {right = right} is has value suit flow) names n ready =
+      ready_later n (n + length (element_variables (callables earlier) right)) (omega arith) ready
+  ready_after (calls {c = c} is) names n ready = ready_later n
+      (n + length (call_variables (callables earlier c.name) c.arguments
+      ++ dropped_variables (call_result (callables earlier c.name)))) (omega arith) ready
+  ready_after (chooses {accepted = accepted} {otherwise = otherwise} has one other) names n ready =
+      ready_later n (n + length (declared_in_all (callables earlier) accepted
+      ++ declared_in_all (callables earlier) otherwise)) (omega arith) ready
+  ready_after (repeats {body = body} low high new inner) names n ready =
+      ready_later n (n + suc (numbers_taken_all (callables earlier) body)) (omega arith) ready
 
-  pub ready_after_all : {scope : Scope} {control : Label} {b : BlockTree} → AreWellTyped earlier scope control b → (names : Numbers) (n : ℕ) → Ready earlier scope names n
-      → Ready earlier (scope_after_all scope b) (names_after_all (callables earlier) names n b) (n + numbers_taken_all (callables earlier) b)
+  pub ready_after_all : {scope : Scope} {control : Label} {b : BlockTree} → AreWellTyped earlier scope control b
+      → (names : Numbers) (n : ℕ) → Ready earlier scope names n
+      → Ready earlier (scope_after_all scope b) (names_after_all (callables earlier) names n b)
+      (n + numbers_taken_all (callables earlier) b)
   ready_after_all no_statement names n ready = ready_later n (n + 0) (omega arith) ready
   ready_after_all (one_more {statement = s} {rest = rest} here there) names n ready =
       let k = n + numbers_taken (callables earlier) s in
       let count = length-append (declared_in (callables earlier) s) (declared_in_all (callables earlier) rest) in
-      ready_later (k + numbers_taken_all (callables earlier) rest) (n + length (declared_in (callables earlier) s ++ declared_in_all (callables earlier) rest)) (omega (arith, count))
+      ready_later (k + numbers_taken_all (callables earlier) rest)
+      (n + length (declared_in (callables earlier) s ++ declared_in_all (callables earlier) rest))
+      (omega (arith, count))
       (ready_after_all there (names_after (callables earlier) names n s) k (ready_after here names n ready))

@@ -11,7 +11,9 @@ pub chain-types : (types : Types) (a b : FlatBlock) → types_after_all types (c
 chain-types types nothing b = refl
 chain-types types (first s rest) b = chain-types (types_after types s) rest b
 
-pub chain-typed : (all : List FlatVariable) (types : Types) (control : Label) (a b : FlatBlock) → AreTyped all types control a → AreTyped all (types_after_all types a) control b → AreTyped all types control (chain a b)
+pub chain-typed : (all : List FlatVariable) (types : Types) (control : Label) (a b : FlatBlock)
+    → AreTyped all types control a → AreTyped all (types_after_all types a) control b
+    → AreTyped all types control (chain a b)
 chain-typed all types control nothing b one other = other
 chain-typed all types control (first s rest) b one other = (one.0, chain-typed all (types_after types s) control rest b one.1 other)
 
@@ -50,30 +52,40 @@ types_observed types (first s rest) = types_observed (types_after types s) rest 
 -- What is numbered from n on changes the types of no other numbers.
 
 pub type_before : (types : Types) (n : ℕ) (s : FlatTree) → IsNumbered n s → (x : ℕ) → x < n → (types_after types s).at x ≡ types.at x
-type_before types n (declare y word mutable value) is x low = with_type-other types y x (word_as word mutable) (λ e. omega (arith, is, low, e))
-type_before types n (array y word mutable size values) is x low = with_type-other types y x (array_as word mutable size) (λ e. omega (arith, is, low, e))
+type_before types n (declare y word mutable value) is x low =
+    with_type-other types y x (word_as word mutable) (λ e. omega (arith, is, low, e))
+type_before types n (array y word mutable size values) is x low =
+    with_type-other types y x (array_as word mutable size) (λ e. omega (arith, is, low, e))
 type_before types n (assign y value) is x low = refl
 type_before types n (put place y size index value) is x low = refl
-type_before types n (hold y place size index) is x low = with_type-other types y x (word_as counter_type false) (λ e. omega (arith, is, low, e))
+type_before types n (hold y place size index) is x low = with_type-other types y x (word_as counter_type false)
+    (λ e. omega (arith, is, low, e))
 type_before types n skip is x low = refl
 type_before types n (branch label condition accepted otherwise) is x low = refl
 type_before types n (loop y low' high body) is x low = refl
 
 pub types_before : (types : Types) (n : ℕ) (b : FlatBlock) → AreNumbered n b → (x : ℕ) → x < n → (types_after_all types b).at x ≡ types.at x
 types_before types n nothing are x low = refl
-types_before types n (first s rest) are x low = types_before (types_after types s) (n + declarations_in s) rest are.1 x (omega (arith, low)) ∙ type_before types n s are.0 x low
+types_before types n (first s rest) are x low = types_before (types_after types s) (n + declarations_in s) rest are.1 x
+    (omega (arith, low)) ∙ type_before types n s are.0 x low
 
-type_behind : (types : Types) (n : ℕ) (s : FlatTree) → IsNumbered n s → (x : ℕ) → n + declarations_in s ≤ x → (types_after types s).at x ≡ types.at x
-type_behind types n (declare y word mutable value) is x high = with_type-other types y x (word_as word mutable) (λ e. omega (arith, is, high, e))
-type_behind types n (array y word mutable size values) is x high = with_type-other types y x (array_as word mutable size) (λ e. omega (arith, is, high, e))
+type_behind : (types : Types) (n : ℕ) (s : FlatTree) → IsNumbered n s → (x : ℕ) → n + declarations_in s ≤ x
+    → (types_after types s).at x ≡ types.at x
+type_behind types n (declare y word mutable value) is x high =
+    with_type-other types y x (word_as word mutable) (λ e. omega (arith, is, high, e))
+type_behind types n (array y word mutable size values) is x high =
+    with_type-other types y x (array_as word mutable size) (λ e. omega (arith, is, high, e))
 type_behind types n (assign y value) is x high = refl
 type_behind types n (put place y size index value) is x high = refl
-type_behind types n (hold y place size index) is x high = with_type-other types y x (word_as counter_type false) (λ e. omega (arith, is, high, e))
+type_behind types n (hold y place size index) is x high = with_type-other types y x (word_as counter_type false)
+    (λ e. omega (arith, is, high, e))
 type_behind types n skip is x high = refl
 type_behind types n (branch label condition accepted otherwise) is x high = refl
 type_behind types n (loop y low' high' body) is x high = refl
 
-pub types_behind : (types : Types) (n : ℕ) (b : FlatBlock) → AreNumbered n b → (x : ℕ) → n + declarations_in_all b ≤ x → (types_after_all types b).at x ≡ types.at x
+pub types_behind : (types : Types) (n : ℕ) (b : FlatBlock) → AreNumbered n b → (x : ℕ) → n + declarations_in_all b ≤ x
+    → (types_after_all types b).at x ≡ types.at x
 types_behind types n nothing are x high = refl
 types_behind types n (first s rest) are x high =
-    types_behind (types_after types s) (n + declarations_in s) rest are.1 x (omega (arith, high)) ∙ type_behind types n s are.0 x (omega (arith, high))
+    types_behind (types_after types s) (n + declarations_in s) rest are.1 x (omega (arith, high))
+    ∙ type_behind types n s are.0 x (omega (arith, high))

@@ -10,14 +10,18 @@ pub data Comes {A : Type 0} (Is : Ending A → Type 0) (Good : A → Type 0) : O
   fails : (at : Place) → Is (faults at) → Comes Is Good (Some at)
 
 -- one part, and then another
-pub then_comes : {A B : Type 0} {Is : Ending A → Type 0} {Good : A → Type 0} {Is' : Ending B → Type 0} {Good' : B → Type 0} {one other : Option Place} → Comes Is Good one
-    → ((result : A) → Is (gives result) → Good result → Comes Is' Good' other) → ((at : Place) → Is (faults at) → Is' (faults at)) → Comes Is' Good' (either one other)
+pub then_comes : {A B : Type 0} {Is : Ending A → Type 0} {Good : A → Type 0} {Is' : Ending B → Type 0}
+    {Good' : B → Type 0} {one other : Option Place} → Comes Is Good one
+    → ((result : A) → Is (gives result) → Good result → Comes Is' Good' other)
+    → ((at : Place) → Is (faults at) → Is' (faults at)) → Comes Is' Good' (either one other)
 then_comes (well result is good) next stop = next result is good
 then_comes (fails at is) next stop = fails at (stop at is)
 
 -- one step more, which meets no fault
-pub also : {A B : Type 0} {Is : Ending A → Type 0} {Good : A → Type 0} {Is' : Ending B → Type 0} {Good' : B → Type 0} {fault : Option Place} → Comes Is Good fault
-    → ((result : A) → Is (gives result) → Good result → (end : B) × Is' (gives end) × Good' end) → ((at : Place) → Is (faults at) → Is' (faults at)) → Comes Is' Good' fault
+pub also : {A B : Type 0} {Is : Ending A → Type 0} {Good : A → Type 0} {Is' : Ending B → Type 0} {Good' : B → Type 0}
+    {fault : Option Place} → Comes Is Good fault
+    → ((result : A) → Is (gives result) → Good result → (end : B) × Is' (gives end) × Good' end)
+    → ((at : Place) → Is (faults at) → Is' (faults at)) → Comes Is' Good' fault
 also (well result is good) next stop = let end = next result is good in well end.0 end.1 end.2
 also (fails at is) next stop = fails at (stop at is)
 

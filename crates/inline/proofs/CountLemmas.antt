@@ -1,137 +1,76 @@
--- What counts say of the extents that they are counts of: the same, as far as a number counts.
-use Rattle.std.proofs.Common.{◌≡◌, ℕ, ◌+◌, Bool, true, false, cond, List, ◌∷◌, drop, length, get_or, map, ◌<◌, Option, Some, None, refl, sym, ap, ◌∙◌, arith}
-use Rattle.std.proofs.lemmas.List.{drop_more}
+-- What counts say of the extents that they are counts of: the same, as far as a count goes.
+use Rattle.std.proofs.Common.{◌≡◌, ℕ, Option, Some, None, refl, subst, sym, arith}
 use Rattle.std.specs.Option.{option_map}
-use Rattle.std.specs.Str.{bytes_eq}
-use Rattle.names.specs.Scope.{found, declared}
-use Rattle.language.specs.declared.tree.Procedure.{Procedure}
-use Rattle.language.specs.Known.{first_known, known_from, with_known}
-use Rattle.language.specs.Size.{Extent, Extents, called_nodes, right_nodes, statement_nodes, block_nodes, nodes_of, words_of_called, right_words, statement_words, block_words, bodies_of_called, right_bodies, statement_bodies, block_bodies, bodies_of, extent_of}
-use Rattle.language.specs.Tree.{CallTree, RightTree, called, computed, StatementTree, declaration, array, assignment, element_assignment, call, conditional, loop, BlockTree, nothing, first, ProcedureTree, procedure_tree}
-use Rattle.inline.specs.declared.measured.Measured.{Measured}
-use Rattle.inline.specs.Measured.{AreCountsOf, counted, counted_extent, extent_of_measured, extents_in}
-use Rattle.inline.proofs.Lookup.{first_of_two, found_declared}
+use Rattle.inline.specs.Counts.{AreCountsTo, counted_to, extent_to}
+use Rattle.language.specs.Size.{Extent, Extents, called_nodes, right_nodes, statement_nodes, block_nodes, words_of_called, right_words, statement_words, block_words, bodies_of_called, right_bodies, statement_bodies, block_bodies, extent_of}
+use Rattle.language.specs.Tree.{CallTree, RightTree, called, computed, StatementTree, declaration, array, assignment, element_assignment, call, conditional, loop, BlockTree, nothing, first, ProcedureTree}
 
-called_nodes_counted : (e : Option Extent) (c : CallTree) → counted (called_nodes (option_map counted_extent e) c) ≡ counted (called_nodes e c)
-called_nodes_counted None c = refl
-called_nodes_counted (Some e) c = omega arith
+module _ (most : ℕ) where
+  -- so many nodes, words and open bodies count the same as so many others
+  pub record AreAlike (n w b m v d : ℕ) : Type 0 where
+    pub nodes : counted_to most n ≡ counted_to most m
+    pub words : counted_to most w ≡ counted_to most v
+    pub bodies : counted_to most b ≡ counted_to most d
 
-called_words_counted : (e : Option Extent) → counted (words_of_called (option_map counted_extent e)) ≡ counted (words_of_called e)
-called_words_counted None = refl
-called_words_counted (Some e) = omega arith
+  abbrev CallAlike : CallTree → Option Extent → Option Extent → Type 0
+  CallAlike c one other =
+      AreAlike (called_nodes one c) (words_of_called one) (bodies_of_called one) (called_nodes other c)
+      (words_of_called other) (bodies_of_called other)
 
-called_bodies_counted : (e : Option Extent) → counted (bodies_of_called (option_map counted_extent e)) ≡ counted (bodies_of_called e)
-called_bodies_counted None = refl
-called_bodies_counted (Some e) = omega arith
+  called_alike : (c : CallTree) (e : Option Extent) → CallAlike c (option_map (extent_to most) e) e
+  called_alike c None = record { nodes = refl; words = refl; bodies = refl }
+  called_alike c (Some e) = record { nodes = omega arith; words = omega arith; bodies = omega arith }
 
-module _ (counts extents : Extents) (same : AreCountsOf counts extents) where
-  call_nodes_same : (c : CallTree) → counted (called_nodes (counts c.name) c) ≡ counted (called_nodes (extents c.name) c)
-  call_nodes_same c = ap (λ e. counted (called_nodes e c)) (same c.name) ∙ called_nodes_counted (extents c.name) c
+  module _ (counts extents : Extents) (same : AreCountsTo most counts extents) where
+    call_alike : (c : CallTree) → CallAlike c (counts c.name) (extents c.name)
+    call_alike c = subst (λ e. CallAlike c e (extents c.name)) (sym (same c.name)) (called_alike c (extents c.name))
 
-  call_words_same : (text : List ℕ) → counted (words_of_called (counts text)) ≡ counted (words_of_called (extents text))
-  call_words_same text = ap (λ e. counted (words_of_called e)) (same text) ∙ called_words_counted (extents text)
+    right_alike : (r : RightTree) → AreAlike (right_nodes counts r) (right_words counts r) (right_bodies counts r)
+        (right_nodes extents r) (right_words extents r) (right_bodies extents r)
+    right_alike (called c) = call_alike c
+    right_alike (computed e) = record { nodes = refl; words = refl; bodies = refl }
 
-  call_bodies_same : (text : List ℕ) → counted (bodies_of_called (counts text)) ≡ counted (bodies_of_called (extents text))
-  call_bodies_same text = ap (λ e. counted (bodies_of_called e)) (same text) ∙ called_bodies_counted (extents text)
+    mutual
+      pub statement_alike : (s : StatementTree) → AreAlike (statement_nodes counts s) (statement_words counts s) (statement_bodies counts s)
+          (statement_nodes extents s) (statement_words extents s) (statement_bodies extents s)
+      statement_alike (declaration p l m k t r) = let h = right_alike r in record
+          { nodes = omega (arith, h.nodes); words = omega (arith, h.words); bodies = h.bodies }
+      statement_alike (array p l m k n t v) = record { nodes = refl; words = refl; bodies = refl }
+      statement_alike (assignment p g t r) = let h = right_alike r in record
+          { nodes = omega (arith, h.nodes); words = h.words; bodies = h.bodies }
+      statement_alike (element_assignment p b g t e r) = let h =
+          right_alike r in record { nodes = omega (arith, h.nodes); words = h.words; bodies = h.bodies }
+      statement_alike (call c) = call_alike c
+      statement_alike (conditional p c a b) =
+          let h = block_alike a in
+          let k = block_alike b in
+          record {
+            nodes = omega (arith, h.nodes, k.nodes);
+            words = omega (arith, h.words, k.words);
+            bodies = omega
+                (arith, h.bodies, k.bodies);
+          }
+      statement_alike (loop p c t l h b) = let k = block_alike b in record
+          { nodes = omega (arith, k.nodes); words = omega (arith, k.words); bodies = k.bodies }
 
-  right_nodes_same : (r : RightTree) → counted (right_nodes counts r) ≡ counted (right_nodes extents r)
-  right_nodes_same (called c) = call_nodes_same c
-  right_nodes_same (computed e) = refl
+      pub block_alike : (b : BlockTree) → AreAlike (block_nodes counts b) (block_words counts b) (block_bodies counts b)
+          (block_nodes extents b) (block_words extents b) (block_bodies extents b)
+      block_alike nothing = record { nodes = refl; words = refl; bodies = refl }
+      block_alike (first s b) =
+          let h = statement_alike s in
+          let k = block_alike b in
+          record {
+            nodes = omega (arith, h.nodes, k.nodes);
+            words = omega (arith, h.words, k.words);
+            bodies = omega
+                (arith, h.bodies, k.bodies);
+          }
 
-  right_words_same : (r : RightTree) → counted (right_words counts r) ≡ counted (right_words extents r)
-  right_words_same (called c) = call_words_same c.name
-  right_words_same (computed e) = refl
-
-  right_bodies_same : (r : RightTree) → counted (right_bodies counts r) ≡ counted (right_bodies extents r)
-  right_bodies_same (called c) = call_bodies_same c.name
-  right_bodies_same (computed e) = refl
-
-  mutual
-    statement_nodes_same : (s : StatementTree) → counted (statement_nodes counts s) ≡ counted (statement_nodes extents s)
-    statement_nodes_same (declaration p l m k t r) = omega (arith, right_nodes_same r)
-    statement_nodes_same (array p l m k n t v) = refl
-    statement_nodes_same (assignment p g t r) = omega (arith, right_nodes_same r)
-    statement_nodes_same (element_assignment p b g t e r) = omega (arith, right_nodes_same r)
-    statement_nodes_same (call c) = call_nodes_same c
-    statement_nodes_same (conditional p c a b) = omega (arith, block_nodes_same a, block_nodes_same b)
-    statement_nodes_same (loop p c t l h b) = omega (arith, block_nodes_same b)
-
-    block_nodes_same : (b : BlockTree) → counted (block_nodes counts b) ≡ counted (block_nodes extents b)
-    block_nodes_same nothing = refl
-    block_nodes_same (first s b) = omega (arith, statement_nodes_same s, block_nodes_same b)
-
-  mutual
-    statement_words_same : (s : StatementTree) → counted (statement_words counts s) ≡ counted (statement_words extents s)
-    statement_words_same (declaration p l m k t r) = omega (arith, right_words_same r)
-    statement_words_same (array p l m k n t v) = refl
-    statement_words_same (assignment p g t r) = right_words_same r
-    statement_words_same (element_assignment p b g t e r) = right_words_same r
-    statement_words_same (call c) = call_words_same c.name
-    statement_words_same (conditional p c a b) = omega (arith, block_words_same a, block_words_same b)
-    statement_words_same (loop p c t l h b) = omega (arith, block_words_same b)
-
-    pub block_words_same : (b : BlockTree) → counted (block_words counts b) ≡ counted (block_words extents b)
-    block_words_same nothing = refl
-    block_words_same (first s b) = omega (arith, statement_words_same s, block_words_same b)
-
-  mutual
-    statement_bodies_same : (s : StatementTree) → counted (statement_bodies counts s) ≡ counted (statement_bodies extents s)
-    statement_bodies_same (declaration p l m k t r) = right_bodies_same r
-    statement_bodies_same (array p l m k n t v) = refl
-    statement_bodies_same (assignment p g t r) = right_bodies_same r
-    statement_bodies_same (element_assignment p b g t e r) = right_bodies_same r
-    statement_bodies_same (call c) = call_bodies_same c.name
-    statement_bodies_same (conditional p c a b) = omega (arith, block_bodies_same a, block_bodies_same b)
-    statement_bodies_same (loop p c t l h b) = block_bodies_same b
-
-    block_bodies_same : (b : BlockTree) → counted (block_bodies counts b) ≡ counted (block_bodies extents b)
-    block_bodies_same nothing = refl
-    block_bodies_same (first s b) = omega (arith, statement_bodies_same s, block_bodies_same b)
-
-  pub nodes_same : (p : ProcedureTree) → counted (nodes_of counts p) ≡ counted (nodes_of extents p)
-  nodes_same p = omega (arith, block_nodes_same p.body)
-
-  pub bodies_same : (p : ProcedureTree) → counted (bodies_of counts p) ≡ counted (bodies_of extents p)
-  bodies_same p = omega (arith, block_bodies_same p.body)
-
-  -- what is counted by counts is what is counted by extents
-  pub extent_same : (p : ProcedureTree) → counted_extent (extent_of counts p) ≡ counted_extent (extent_of extents p)
-  extent_same p =
-      let n = nodes_same p in
-      let w : counted (extent_of counts p).words ≡ counted (extent_of extents p).words = omega (arith, block_words_same p.body) in
-      let b = bodies_same p in
-      λ i. record { parameters = p.parameters; nodes = n i; words = w i; bodies = b i }
-
--- one more is found alike
-first_mapped : {A B C : Type 0} (f : A → C) (g : B → C) (a : Option A) (b : Option B) (here : Bool) (x : A) (y : B) → option_map f a ≡ option_map g b → f x ≡ g y →
-    option_map f (first_of_two a (cond here (Some x) None)) ≡ option_map g (first_known b (cond here (Some y) None))
-first_mapped f g (Some a) (Some b) here x y alike one = alike
-first_mapped f g (Some a) None here x y alike one = cc
-first_mapped f g None (Some b) here x y alike one = cc
-first_mapped f g None None true x y alike one = ap Some one
-first_mapped f g None None false x y alike one = refl
-
--- the counts of one procedure more
-pub one_more : (table : List (List ℕ × Measured)) (extents : Extents) (name : List ℕ) (m : Measured) (e : Extent) → AreCountsOf (extents_in table) extents →
-    extent_of_measured m ≡ counted_extent e → AreCountsOf (extents_in (declared table name m)) (with_known extents name e)
-one_more table extents name m e same one = λ text.
-    ap (option_map extent_of_measured) (found_declared table name m text)
-    ∙ first_mapped extent_of_measured counted_extent (found table text) (extents text) (bytes_eq text name) m e (same text) one
-
--- a table counts what is known of the procedures before these, and with these that is what is known of all
-abbrev pub Knows : List (List ℕ × Measured) → List Procedure → Extents → Type 0
-Knows table rest all =
-    (known : Extents) × AreCountsOf (extents_in table) known × (known_from extent_of known (map procedure_tree rest) ≡ all)
-
--- it does so when one more was measured
-pub one_measured : (procedures : List Procedure) (i : ℕ) (p : Procedure) (table later : List (List ℕ × Measured)) (m : Measured) (all : Extents) →
-    i < length procedures → p ≡ get_or procedures i p → Knows table (drop i procedures) all →
-    extent_of_measured m ≡ counted_extent (extent_of (extents_in table) (procedure_tree p)) → later ≡ declared table p.name.now m →
-    Knows later (drop (i + 1) procedures) all
-one_measured procedures i p table later m all within is knows one more =
-    let known = knows.0 in
-    let next = drop_more procedures i p within ∙ ap (λ x. x ∷ drop (i + 1) procedures) (sym is) in (
-      with_known known p.name.now (extent_of known (procedure_tree p)),
-      (λ text. ap (λ t. extents_in t text) more ∙ one_more table known p.name.now m (extent_of known (procedure_tree p)) knows.1 (one ∙ extent_same (extents_in table) known knows.1 (procedure_tree p)) text),
-      sym (ap (λ rest. known_from extent_of known (map procedure_tree rest)) next) ∙ knows.2,
-    )
+    -- what is counted by counts is what is counted by extents
+    pub extent_same : (p : ProcedureTree) → extent_to most (extent_of counts p) ≡ extent_to most (extent_of extents p)
+    extent_same p =
+        let k = block_alike p.body in
+        let n : counted_to most (extent_of counts p).nodes ≡ counted_to most (extent_of extents p).nodes = omega (arith, k.nodes) in
+        let w : counted_to most (extent_of counts p).words ≡ counted_to most (extent_of extents p).words = omega (arith, k.words) in
+        let b : counted_to most (extent_of counts p).bodies ≡ counted_to most (extent_of extents p).bodies = omega (arith, k.bodies) in
+        λ i. record { parameters = p.parameters; nodes = n i; words = w i; bodies = b i }

@@ -74,7 +74,8 @@ prefix_fits Not k a is = subst (λ j. IsWithinKind j (word_of (not (truth_of a))
 prefix_fits Complement k a numeric = number_fits k _ numeric (complement_fits (width_of k) a)
 prefix_fits Negate k a numeric = number_fits k _ numeric (wrapped_fits (width_of k) _)
 
-pub operated_fits : {profile : Profile} (operator : BinaryOperator) {one other whole : WordType} (a b : ℕ) → Makes profile (operation_of operator) one other whole
+pub operated_fits : {profile : Profile} (operator : BinaryOperator) {one other whole : WordType} (a b : ℕ)
+    → Makes profile (operation_of operator) one other whole
     → IsWithinKind one.kind a → IsWithinKind other.kind b → IsWithinKind whole.kind (operated operator (width_of one.kind) a b)
 operated_fits Either a b logic low high = bit_fits (truth_of a || truth_of b)
 operated_fits Both a b logic low high = bit_fits (truth_of a && truth_of b)
@@ -92,8 +93,10 @@ operated_fits ShiftRight a b (shift {kind = k} numeric) low high = number_fits k
 operated_fits Add a b (arithmetic {kind = k} numeric) low high = number_fits k _ numeric (wrapped_fits (width_of k) _)
 operated_fits Subtract a b (arithmetic {kind = k} numeric) low high = number_fits k _ numeric (wrapped_fits (width_of k) _)
 operated_fits Multiply a b (multiplication {kind = k} numeric may) low high = number_fits k _ numeric (wrapped_fits (width_of k) _)
-operated_fits Divide a b (division {kind = k} numeric) low high = number_fits k _ numeric (quotient_fits (width_of k) a b (fits_number k a numeric low))
-operated_fits Remainder a b (division {kind = k} numeric) low high = number_fits k _ numeric (remainder_fits (width_of k) a b (fits_number k a numeric low))
+operated_fits Divide a b (division {kind = k} numeric) low high =
+    number_fits k _ numeric (quotient_fits (width_of k) a b (fits_number k a numeric low))
+operated_fits Remainder a b (division {kind = k} numeric) low high =
+    number_fits k _ numeric (remainder_fits (width_of k) a b (fits_number k a numeric low))
 
 -- an element is within the kind, or 0 where there is none
 pub element_fits : (kind : Kind) (numbers : List ℕ) (i : ℕ) → All (IsWithinKind kind) numbers → IsWithinKind kind (slice_index numbers i)
@@ -111,18 +114,23 @@ module _ (types : Types) (m : Values) (fits : Fits types m) where
   pub value_fits : {e : TermTree} {whole : WordType} → HasType types e whole → IsWithinKind whole.kind (value_in m e)
   value_fits (of_number below) = below
   value_fits (of_truth {value = value}) = bit_fits value
-  value_fits (of_variable {x = x} {word = word} {mutable = mutable} is) = element_fits word.kind (m x) 0 (fits x (word_as word mutable) is).within
+  value_fits (of_variable {x = x} {word = word} {mutable = mutable} is) =
+      element_fits word.kind (m x) 0 (fits x (word_as word mutable) is).within
   value_fits (of_prefix {operator = operator} {operand = operand} {kind = kind} has takes width) =
-      subst (λ w. IsWithinKind kind (prefix_value operator w (value_in m operand))) (sym width) (prefix_fits operator kind (value_in m operand) takes)
+      subst (λ w. IsWithinKind kind (prefix_value operator w (value_in m operand))) (sym width)
+      (prefix_fits operator kind (value_in m operand) takes)
   value_fits (of_binary {operator = operator} {left = left} {right = right} {one = one} {whole = whole} has more makes width) =
       subst (λ w. IsWithinKind whole.kind (operated operator w (value_in m left) (value_in m right))) (sym width)
       (operated_fits operator (value_in m left) (value_in m right) makes (value_fits has) (value_fits more))
   value_fits (of_rotation {operand = operand} {amount = amount} {kind = kind} has numeric low high width) =
-      subst (λ w. IsWithinKind kind (rotated_left w (value_in m operand) amount)) (sym width) (number_fits kind _ numeric (wrapped_fits (width_of kind) _))
-  value_fits (of_conversion {kind = kind} {operand = operand} has numeric) = number_fits kind _ numeric (wrapped_fits (width_of kind) (value_in m operand))
+      subst (λ w. IsWithinKind kind (rotated_left w (value_in m operand) amount)) (sym width)
+      (number_fits kind _ numeric (wrapped_fits (width_of kind) _))
+  value_fits (of_conversion {kind = kind} {operand = operand} has numeric) =
+      number_fits kind _ numeric (wrapped_fits (width_of kind) (value_in m operand))
   value_fits (of_selection {condition = condition} {accepted = accepted} {otherwise = otherwise} {kind = kind} chooser has more) =
       either_fits kind (value_in m condition == 0) (value_in m accepted) (value_in m otherwise) (value_fits has) (value_fits more)
-  value_fits (of_element {x = x} {size = size} {index = index} {word = word} {mutable = mutable} is has) = element_fits word.kind (m x) (value_in m index) (fits x (array_as word mutable size) is).within
+  value_fits (of_element {x = x} {size = size} {index = index} {word = word} {mutable = mutable} is has) =
+      element_fits word.kind (m x) (value_in m index) (fits x (array_as word mutable size) is).within
 
   -- and what suits is within the kind that is wanted
   pub suited_fits : (wanted : WordType) (e : TermTree) → Suits types wanted e → IsWithinKind wanted.kind (value_in m e)

@@ -25,62 +25,79 @@ use Rattle.inline.proofs.TypesKept.{types_kept, new_number}
 -- Values.
 
 pub one_held : (word : WordType) (mutable : Bool) (v : ℕ) → IsWithinKind word.kind v → IsHeld (word_as word mutable) (v ∷ [])
-one_held word mutable v below = record { count = refl; within = All-cons (IsWithinKind word.kind) v [] below (All-nil (IsWithinKind word.kind)) }
+one_held word mutable v below = record
+    { count = refl; within = All-cons (IsWithinKind word.kind) v [] below (All-nil (IsWithinKind word.kind)) }
 
-pub fits_declared : (types : Types) (m : Values) (y : ℕ) (v : List ℕ) (own : FlatVariable) → IsHeld own v → Fits types m → Fits (with_type types y own) (with_value m y v)
+pub fits_declared : (types : Types) (m : Values) (y : ℕ) (v : List ℕ) (own : FlatVariable) → IsHeld own v → Fits types m
+    → Fits (with_type types y own) (with_value m y v)
 fits_declared types m y v own here fits x d is = by_number (x == y) is
   where
     by_number : (b : Bool) → (if b then Some own else types.at x) ≡ Some d → IsHeld d (if b then v else m x)
     by_number true is = subst (λ (t : FlatVariable). IsHeld t v) (same_Some own d is) here
     by_number false is = fits x d is
 
-pub fits_assigned : (types : Types) (m : Values) (y : ℕ) (v : List ℕ) (own : FlatVariable) → types.at y ≡ Some own → IsHeld own v → Fits types m → Fits types (with_value m y v)
+pub fits_assigned : (types : Types) (m : Values) (y : ℕ) (v : List ℕ) (own : FlatVariable) → types.at y ≡ Some own
+    → IsHeld own v → Fits types m → Fits types (with_value m y v)
 fits_assigned types m y v own there here fits x d is = by_number (x == y) refl
   where
     by_number : (b : Bool) → (x == y) ≡ b → IsHeld d (if b then v else m x)
-    by_number true e = subst (λ (t : FlatVariable). IsHeld t v) (same_Some own d (sym there ∙ (ap types.at (sym (eqb-true x y e)) ∙ is))) here
+    by_number true e = subst (λ (t : FlatVariable). IsHeld t v)
+        (same_Some own d (sym there ∙ (ap types.at (sym (eqb-true x y e)) ∙ is))) here
     by_number false e = fits x d is
 
 -- the elements of a new array
 module _ (types : Types) (m : Values) (fits : Fits types m) (word : WordType) where
   all_fit : (es : List TermTree) → AllSuit types word es → All (IsWithinKind word.kind) (map (value_in m) es)
   all_fit [] suit = All-nil (IsWithinKind word.kind)
-  all_fit (e ∷ es) suit = All-cons (IsWithinKind word.kind) (value_in m e) (map (value_in m) es) (suited_fits types m fits word e suit.0) (all_fit es suit.1)
+  all_fit (e ∷ es) suit = All-cons (IsWithinKind word.kind) (value_in m e) (map (value_in m) es)
+      (suited_fits types m fits word e suit.0) (all_fit es suit.1)
 
-  elements_held : (mutable : Bool) (size : ℕ) (es : List TermTree) → AllSuit types word es → HasCount size es → IsHeld (array_as word mutable size) (elements m size es)
-  elements_held mutable size [] suit count = record { count = length-replicate size 0; within = All-replicate (IsWithinKind word.kind) size 0 (some_bit word.kind) }
-  elements_held mutable size (e ∷ es) suit count = record { count = length-map (e ∷ es) (value_in m) ∙ count; within = all_fit (e ∷ es) suit }
+  elements_held : (mutable : Bool) (size : ℕ) (es : List TermTree) → AllSuit types word es → HasCount size es
+      → IsHeld (array_as word mutable size) (elements m size es)
+  elements_held mutable size [] suit count = record
+      { count = length-replicate size 0; within = All-replicate (IsWithinKind word.kind) size 0 (some_bit word.kind) }
+  elements_held mutable size (e ∷ es) suit count = record
+      { count = length-map (e ∷ es) (value_in m) ∙ count; within = all_fit (e ∷ es) suit }
 
 either_fits : (types : Types) (b : Bool) (m n : Values) → Fits types m → Fits types n → Fits types (if b then n else m)
 either_fits types true m n one other = other
 either_fits types false m n one other = one
 
 -- after so many turns, where each keeps it
-fits_turns : (types : Types) (turn : ℕ → Values → Values) (n : ℕ) → ((i : ℕ) (m : Values) → i < n → Fits types m → Fits types (turn i m)) → (k i : ℕ) (m : Values) → n - i ≡ k → Fits types m → Fits types (turns k i turn m)
+fits_turns : (types : Types) (turn : ℕ → Values → Values) (n : ℕ)
+    → ((i : ℕ) (m : Values) → i < n → Fits types m → Fits types (turn i m)) → (k i : ℕ) (m : Values) → n - i ≡ k
+    → Fits types m → Fits types (turns k i turn m)
 fits_turns types turn n step zero i m count fits = fits
-fits_turns types turn n step (suc k) i m count fits = fits_turns types turn n step k (i + 1) (turn i m) (omega arith) (step i m (omega arith) fits)
+fits_turns types turn n step (suc k) i m count fits = fits_turns types turn n step k (i + 1) (turn i m) (omega arith)
+    (step i m (omega arith) fits)
 
 -- Statements.
 
 module _ (all : List FlatVariable) where
   mutual
-    pub fits_after : (s : FlatTree) (types : Types) (control : Label) → IsTyped all types control s → (m : Values) → Fits types m → Fits (types_after types s) (after m s)
+    pub fits_after : (s : FlatTree) (types : Types) (control : Label) → IsTyped all types control s → (m : Values)
+        → Fits types m → Fits (types_after types s) (after m s)
     fits_after (declare y word mutable value) types control typed m fits =
-        fits_declared types m y (value_in m value ∷ []) (word_as word mutable) (one_held word mutable (value_in m value) (suited_fits types m fits word value typed.1)) fits
+        fits_declared types m y (value_in m value ∷ []) (word_as word mutable)
+        (one_held word mutable (value_in m value) (suited_fits types m fits word value typed.1)) fits
     fits_after (array y word mutable size values) types control typed m fits =
-        fits_declared types m y (elements m size values) (array_as word mutable size) (elements_held types m fits word mutable size values typed.1 typed.2) fits
+        fits_declared types m y (elements m size values) (array_as word mutable size)
+        (elements_held types m fits word mutable size values typed.1 typed.2) fits
     fits_after (assign y value) types control typed m fits =
-        fits_assigned types m y (value_in m value ∷ []) (word_as typed.word true) typed.known (one_held typed.word true (value_in m value) (suited_fits types m fits typed.word value typed.suits)) fits
+        fits_assigned types m y (value_in m value ∷ []) (word_as typed.word true) typed.known
+        (one_held typed.word true (value_in m value) (suited_fits types m fits typed.word value typed.suits)) fits
     fits_after (put place y size index value) types control typed m fits =
         let old = fits y (array_as typed.word true size) typed.known in
         let v = value_in m value in
         fits_assigned types m y (slice_set (m y) (value_in m index) v) (array_as typed.word true size) typed.known
         (record {
           count = length-set (m y) (value_in m index) v ∙ old.count;
-          within = All-set (IsWithinKind typed.word.kind) (m y) (value_in m index) v (suited_fits types m fits typed.word value typed.suits) old.within;
+          within = All-set (IsWithinKind typed.word.kind) (m y) (value_in m index) v
+              (suited_fits types m fits typed.word value typed.suits) old.within;
         }) fits
     fits_after (hold y place size index) types control typed m fits =
-        fits_declared types m y (value_in m index ∷ []) (word_as counter_type false) (one_held counter_type false (value_in m index) (value_fits types m fits typed.1)) fits
+        fits_declared types m y (value_in m index ∷ []) (word_as counter_type false)
+        (one_held counter_type false (value_in m index) (value_fits types m fits typed.1)) fits
     fits_after skip types control typed m fits = fits
     fits_after (branch label condition accepted otherwise) types control typed m fits =
         let under = joined label control in
@@ -98,13 +115,17 @@ module _ (all : List FlatVariable) where
         let turn = λ (i : ℕ) (t : Values). after_all (with_value t y (i ∷ [])) body in
         fits_turns types turn b
         (λ i t less held x d is.
-        fits_after_all body inside control typed.3 (with_value t y (i ∷ [])) (fits_declared types t y (i ∷ []) own (one_held counter_type false i (omega (arith, less, most))) held) x d
+        fits_after_all body inside control typed.3 (with_value t y (i ∷ []))
+        (fits_declared types t y (i ∷ []) own (one_held counter_type false i (omega (arith, less, most))) held) x d
         (types_kept all inside control body typed.3 x d (with_type-other types y x own (new_number types y x d typed.2.new is) ∙ is)))
         (b - a) a m refl fits
 
-    pub fits_after_all : (b : FlatBlock) (types : Types) (control : Label) → AreTyped all types control b → (m : Values) → Fits types m → Fits (types_after_all types b) (after_all m b)
+    pub fits_after_all : (b : FlatBlock) (types : Types) (control : Label) → AreTyped all types control b → (m : Values)
+        → Fits types m → Fits (types_after_all types b) (after_all m b)
     fits_after_all nothing types control typed m fits = fits
-    fits_after_all (first s rest) types control typed m fits = fits_after_all rest (types_after types s) control typed.1 (after m s) (fits_after s types control typed.0 m fits)
+    fits_after_all (first s rest) types control typed m fits =
+        fits_after_all rest (types_after types s) control typed.1 (after m s)
+        (fits_after s types control typed.0 m fits)
 
 -- Parameters.
 
@@ -115,23 +136,36 @@ within_kind Uint16 v h = omega (arith, h)
 within_kind Uint32 v h = omega (arith, h)
 
 argument_held : (p : Param) (arg : Arg) → IsWithin p arg → IsHeld (declaration_of p) (words_of arg)
-argument_held p arg within = record { count = argument_count p.form p.length arg within.shape; within = λ k d less. within_kind p.kind _ (within.values k d less) }
+argument_held p arg within = record {
+  count = argument_count p.form p.length arg within.shape;
+  within = λ k d less. within_kind p.kind _
+      (within.values k d less);
+}
 
-fits_given : (ps : List Param) (ds : List FlatVariable) (args : List Arg) → AreWithin ps args → take (length ps) ds ≡ map declaration_of ps → (x : ℕ) (d : FlatVariable) → slice_get (map declaration_of ps) x ≡ Some d → IsHeld d (given ds args x)
+fits_given : (ps : List Param) (ds : List FlatVariable) (args : List Arg) → AreWithin ps args
+    → take (length ps) ds ≡ map declaration_of ps → (x : ℕ) (d : FlatVariable)
+    → slice_get (map declaration_of ps) x ≡ Some d → IsHeld d (given ds args x)
 fits_given [] ds args within front x d is = absurd (none-some d is)
 fits_given (p ∷ ps) [] args within front x d is = absurd cc
 fits_given (p ∷ ps) (e ∷ ds) [] within front x d is = absurd within
-fits_given (p ∷ ps) (e ∷ ds) (arg ∷ args) within front zero d is = subst (λ (t : FlatVariable). IsHeld t (words_of arg)) (same_Some (declaration_of p) d is) (argument_held p arg within.0)
+fits_given (p ∷ ps) (e ∷ ds) (arg ∷ args) within front zero d is =
+    subst (λ (t : FlatVariable). IsHeld t (words_of arg)) (same_Some (declaration_of p) d is)
+    (argument_held p arg within.0)
 fits_given (p ∷ ps) (e ∷ ds) (arg ∷ args) within front (suc x) d is = fits_given ps ds args within.1 (ap (λ xs. drop 1 xs) front) x d is
 
 -- in a well-typed program
-pub parameters_fit : (p : FlatProgram) (args : List Arg) → IsTypedProgram p → AreWithin p.parameters args → Fits (parameter_types p.profile p.parameters) (given p.declared args)
+pub parameters_fit : (p : FlatProgram) (args : List Arg) → IsTypedProgram p → AreWithin p.parameters args
+    → Fits (parameter_types p.profile p.parameters) (given p.declared args)
 parameters_fit p args typed within x d is = fits_given p.parameters p.declared args within typed.parameters x d is
 
 pub end_fits : (p : FlatProgram) (args : List Arg) → IsTypedProgram p → AreWithin p.parameters args → Fits (end_types p) (end_of p args)
-end_fits p args typed within = fits_after_all p.declared p.body (parameter_types p.profile p.parameters) Public typed.body (given p.declared args) (parameters_fit p args typed within)
+end_fits p args typed within = fits_after_all p.declared p.body (parameter_types p.profile p.parameters) Public
+    typed.body (given p.declared args) (parameters_fit p args typed within)
 
-pub result_fits : (p : FlatProgram) (args : List Arg) (word : WordType) (value : TermTree) → IsTypedProgram p → AreWithin p.parameters args → p.returned ≡ Some word → p.value ≡ Some value → IsWithinKind word.kind (value_in (end_of p args) value)
+pub result_fits : (p : FlatProgram) (args : List Arg) (word : WordType) (value : TermTree) → IsTypedProgram p
+    → AreWithin p.parameters args → p.returned ≡ Some word → p.value ≡ Some value
+    → IsWithinKind word.kind (value_in (end_of p args) value)
 result_fits p args word value typed within returned valued =
-    let result = subst (λ v. IsResult (end_types p) (Some word) v) valued (subst (λ r. IsResult (end_types p) r p.value) returned typed.result) in
+    let result = subst (λ v. IsResult (end_types p) (Some word) v) valued
+    (subst (λ r. IsResult (end_types p) r p.value) returned typed.result) in
     suited_fits (end_types p) (end_of p args) (end_fits p args typed within) word value result

@@ -39,7 +39,8 @@ use Rattle.inline.proofs.Terms.{Holds, Shows, word_at, element_found, means, no_
 
 -- Words.
 
-holds_word : (own : WordType) (mutable : Bool) (w : state.Word) (v : ℕ) → w ≡ word_at own.kind v → Holds (word_as own mutable) (Some (single w)) (v ∷ [])
+holds_word : (own : WordType) (mutable : Bool) (w : state.Word) (v : ℕ) → w ≡ word_at own.kind v
+    → Holds (word_as own mutable) (Some (single w)) (v ∷ [])
 holds_word own mutable w v same = record { is = ap (λ u. Some (single u)) same; count = refl }
 
 -- Arrays.
@@ -61,47 +62,67 @@ elements_filled : (m : Values) (size : ℕ) (es : List TermTree) → elements m 
 elements_filled m size [] = refl
 elements_filled m size (e ∷ es) = refl
 
-filled_count : (m : Values) (names : Numbers) {size : ℕ} {values : Option (List ExprTree)} → rules.HasCount size values → length (elements m size (map (term names) (written values))) ≡ size
+filled_count : (m : Values) (names : Numbers) {size : ℕ} {values : Option (List ExprTree)} → rules.HasCount size values
+    → length (elements m size (map (term names) (written values))) ≡ size
 filled_count m names {size = size} rules.all_zero = length-replicate size 0
 filled_count m names {size = size} (rules.all_given {values = []} is) = length-replicate size 0
-filled_count m names {size = size} (rules.all_given {values = e ∷ es} is) = length-map (map (term names) (e ∷ es)) (value_in m) ∙ (length-map (e ∷ es) (term names) ∙ is)
+filled_count m names {size = size} (rules.all_given {values = e ∷ es} is) =
+    length-map (map (term names) (e ∷ es)) (value_in m) ∙ (length-map (e ∷ es) (term names) ∙ is)
 
 -- an element that is asked for is there, or it is the fault
-element_asked : (s : State) (bracket target : Place) (text : List ℕ) (index : ExprTree) (kind : Kind) (words : List ℕ) (size i : ℕ) → s text ≡ Some (state.array kind words) → length words ≡ size
-    → (u : state.Word) → Evaluates s index (gives u) → u.value ≡ i → Comes (Evaluates s (element bracket target text index)) (λ w. Unit {0}) (fault_at (indexed bracket size i))
+element_asked : (s : State) (bracket target : Place) (text : List ℕ) (index : ExprTree) (kind : Kind) (words : List ℕ)
+    (size i : ℕ) → s text ≡ Some (state.array kind words) → length words ≡ size
+    → (u : state.Word) → Evaluates s index (gives u) → u.value ≡ i
+    → Comes (Evaluates s (element bracket target text index)) (λ w. Unit {0}) (fault_at (indexed bracket size i))
 element_asked s bracket target text index kind words size i there count u is same =
     ended (fault_at (indexed bracket size i))
     (subst (Evaluates s (element bracket target text index))
-    (ap₂ (element_held bracket) there same ∙ (element_found bracket kind words size i count ∙ ap (λ f. ending_by f (word_at kind (slice_index words i))) (either-none (fault_at (indexed bracket size i)))))
+    (ap₂ (element_held bracket) there same
+    ∙ (element_found bracket kind words size i count ∙ ap (λ f. ending_by f (word_at kind (slice_index words i)))
+    (either-none (fault_at (indexed bracket size i)))))
     (by_operands (one_more is none_left)))
   where
-    ended : (f : Option Place) → Evaluates s (element bracket target text index) (ending_by f (word_at kind (slice_index words i))) → Comes (Evaluates s (element bracket target text index)) (λ w. Unit {0}) f
+    ended : (f : Option Place) → Evaluates s (element bracket target text index)
+        (ending_by f (word_at kind (slice_index words i))) → Comes (Evaluates s (element bracket target text index))
+        (λ w. Unit {0}) f
     ended None is = well _ is tt
     ended (Some at) is = fails at is
 
 -- the state with another element
-with_another : (s : State) (text : List ℕ) (kind : Kind) (words : List ℕ) (i : ℕ) (w : state.Word) → s text ≡ Some (state.array kind words) → with_some s text (with_element (s text) i w) ≡ with_value s text (state.array kind (slice_set words i w.value))
+with_another : (s : State) (text : List ℕ) (kind : Kind) (words : List ℕ) (i : ℕ) (w : state.Word)
+    → s text ≡ Some (state.array kind words) → with_some s text (with_element (s text) i w) ≡ with_value s text
+    (state.array kind (slice_set words i w.value))
 with_another s text kind words i w there = ap (λ o. with_some s text (with_element o i w)) there
 
 -- Loops.
 
 -- so many turns, where each comes to the same
-module _ (ps : List ProcedureTree) (text : List ℕ) (body : BlockTree) (names : Numbers) (turn : ℕ → Values → Values) (path : ℕ → Values → Path)
-    (step : (i : ℕ) (s : State) (m : Values) → Shows names s m → Comes (RunsAll ps (counting s text i) body) (λ t. Shows names t (turn i m)) (first_fault (path i m))) where
-  same_turns : (k i n : ℕ) (s : State) (m : Values) → n - i ≡ k → Shows names s m → Comes (Turns ps s text body i n) (λ t. Shows names t (flat.turns k i turn m)) (first_fault (path_of_turns k i turn path m))
+module _ (ps : List ProcedureTree) (text : List ℕ) (body : BlockTree) (names : Numbers) (turn : ℕ → Values → Values)
+    (path : ℕ → Values → Path)
+    (step : (i : ℕ) (s : State) (m : Values) → Shows names s m
+    → Comes (RunsAll ps (counting s text i) body) (λ t. Shows names t (turn i m)) (first_fault (path i m))) where
+  same_turns : (k i n : ℕ) (s : State) (m : Values) → n - i ≡ k → Shows names s m
+      → Comes (Turns ps s text body i n) (λ t. Shows names t (flat.turns k i turn m))
+      (first_fault (path_of_turns k i turn path m))
   same_turns zero i n s m count shows = well s (no_turn (omega arith)) shows
   same_turns (suc k) i n s m count shows =
       let more : i < n = omega arith in
-      subst (Comes (Turns ps s text body i n) (λ t. Shows names t (flat.turns (suc k) i turn m))) (sym (across (path i m) (path_of_turns k (i + 1) turn path (turn i m))))
+      subst (Comes (Turns ps s text body i n) (λ t. Shows names t (flat.turns (suc k) i turn m)))
+      (sym (across (path i m) (path_of_turns k (i + 1) turn path (turn i m))))
       (then_comes (step i s m shows)
-      (λ t is good. also (same_turns k (i + 1) n t (turn i m) (omega arith) good) (λ u are shows. (u, a_turn more is are, shows)) (λ at are. a_turn more is are))
+      (λ t is good. also (same_turns k (i + 1) n t (turn i m) (omega arith) good)
+      (λ u are shows. (u, a_turn more is are, shows)) (λ at are. a_turn more is are))
       (λ at is. turn_faults more is))
 
 -- Conditionals.
 
-one_arm : (ps : List ProcedureTree) (s : State) (place : Place) (condition : ExprTree) (accepted otherwise : BlockTree) (names : Numbers) (if_true if_false : Values) (p q : Path) (c : state.Word) (v : ℕ) → Evaluates s condition (gives c) → c.value ≡ v
-    → Comes (RunsAll ps s accepted) (λ t. Shows names t if_true) (first_fault p) → Comes (RunsAll ps s otherwise) (λ t. Shows names t if_false) (first_fault q)
-    → (b : Bool) → (v == 0) ≡ b → Comes (Runs ps s (conditional place condition accepted otherwise)) (λ t. Shows names t (if b then if_false else if_true)) (first_fault (if b then q else p))
+one_arm : (ps : List ProcedureTree) (s : State) (place : Place) (condition : ExprTree) (accepted otherwise : BlockTree)
+    (names : Numbers) (if_true if_false : Values) (p q : Path) (c : state.Word) (v : ℕ)
+    → Evaluates s condition (gives c) → c.value ≡ v
+    → Comes (RunsAll ps s accepted) (λ t. Shows names t if_true) (first_fault p)
+    → Comes (RunsAll ps s otherwise) (λ t. Shows names t if_false) (first_fault q)
+    → (b : Bool) → (v == 0) ≡ b → Comes (Runs ps s (conditional place condition accepted otherwise))
+    (λ t. Shows names t (if b then if_false else if_true)) (first_fault (if b then q else p))
 one_arm ps s place condition accepted otherwise names if_true if_false p q c v is same one other true e =
     let off = ap (λ x. not (x == 0)) same ∙ ap not e in
     also other (λ t are shows. (t, declines is off are, shows)) (λ at are. declines is off are)
@@ -110,14 +131,20 @@ one_arm ps s place condition accepted otherwise names if_true if_false p q c v i
     also one (λ t are shows. (t, accepts is on are, shows)) (λ at are. accepts is on are)
 
 -- One statement behind a block.
-at_end : {Is : Ending State → Type 0} (b : FlatBlock) (last : FlatTree) (m : Values) (Good : State → Values → Type 0) → Comes Is (λ t. Good t (after (after_all m b) last)) (either (first_fault (path_along m b)) (first_fault (path_at (after_all m b) last)))
+at_end : {Is : Ending State → Type 0} (b : FlatBlock) (last : FlatTree) (m : Values) (Good : State → Values → Type 0)
+    → Comes Is (λ t. Good t (after (after_all m b) last))
+    (either (first_fault (path_along m b)) (first_fault (path_at (after_all m b) last)))
     → Comes Is (λ t. Good t (after_all m (chain b (single_block last)))) (first_fault (path_along m (chain b (single_block last))))
 at_end {Is = Is} b last m Good comes =
-    subst (λ (end : Values). Comes Is (λ t. Good t end) (first_fault (path_along m (chain b (single_block last))))) (sym (after_chain b (single_block last) m))
-    (subst (Comes Is (λ t. Good t (after (after_all m b) last))) (ap (either (first_fault (path_along m b))) (sym (fault_single last (after_all m b))) ∙ sym (fault_chain b (single_block last) m)) comes)
+    subst (λ (end : Values). Comes Is (λ t. Good t end) (first_fault (path_along m (chain b (single_block last)))))
+    (sym (after_chain b (single_block last) m))
+    (subst (Comes Is (λ t. Good t (after (after_all m b) last)))
+    (ap (either (first_fault (path_along m b))) (sym (fault_single last (after_all m b)))
+    ∙ sym (fault_chain b (single_block last) m)) comes)
 
 -- one statement
-alone : {Is : Ending State → Type 0} {Good : State → Type 0} (only : FlatTree) (m : Values) → Comes Is Good (first_fault (path_at m only)) → Comes Is Good (first_fault (path_along m (single_block only)))
+alone : {Is : Ending State → Type 0} {Good : State → Type 0} (only : FlatTree) (m : Values)
+    → Comes Is Good (first_fault (path_at m only)) → Comes Is Good (first_fault (path_along m (single_block only)))
 alone {Is = Is} {Good = Good} only m comes = subst (Comes Is Good) (sym (fault_single only m)) comes
 
 -- a mark that is met twice
@@ -127,13 +154,19 @@ met_twice None (Some at) c q = refl
 met_twice None None c q = refl
 
 -- a result that nothing takes
-dropped_fault : (k : ℕ) (result : Option WordType) (value : Option TermTree) (m : Values) → (result ≡ None → value ≡ None) → first_fault (path_along m (dropped_block k result value)) ≡ first_fault (path_of_result m value)
+dropped_fault : (k : ℕ) (result : Option WordType) (value : Option TermTree) (m : Values)
+    → (result ≡ None → value ≡ None) → first_fault (path_along m (dropped_block k result value)) ≡ first_fault
+    (path_of_result m value)
 dropped_fault k None value m none = ap (λ v. first_fault (path_of_result m v)) (sym (none refl))
-dropped_fault k (Some word) value m none = fault_single (flat_tree.declare k word false (value_given value)) m ∙ ap first_fault (sym (path_given m value))
+dropped_fault k (Some word) value m none = fault_single (flat_tree.declare k word false (value_given value)) m
+    ∙ ap first_fault (sym (path_given m value))
 
 -- an element is assigned to
-element_shown : (scope : Scope) (names : Numbers) (types : Types) (n : ℕ) → Linked scope names types n → (text : List ℕ) (own : ArrayType) → IsVariable scope text (Array own) true → (s : State) (m : Values) → Shows names s m → (u w : state.Word) (i v : ℕ) → u.value ≡ i → w ≡ word_at own.element.kind v
-    → Shows names (with_some s text (with_element (s text) u.value w)) (flat.with_value m (number_of names text) (slice_set (m (number_of names text)) i v))
+element_shown : (scope : Scope) (names : Numbers) (types : Types) (n : ℕ) → Linked scope names types n
+    → (text : List ℕ) (own : ArrayType) → IsVariable scope text (Array own) true → (s : State) (m : Values)
+    → Shows names s m → (u w : state.Word) (i v : ℕ) → u.value ≡ i → w ≡ word_at own.element.kind v
+    → Shows names (with_some s text (with_element (s text) u.value w))
+    (flat.with_value m (number_of names text) (slice_set (m (number_of names text)) i v))
 element_shown scope names types n linked text own is s m shows u w i v same alike =
     let d = array_as own.element true own.length in
     let x = known_array scope names types n linked text own true is in
@@ -141,44 +174,57 @@ element_shown scope names types n linked text own is s m shows u w i v same alik
     let known = x.found ∙ ap (λ (z : Numbered). Some (entry z.number d)) (sym x.here) in
     let holds = shows text (entry y d) known in
     subst (λ t. Shows names t (flat.with_value m y (slice_set (m y) i v)))
-    (sym (with_another s text own.element.kind (m y) u.value w holds.is ∙ ap₂ (λ j (z : state.Word). with_value s text (state.array own.element.kind (slice_set (m y) j z.value))) same alike))
-    (shows_changed scope names types n linked s m shows text d (state.array own.element.kind (slice_set (m y) i v)) (slice_set (m y) i v) (record { is = refl; count = length-set (m y) i v ∙ holds.count }) y known refl)
+    (sym (with_another s text own.element.kind (m y) u.value w holds.is
+    ∙ ap₂ (λ j (z : state.Word). with_value s text (state.array own.element.kind (slice_set (m y) j z.value))) same
+    alike))
+    (shows_changed scope names types n linked s m shows text d (state.array own.element.kind (slice_set (m y) i v))
+    (slice_set (m y) i v) (record { is = refl; count = length-set (m y) i v ∙ holds.count }) y known refl)
 
 -- the element that is evaluated first
-element_first : (scope : Scope) (names : Numbers) (types : Types) (n : ℕ) → Linked scope names types n → (text : List ℕ) (own : ArrayType) → IsVariable scope text (Array own) true → (s : State) (m : Values) → Shows names s m → (bracket target : Place) (index : ExprTree) (u : state.Word) (i : ℕ)
-    → Evaluates s index (gives u) → u.value ≡ i → Comes (Evaluates s (element bracket target text index)) (λ w. Unit {0}) (fault_at (indexed bracket (size_of names text) i))
+element_first : (scope : Scope) (names : Numbers) (types : Types) (n : ℕ) → Linked scope names types n
+    → (text : List ℕ) (own : ArrayType) → IsVariable scope text (Array own) true → (s : State) (m : Values)
+    → Shows names s m → (bracket target : Place) (index : ExprTree) (u : state.Word) (i : ℕ)
+    → Evaluates s index (gives u) → u.value ≡ i → Comes (Evaluates s (element bracket target text index))
+    (λ w. Unit {0}) (fault_at (indexed bracket (size_of names text) i))
 element_first scope names types n linked text own is s m shows bracket target index u i evaluated same =
     let d = array_as own.element true own.length in
     let x = known_array scope names types n linked text own true is in
     let y = number_of names text in
     let holds = shows text (entry y d) (x.found ∙ ap (λ (z : Numbered). Some (entry z.number d)) (sym x.here)) in
-    element_asked s bracket target text index own.element.kind (m y) (size_of names text) i holds.is (holds.count ∙ ap (λ (z : Numbered). numbers_in z.declaration.elements) (sym x.here)) u evaluated same
+    element_asked s bracket target text index own.element.kind (m y) (size_of names text) i holds.is
+    (holds.count ∙ ap (λ (z : Numbered). numbers_in z.declaration.elements) (sym x.here)) u evaluated same
 
 module _ (ps : List ProcedureTree) where
   -- what is to be shown of a statement and of a block
   abbrev pub SameEnd : Numbers → ℕ → StatementTree → State → Values → Type 0
   SameEnd names n statement s m =
       let tree = numbering.statement (callables ps) names n statement in
-      Comes (Runs ps s statement) (λ t. Shows (names_after (callables ps) names n statement) t (after_all m tree)) (first_fault (path_along m tree))
+      Comes (Runs ps s statement) (λ t. Shows (names_after (callables ps) names n statement) t (after_all m tree))
+      (first_fault (path_along m tree))
 
   abbrev pub SameEnds : Numbers → ℕ → BlockTree → State → Values → Type 0
   SameEnds names n b s m =
       let tree = block (callables ps) names n b in
       Comes (RunsAll ps s b) (λ t. Shows (names_after_all (callables ps) names n b) t (after_all m tree)) (first_fault (path_along m tree))
 
-  module _ (scope : Scope) (names : Numbers) (types : Types) (n : ℕ) (linked : Linked scope names types n) (s : State) (m : Values) (shows : Shows names s m) where
+  module _ (scope : Scope) (names : Numbers) (types : Types) (n : ℕ) (linked : Linked scope names types n) (s : State)
+      (m : Values) (shows : Shows names s m) where
     -- the first values of an array
     values_come : {wanted : WordType} {es : List ExprTree} → rules.AllSuit scope wanted es → AreAllSmall es
-        → Comes (EvaluatesAll s es) (λ vs. vs ≡ map (word_at wanted.kind) (map (value_in m) (map (term names) es))) (first_fault (path_in_all m (map (term names) es)))
+        → Comes (EvaluatesAll s es) (λ vs. vs ≡ map (word_at wanted.kind) (map (value_in m) (map (term names) es)))
+        (first_fault (path_in_all m (map (term names) es)))
     values_come rules.none_wanted small = no_values s
     values_come (rules.one_suits {e = e} {es = es} has (rules.suits flow) all) small =
-        subst (Comes (EvaluatesAll s (e ∷ es)) (λ vs. vs ≡ _)) (sym (across (path_in m (term names e)) (path_in_all m (map (term names) es))))
+        subst (Comes (EvaluatesAll s (e ∷ es)) (λ vs. vs ≡ _))
+        (sym (across (path_in m (term names e)) (path_in_all m (map (term names) es))))
         (more_values s ((means scope names types n linked has small.0).value s m shows) (values_come all small.1))
 
   mutual
-    pub same_end : {scope : Scope} {control : Label} {statement : StatementTree} → rules.IsWellTyped ps scope control statement → (names : Numbers) (n : ℕ) → Ready ps scope names n
+    pub same_end : {scope : Scope} {control : Label} {statement : StatementTree}
+        → rules.IsWellTyped ps scope control statement → (names : Numbers) (n : ℕ) → Ready ps scope names n
         → IsPlain statement → (s : State) (m : Values) → Shows names s m → SameEnd names n statement s m
-    same_end (rules.declares {scope = scope} {place = place} {label = label} {mutable = mutable} {kind = kind} {text = text} {right = value} new has (rules.suits suits) flow) names n ready plain s m shows =
+    same_end (rules.declares {scope = scope} {place = place} {label = label} {mutable = mutable} {kind = kind}
+        {text = text} {right = value} new has (rules.suits suits) flow) names n ready plain s m shows =
         let k = right_end (callables ps) n value in
         let next = ready_later n k (omega arith) ready in
         let tree = right_block (callables ps) names n value in
@@ -191,10 +237,13 @@ module _ (ps : List ProcedureTree) where
         (λ r is good. (
           with_value r.state text (single (word_given r.word)),
           declares is,
-          shows_declared scope names next.types k next.linked r.state end good.shows text own (single (word_given r.word)) (v ∷ []) (holds_word (labelled kind label) mutable (word_given r.word) v good.word) new,
+          shows_declared scope names next.types k next.linked r.state end good.shows text own
+              (single (word_given r.word)) (v ∷ [])
+              (holds_word (labelled kind label) mutable (word_given r.word) v good.word) new,
         ))
         (λ at is. declaration_faults is))
-    same_end (rules.declares_array {scope = scope} {place = place} {label = label} {mutable = mutable} {kind = kind} {size = size} {text = text} {values = values} new all count flow) names n ready plain s m shows =
+    same_end (rules.declares_array {scope = scope} {place = place} {label = label} {mutable = mutable} {kind = kind}
+        {size = size} {text = text} {values = values} new all count flow) names n ready plain s m shows =
         let own = array_as (labelled kind label) mutable size in
         let terms = map (term names) (written values) in
         alone (flat_tree.array n (labelled kind label) mutable size terms) m
@@ -204,12 +253,15 @@ module _ (ps : List ProcedureTree) where
           declares_array is,
           shows_declared scope names ready.types n ready.linked s m shows text own (made_array kind size vs) (elements m size terms)
               (record {
-                is = ap (λ us. Some (made_array kind size us)) same ∙ (ap Some (made_filled kind size (map (value_in m) terms)) ∙ ap (λ us. Some (state.array kind us)) (sym (elements_filled m size terms)));
+                is = ap (λ us. Some (made_array kind size us)) same
+                    ∙ (ap Some (made_filled kind size (map (value_in m) terms))
+                    ∙ ap (λ us. Some (state.array kind us)) (sym (elements_filled m size terms)));
                 count = filled_count m names count;
               }) new,
         ))
         (λ at is. first_value_faults is))
-    same_end (rules.assigns {scope = scope} {place = place} {target = target} {text = text} {right = value} is has (rules.suits {kind = kind} {wanted = label} suits) flow) names n ready plain s m shows =
+    same_end (rules.assigns {scope = scope} {place = place} {target = target} {text = text} {right = value} is has
+        (rules.suits {kind = kind} {wanted = label} suits) flow) names n ready plain s m shows =
         let tree = right_block (callables ps) names n value in
         let taken = right (callables ps) names n value in
         let end = after_all m tree in
@@ -221,21 +273,28 @@ module _ (ps : List ProcedureTree) where
         (λ r is good. (
           with_value r.state text (single (word_given r.word)),
           assigns is,
-          shows_changed scope names ready.types n ready.linked r.state end good.shows text (word_as own true) (single (word_given r.word)) (v ∷ []) (holds_word own true (word_given r.word) v good.word) (number_of names text)
+          shows_changed scope names ready.types n ready.linked r.state end good.shows text (word_as own true)
+              (single (word_given r.word)) (v ∷ []) (holds_word own true (word_given r.word) v good.word)
+              (number_of names text)
               (x.found ∙ ap (λ (y : Numbered). Some (entry y.number (word_as own true))) (sym x.here)) refl,
         ))
         (λ at is. assignment_faults is))
-    same_end (rules.assigns_element {scope = scope} {place = place} {bracket = bracket} {target = target} {text = text} {index = index} {array = own} is has (rules.of_value {e = value} given) (rules.suits suits) flow) names n ready plain s m shows =
+    same_end (rules.assigns_element {scope = scope} {place = place} {bracket = bracket} {target = target} {text = text}
+        {index = index} {array = own} is has (rules.of_value {e = value} given) (rules.suits suits) flow) names n ready
+        plain s m shows =
         let i = value_in m (term names index) in
         let v = value_in m (term names value) in
         let y = number_of names text in
         let p = path_in m (term names index) in
         let q = path_in m (term names value) in
         alone (flat_tree.put bracket y (size_of names text) (term names index) (term names value)) m
-        (subst (Comes (Runs ps s (element_assignment place bracket target text index (computed value))) (λ t. Shows names t (flat.with_value m y (slice_set (m y) i v)))) (sym (across p (indexed bracket (size_of names text) i ∷ q)))
+        (subst (Comes (Runs ps s (element_assignment place bracket target text index (computed value)))
+        (λ t. Shows names t (flat.with_value m y (slice_set (m y) i v))))
+        (sym (across p (indexed bracket (size_of names text) i ∷ q)))
         (then_comes ((means scope names ready.types n ready.linked has plain.0).value s m shows)
         (λ u one same.
-        then_comes (element_first scope names ready.types n ready.linked text own is s m shows bracket target index u i one (ap (λ (w : state.Word). w.value) same))
+        then_comes (element_first scope names ready.types n ready.linked text own is s m shows bracket target index u i
+        one (ap (λ (w : state.Word). w.value) same))
         (λ old there _.
         also ((means scope names ready.types n ready.linked given plain.1).value s m shows)
         (λ w are alike. (
@@ -246,7 +305,9 @@ module _ (ps : List ProcedureTree) where
         (λ at are. right_faults there (expr_faults are)))
         (λ at there. target_faults there))
         (λ at one. target_faults (operand_faults (this_faults one)))))
-    same_end (rules.assigns_element {scope = scope} {place = place} {bracket = bracket} {target = target} {text = text} {index = index} {array = own} is has (rules.of_call {c = c} given) (rules.suits suits) flow) names n ready plain s m shows =
+    same_end (rules.assigns_element {scope = scope} {place = place} {bracket = bracket} {target = target} {text = text}
+        {index = index} {array = own} is has (rules.of_call {c = c} given) (rules.suits suits) flow) names n ready plain
+        s m shows =
         let i = value_in m (term names index) in
         let y = number_of names text in
         let size = size_of names text in
@@ -258,8 +319,14 @@ module _ (ps : List ProcedureTree) where
         let end = after_all began tree in
         let v = value_in end taken in
         let last = flat_tree.put bracket y size (flat_tree.variable n) taken in
-        let shown = shows_kept names s m began shows (λ name x there. let low = ready.linked.below name x there in with_value-other m n x.number (i ∷ []) (λ z. omega arith)) in
-        let spares : Spares names (n + 1) n = record { below = omega arith; spared = λ name x there free same. let low = ready.linked.below name x there in omega arith } in
+        let shown = shows_kept names s m began shows
+        (λ name x there. let low = ready.linked.below name x there in with_value-other m n x.number (i ∷ [])
+        (λ z. omega arith)) in
+        let spares : Spares names (n + 1) n = record {
+          below = omega arith;
+          spared = λ name x there free same. let low = ready.linked.below name x there in omega
+              arith;
+        } in
         let kept : end n ≡ i ∷ [] = (call_means ps scope names (n + 1) next given).keeps n spares began ∙ with_value-same m n (i ∷ []) in
         let a = first_fault (path_in m (term names index)) in
         let k = fault_at (indexed bracket size i) in
@@ -269,21 +336,27 @@ module _ (ps : List ProcedureTree) where
         let fault : first_fault (path_along m (flat_tree.first held (chain tree (single_block last)))) ≡ either a (either k (either f q)) =
         across (path_at m held) (path_along began (chain tree (single_block last)))
         ∙ (ap₂ either (across (path_in m (term names index)) (indexed bracket size i ∷ []))
-        (fault_chain tree (single_block last) began ∙ ap (either f) (fault_single last end ∙ ap (λ j. either (fault_at (indexed bracket size j)) q) here))
+        (fault_chain tree (single_block last) began ∙ ap (either f)
+        (fault_single last end ∙ ap (λ j. either (fault_at (indexed bracket size j)) q) here))
         ∙ met_twice a k f q) in
         let over : after_all began (chain tree (single_block last)) ≡ flat.with_value end y (slice_set (end y) i v) =
         after_chain tree (single_block last) began ∙ ap (λ j. flat.with_value end y (slice_set (end y) j v)) here in
-        subst (λ (final : Values). Comes (Runs ps s (element_assignment place bracket target text index (called c))) (λ t. Shows names t final) (first_fault (path_along m (flat_tree.first held (chain tree (single_block last)))))) (sym over)
-        (subst (Comes (Runs ps s (element_assignment place bracket target text index (called c))) (λ t. Shows names t (flat.with_value end y (slice_set (end y) i v)))) (sym fault)
+        subst (λ (final : Values). Comes (Runs ps s (element_assignment place bracket target text index (called c)))
+        (λ t. Shows names t final) (first_fault
+        (path_along m (flat_tree.first held (chain tree (single_block last)))))) (sym over)
+        (subst (Comes (Runs ps s (element_assignment place bracket target text index (called c)))
+        (λ t. Shows names t (flat.with_value end y (slice_set (end y) i v)))) (sym fault)
         (then_comes ((means scope names ready.types n ready.linked has plain.0).value s m shows)
         (λ u one same.
-        then_comes (element_first scope names ready.types n ready.linked text own is s m shows bracket target index u i one (ap (λ (w : state.Word). w.value) same))
+        then_comes (element_first scope names ready.types n ready.linked text own is s m shows bracket target index u i
+        one (ap (λ (w : state.Word). w.value) same))
         (λ old there _.
         also (call_gives ps scope names (n + 1) next given s began shown plain.1)
         (λ r are good. (
           with_some r.state text (with_element (r.state text) u.value (word_given r.word)),
           assigns_element there one are,
-          element_shown scope names ready.types n ready.linked text own is r.state end good.shows u (word_given r.word) i v (ap (λ (w : state.Word). w.value) same) good.word,
+          element_shown scope names ready.types n ready.linked text own is r.state end good.shows u (word_given r.word)
+              i v (ap (λ (w : state.Word). w.value) same) good.word,
         ))
         (λ at are. right_faults there are))
         (λ at there. target_faults there))
@@ -296,16 +369,22 @@ module _ (ps : List ProcedureTree) where
         let value = call_value (callables ps c.name) names n c.arguments in
         let last = dropped_block k result value in
         let end = after_all m tree in
-        subst (λ (final : Values). Comes (Runs ps s (call c)) (λ t. Shows names t final) (first_fault (path_along m (chain tree last)))) (sym (after_chain tree last m))
-        (subst (Comes (Runs ps s (call c)) (λ t. Shows names t (after_all end last))) (ap (either (first_fault (path_along m tree))) (sym (dropped_fault k result value end known.nothing)) ∙ sym (fault_chain tree last m))
+        subst (λ (final : Values). Comes (Runs ps s (call c)) (λ t. Shows names t final)
+        (first_fault (path_along m (chain tree last)))) (sym (after_chain tree last m))
+        (subst (Comes (Runs ps s (call c)) (λ t. Shows names t (after_all end last)))
+        (ap (either (first_fault (path_along m tree))) (sym (dropped_fault k result value end known.nothing))
+        ∙ sym (fault_chain tree last m))
         (also (known.comes s m shows plain)
         (λ r are agrees. (
           r.state,
           calls are,
-          shows_kept names r.state end (after_all end last) agrees.shows (λ name x there. let low = ready.linked.below name x there in dropped_keeps k x.number (omega arith) result value end),
+          shows_kept names r.state end (after_all end last) agrees.shows
+              (λ name x there. let low = ready.linked.below name x there in dropped_keeps k x.number (omega arith)
+              result value end),
         ))
         (λ at are. call_faults are)))
-    same_end (rules.chooses {scope = scope} {place = place} {condition = condition} {accepted = accepted} {otherwise = otherwise} has one other) names n ready plain s m shows =
+    same_end (rules.chooses {scope = scope} {place = place} {condition = condition} {accepted = accepted}
+        {otherwise = otherwise} has one other) names n ready plain s m shows =
         let k = n + numbers_taken_all (callables ps) accepted in
         let v = value_in m (term names condition) in
         let next = ready_later n k (omega arith) ready in
@@ -313,14 +392,21 @@ module _ (ps : List ProcedureTree) where
         let if_false = after_all m (block (callables ps) names k otherwise) in
         let p = path_along m (block (callables ps) names n accepted) in
         let q = path_along m (block (callables ps) names k otherwise) in
-        let first_arm = also (same_ends one names n ready plain.1 s m shows) (λ t is good. (t, is, shows_before (callables ps) accepted names n t if_true good)) (λ at is. is) in
-        let other_arm = also (same_ends other names k next plain.2 s m shows) (λ t is good. (t, is, shows_before (callables ps) otherwise names k t if_false good)) (λ at is. is) in
-        alone (flat_tree.branch (numbering.label_in names condition) (term names condition) (block (callables ps) names n accepted) (block (callables ps) names k otherwise)) m
-        (subst (Comes (Runs ps s (conditional place condition accepted otherwise)) (λ t. Shows names t (if v == 0 then if_false else if_true))) (sym (across (path_in m (term names condition)) (if v == 0 then q else p)))
+        let first_arm = also (same_ends one names n ready plain.1 s m shows)
+        (λ t is good. (t, is, shows_before (callables ps) accepted names n t if_true good)) (λ at is. is) in
+        let other_arm = also (same_ends other names k next plain.2 s m shows)
+        (λ t is good. (t, is, shows_before (callables ps) otherwise names k t if_false good)) (λ at is. is) in
+        alone (flat_tree.branch (numbering.label_in names condition) (term names condition)
+        (block (callables ps) names n accepted) (block (callables ps) names k otherwise)) m
+        (subst (Comes (Runs ps s (conditional place condition accepted otherwise))
+        (λ t. Shows names t (if v == 0 then if_false else if_true)))
+        (sym (across (path_in m (term names condition)) (if v == 0 then q else p)))
         (then_comes ((means scope names ready.types n ready.linked has plain.0).value s m shows)
-        (λ c is same. one_arm ps s place condition accepted otherwise names if_true if_false p q c v is (ap (λ (w : state.Word). w.value) same) first_arm other_arm (v == 0) refl)
+        (λ c is same. one_arm ps s place condition accepted otherwise names if_true if_false p q c v is
+        (ap (λ (w : state.Word). w.value) same) first_arm other_arm (v == 0) refl)
         (λ at is. condition_faults is)))
-    same_end (rules.repeats {scope = scope} {place = place} {counter = counter} {text = text} {low = low} {high = high} {body = body} one other new inner) names n ready plain s m shows =
+    same_end (rules.repeats {scope = scope} {place = place} {counter = counter} {text = text} {low = low} {high = high}
+        {body = body} one other new inner) names n ready plain s m shows =
         let a = value_in m (term names low) in
         let b = value_in m (term names high) in
         let own = word_as counter_type false in
@@ -331,23 +417,36 @@ module _ (ps : List ProcedureTree) where
         let p = path_in m (term names low) in
         let q = path_in m (term names high) in
         let step = λ (i : ℕ) (s : State) (m : Values) (shows : Shows names s m).
-        also (same_ends inner inside (n + 1) (ready_declared n ready text own new) plain.2 (counting s text i) (flat.with_value m n (i ∷ []))
-        (shows_declared scope names ready.types n ready.linked s m shows text own (single (word_at Uint32 i)) (i ∷ []) (holds_word counter_type false (word_at Uint32 i) i refl) new))
-        (λ t is good. (t, is, (λ other x is. shows_before (callables ps) body inside (n + 1) t (turn i m) good other x (found-kept names text (entry n own) other x is)))) (λ at is. is) in
+        also (same_ends inner inside (n + 1) (ready_declared n ready text own new) plain.2 (counting s text i)
+        (flat.with_value m n (i ∷ []))
+        (shows_declared scope names ready.types n ready.linked s m shows text own (single (word_at Uint32 i)) (i ∷ [])
+        (holds_word counter_type false (word_at Uint32 i) i refl) new))
+        (λ t is good. (
+          t,
+          is,
+          (λ other x is. shows_before (callables ps) body inside (n + 1) t (turn i m) good other x
+              (found-kept names text (entry n own) other x is)),
+        )) (λ at is. is) in
         alone (flat_tree.loop n (term names low) (term names high) flat_body) m
         (subst (Comes (Runs ps s (loop place counter text low high body)) (λ t. Shows names t (flat.turns (b - a) a turn m)))
-        (ap (λ f. either f (first_fault (path_of_turns (b - a) a turn path m))) (ap (either (first_fault p)) (either-none (first_fault q))) ∙ sym (across₃ p q (bounded n a b ∷ path_of_turns (b - a) a turn path m)))
-        (then_comes (more_values s ((means scope names ready.types n ready.linked one plain.0).value s m shows) (more_values s ((means scope names ready.types n ready.linked other plain.1).value s m shows) (no_values s)))
+        (ap (λ f. either f (first_fault (path_of_turns (b - a) a turn path m)))
+        (ap (either (first_fault p)) (either-none (first_fault q)))
+        ∙ sym (across₃ p q (bounded n a b ∷ path_of_turns (b - a) a turn path m)))
+        (then_comes (more_values s ((means scope names ready.types n ready.linked one plain.0).value s m shows)
+        (more_values s ((means scope names ready.types n ready.linked other plain.1).value s m shows)
+        (no_values s)))
         (λ vs is same. bounded_by vs is same (same_turns ps text body names turn path step (b - a) a b s m refl shows))
         (λ at is. bounds_fault is)))
       where
-        bounded_by : {a b : ℕ} {good : State → Type 0} {fault : Option Place} (vs : List state.Word) → EvaluatesAll s (low ∷ high ∷ []) (gives vs) → vs ≡ word_at Uint32 a ∷ word_at Uint32 b ∷ []
+        bounded_by : {a b : ℕ} {good : State → Type 0} {fault : Option Place} (vs : List state.Word)
+            → EvaluatesAll s (low ∷ high ∷ []) (gives vs) → vs ≡ word_at Uint32 a ∷ word_at Uint32 b ∷ []
             → Comes (Turns ps s text body a b) good fault → Comes (Runs ps s (loop place counter text low high body)) good fault
         bounded_by {a = a} {b = b} vs is same turns =
             let are = subst (λ us. EvaluatesAll s (low ∷ high ∷ []) (gives us)) same is in
             also turns (λ t all good. (t, loops are all, good)) (λ at all. loops are all)
 
-    pub same_ends : {scope : Scope} {control : Label} {b : BlockTree} → rules.AreWellTyped ps scope control b → (names : Numbers) (n : ℕ) → Ready ps scope names n
+    pub same_ends : {scope : Scope} {control : Label} {b : BlockTree} → rules.AreWellTyped ps scope control b
+        → (names : Numbers) (n : ℕ) → Ready ps scope names n
         → ArePlain b → (s : State) (m : Values) → Shows names s m → SameEnds names n b s m
     same_ends rules.no_statement names n ready plain s m shows = well s ends shows
     same_ends (rules.one_more {statement = statement} {rest = rest} here there) names n ready plain s m shows =
@@ -355,8 +454,12 @@ module _ (ps : List ProcedureTree) where
         let k = n + numbers_taken (callables ps) statement in
         let later_names = names_after (callables ps) names n statement in
         let more = block (callables ps) later_names k rest in
-        subst (λ (final : Values). Comes (RunsAll ps s (first statement rest)) (λ t. Shows (names_after_all (callables ps) later_names k rest) t final) (first_fault (path_along m (chain tree more)))) (sym (after_chain tree more m))
-        (subst (Comes (RunsAll ps s (first statement rest)) (λ t. Shows (names_after_all (callables ps) later_names k rest) t (after_all (after_all m tree) more))) (sym (fault_chain tree more m))
+        subst (λ (final : Values). Comes (RunsAll ps s (first statement rest))
+        (λ t. Shows (names_after_all (callables ps) later_names k rest) t final)
+        (first_fault (path_along m (chain tree more)))) (sym (after_chain tree more m))
+        (subst (Comes (RunsAll ps s (first statement rest))
+        (λ t. Shows (names_after_all (callables ps) later_names k rest) t (after_all (after_all m tree) more)))
+        (sym (fault_chain tree more m))
         (then_comes (same_end here names n ready plain.0 s m shows)
         (λ t is good. also (same_ends there later_names k (ready_after ps here names n ready) plain.1 t (after_all m tree) good)
         (λ u are shows. (u, goes_on is are, shows)) (λ at are. goes_on is are))

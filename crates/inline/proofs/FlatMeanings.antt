@@ -39,8 +39,10 @@ no_result rules.nothing_returned none = refl
 no_result (rules.value_returned has suit) none = absurd cc
 
 -- the end of a body, with its result
-result_comes : (before : List ProcedureTree) (p : ProcedureTree) (start end : State) (scope : Scope) (names : Numbers) (types : Types) (n : ℕ) (m : Values) → Linked scope names types n → Shows names end m
-    → RunsAll before start p.body (gives end) → {result : Option WordType} {o : Option ReturnTree} → rules.Returns scope result o → p.returned ≡ o → IsSmallReturn o
+result_comes : (before : List ProcedureTree) (p : ProcedureTree) (start end : State) (scope : Scope) (names : Numbers)
+    (types : Types) (n : ℕ) (m : Values) → Linked scope names types n → Shows names end m
+    → RunsAll before start p.body (gives end) → {result : Option WordType} {o : Option ReturnTree}
+    → rules.Returns scope result o → p.returned ≡ o → IsSmallReturn o
     → Comes (Bodies before p start) (Agrees names m result (value_of names o)) (first_fault (path_of_result m (value_of names o)))
 result_comes before p start end scope names types n m linked shows run rules.nothing_returned is small =
     well (record { word = None; state = end }) (returns_nothing run is) (record { word = nothing_given; shows = shows })
@@ -54,10 +56,17 @@ result_comes before p start end scope names types n m linked shows run (rules.va
     ))
     (λ at fails. return_faults run is fails)
 
-module _ (before : List ProcedureTree) (scope : Scope) (p : ProcedureTree) (stand : Stand IsKept before scope) (typed : rules.IsProcedure before scope p) (plain : IsGrammatical p) where
+module _ (before : List ProcedureTree) (scope : Scope) (p : ProcedureTree) (stand : Stand IsKept before scope)
+    (typed : rules.IsProcedure before scope p) (plain : IsGrammatical p) where
   module _ (names : Numbers) (types : Types) (n : ℕ) (linked : Linked (body_scope scope (length before) p) names types n) where
     pub begins : Ready before (body_scope scope (length before) p) names n
-    begins = record { types = types; linked = linked; calls = callable_parameters before (IsCallable IsKept before) p.parameters (with_procedure scope (length before) p) (callable_within IsKept before scope stand p typed.is_new) }
+    begins = record {
+      types = types;
+      linked = linked;
+      calls = callable_parameters before (IsCallable IsKept before)
+          p.parameters (with_procedure scope (length before) p)
+          (callable_within IsKept before scope stand p typed.is_new);
+    }
 
     pub body_comes : (s : State) (m : Values) → Shows names s m → BodyComes before p names n s m
     body_comes s m shows =
@@ -68,7 +77,8 @@ module _ (before : List ProcedureTree) (scope : Scope) (p : ProcedureTree) (stan
         let ready = ready_after_all before typed.body names n begins in
         then_comes (same_ends before typed.body names n begins plain.body s m shows)
         (λ t run good.
-        also (result_comes before p s t (scope_after_all (body_scope scope (length before) p) p.body) last ready.types (n + numbers_taken_all known p.body) end ready.linked good run typed.returns refl plain.returned)
+        also (result_comes before p s t (scope_after_all (body_scope scope (length before) p) p.body) last ready.types
+        (n + numbers_taken_all known p.body) end ready.linked good run typed.returns refl plain.returned)
         (λ r is agrees. (r, is, record { word = agrees.word; shows = shows_before known p.body names n r.state end agrees.shows }))
         (λ at is. is))
         (λ at run. statements_fault run)
@@ -87,19 +97,28 @@ module _ (before : List ProcedureTree) (scope : Scope) (p : ProcedureTree) (stan
 -- The program.
 
 -- a word as a result
-word_same : {m : Values} {result : Option WordType} {value : Option TermTree} {word : Option Word} → HasResult m result value word → option_map (λ (w : Word). w.value) word ≡ option_map (value_in m) value
+word_same : {m : Values} {result : Option WordType} {value : Option TermTree} {word : Option Word}
+    → HasResult m result value word → option_map (λ (w : Word). w.value) word ≡ option_map (value_in m) value
 word_same nothing_given = refl
 word_same (a_word same) = ap (λ (w : Word). Some w.value) same
 
 -- the end of the whole
-ended : (program : ProgramTree) (args : List Arg) (before : List ProcedureTree) (p : ProcedureTree) (outcome : Results) (fault : Option Place) → exported [] program.procedures ≡ Some (before, p)
-    → Comes (Bodies before p (holding p.parameters args)) (λ r. record { returned = option_map (λ (w : Word). w.value) r.word; arrays = final_arrays r.state p.parameters } ≡ outcome) fault
+ended : (program : ProgramTree) (args : List Arg) (before : List ProcedureTree) (p : ProcedureTree) (outcome : Results)
+    (fault : Option Place) → exported [] program.procedures ≡ Some (before, p)
+    → Comes (Bodies before p (holding p.parameters args))
+    (λ r. record {
+      returned = option_map (λ (w : Word). w.value) r.word;
+      arrays = final_arrays r.state
+          p.parameters;
+    } ≡ outcome) fault
     → Gives program args (ending_by fault outcome)
 ended program args before p outcome fault is (well r body same) = subst (λ x. Gives program args (gives x)) same (ends_well is body)
 ended program args before p outcome fault is (fails at body) = meets_fault is body
 
-pub flat_keeps_meaning : (profile : Profile) (program : ProgramTree) (before : List ProcedureTree) (p : ProcedureTree) (args : List Arg) → length (violations profile program) ≡ 0 → exported [] program.procedures ≡ Some (before, p)
-    → AllByRecursion IsGrammatical before → IsGrammatical p → AreWithin (map param_of p.parameters) args → Gives program args (ending_of (flattened profile before p) args)
+pub flat_keeps_meaning : (profile : Profile) (program : ProgramTree) (before : List ProcedureTree) (p : ProcedureTree)
+    (args : List Arg) → length (violations profile program) ≡ 0 → exported [] program.procedures ≡ Some (before, p)
+    → AllByRecursion IsGrammatical before → IsGrammatical p → AreWithin (map param_of p.parameters) args
+    → Gives program args (ending_of (flattened profile before p) args)
 flat_keeps_meaning profile program before p args h is grammatical plain within =
     let e = own_typing IsKept IsGrammatical behaves profile program before p h is grammatical in
     let known = callables before in
@@ -114,8 +133,16 @@ flat_keeps_meaning profile program before p args h is grammatical plain within =
     let value = value_of (names_after_all known names n p.body) p.returned in
     let linked = linked_parameters profile scope e.observed variables p.parameters e.typed.parameters in
     let named = (where_begun profile scope e.observed variables p.parameters e.typed.parameters).named in
-    ended program args before p (outcome_of (flattened profile before p) args) (first_fault (path_along from body ++ path_of_result m value)) is
-    (subst (Comes (Bodies before p start) (λ r. _ ≡ outcome_of (flattened profile before p) args)) (sym (across (path_along from body) (path_of_result m value)))
-    (also (body_comes before e.scope p e.stand e.typed plain names (parameter_types profile (map param_of p.parameters)) n linked start from (shows_arguments p.parameters (declared_in_all known p.body) args within))
-    (λ r bodies agrees. (r, bodies, ap₂ (λ o arrays. record { returned = o; arrays = arrays }) (word_same agrees.word) (arrays_same p.parameters names 0 r.state m named agrees.shows)))
+    ended program args before p (outcome_of (flattened profile before p) args)
+    (first_fault (path_along from body ++ path_of_result m value)) is
+    (subst (Comes (Bodies before p start) (λ r. _ ≡ outcome_of (flattened profile before p) args))
+    (sym (across (path_along from body) (path_of_result m value)))
+    (also (body_comes before e.scope p e.stand e.typed plain names (parameter_types profile (map param_of p.parameters))
+    n linked start from (shows_arguments p.parameters (declared_in_all known p.body) args within))
+    (λ r bodies agrees. (
+      r,
+      bodies,
+      ap₂ (λ o arrays. record { returned = o; arrays = arrays }) (word_same agrees.word)
+          (arrays_same p.parameters names 0 r.state m named agrees.shows),
+    ))
     (λ at bodies. bodies)))

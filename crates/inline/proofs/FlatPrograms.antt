@@ -26,7 +26,8 @@ use Rattle.inline.proofs.Procedures.{Stand, Exported, IsAt, IsWithin, own_typing
 use Rattle.inline.proofs.Terms.{means, suits_there}
 
 -- a value is returned exactly where there is a result
-result_typed : (scope : Scope) (names : Numbers) (types : Types) (n : ℕ) → Linked scope names types n → {result : Option WordType} {returned : Option ReturnTree} → Returns scope result returned
+result_typed : (scope : Scope) (names : Numbers) (types : Types) (n : ℕ) → Linked scope names types n
+    → {result : Option WordType} {returned : Option ReturnTree} → Returns scope result returned
     → IsSmallReturn returned → IsResult types result (value_of names returned)
 result_typed scope names types n linked nothing_returned small = tt
 result_typed scope names types n linked (value_returned has suit) small = suits_there (means scope names types n linked has small) suit
@@ -37,29 +38,39 @@ joined-public Secret = refl
 
 -- One procedure behind those that it may call.
 
-module _ (before : List ProcedureTree) (at : Scope) (p : ProcedureTree) (stand : Stand TypedBody before at) (typed : IsProcedure before at p) (plain : IsGrammatical p) where
+module _ (before : List ProcedureTree) (at : Scope) (p : ProcedureTree) (stand : Stand TypedBody before at)
+    (typed : IsProcedure before at p) (plain : IsGrammatical p) where
   abbrev inside : Scope
   inside = body_scope at (length before) p
 
   -- where secret control is around it
   hushed : (outer : Label) → (outer ≡ Secret → assigns_public at p ≡ false) → IsHushed outer inside (block_assigns at p.body)
   hushed outer quiet e =
-      let split = either_false (parameters_assign p.parameters) (block_assigns at p.body) (quiet e) in
-      (hides_parameters typed.parameters (hides_none (with_procedure at (length before) p) (variables_within TypedBody before at stand p typed.is_new)) split.0, split.1)
+      let split = either_false (parameters_assign p.parameters) (block_assigns at p.body) (quiet e) in (
+        hides_parameters typed.parameters
+            (hides_none (with_procedure at (length before) p) (variables_within TypedBody before at stand p typed.is_new))
+            split.0,
+        split.1,
+      )
 
   within : IsWithin before at inside
-  within = callable_parameters before (IsAt at) p.parameters (with_procedure at (length before) p) (earlier_within TypedBody before at stand p typed.is_new)
+  within = callable_parameters before (IsAt at) p.parameters (with_procedure at (length before) p)
+      (earlier_within TypedBody before at stand p typed.is_new)
 
-  body_typed : (all : List FlatVariable) (control : Label) (names : Numbers) (types : Types) (n : ℕ) → Linked inside names types n → (control ≡ Secret → assigns_public at p ≡ false)
+  body_typed : (all : List FlatVariable) (control : Label) (names : Numbers) (types : Types) (n : ℕ)
+      → Linked inside names types n → (control ≡ Secret → assigns_public at p ≡ false)
       → Lists all n (declared_in_all (callables before) p.body) → AreTyped all types control (block (callables before) names n p.body)
   body_typed all control names types n linked quiet lists =
       subst (λ l. AreTyped all types l (block (callables before) names n p.body)) (joined-public control)
       (typed_block before at stand all control typed.body within (hushed control quiet) names types n linked plain.body lists)
 
   body_gives : (names : Numbers) (types : Types) (n : ℕ) → Linked inside names types n
-      → IsResult (types_after_all types (block (callables before) names n p.body)) p.result (value_of (names_after_all (callables before) names n p.body) p.returned)
+      → IsResult (types_after_all types (block (callables before) names n p.body)) p.result
+      (value_of (names_after_all (callables before) names n p.body) p.returned)
   body_gives names types n linked =
-      result_typed (scope_after_all inside p.body) (names_after_all (callables before) names n p.body) (types_after_all types (block (callables before) names n p.body)) (n + numbers_taken_all (callables before) p.body)
+      result_typed (scope_after_all inside p.body) (names_after_all (callables before) names n p.body)
+      (types_after_all types (block (callables before) names n p.body))
+      (n + numbers_taken_all (callables before) p.body)
       (linked_after_all before typed.body names types n linked) typed.returns plain.returned
 
   pub typed_one : TypedBody before at p
@@ -73,15 +84,20 @@ module _ (before : List ProcedureTree) (at : Scope) (p : ProcedureTree) (stand :
 -- The program.
 
 -- the procedures that the export may call are well typed
-pub export_typed : (profile : Profile) (program : ProgramTree) (before : List ProcedureTree) (p : ProcedureTree) → length (violations profile program) ≡ 0 → exported [] program.procedures ≡ Some (before, p) → AllByRecursion IsGrammatical before → Exported TypedBody profile before p
-export_typed profile program before p h is plain = own_typing TypedBody IsGrammatical (λ before at p stand typed plain. typed_one before at p stand typed plain) profile program before p h is plain
+pub export_typed : (profile : Profile) (program : ProgramTree) (before : List ProcedureTree) (p : ProcedureTree)
+    → length (violations profile program) ≡ 0 → exported [] program.procedures ≡ Some (before, p)
+    → AllByRecursion IsGrammatical before → Exported TypedBody profile before p
+export_typed profile program before p h is plain = own_typing TypedBody IsGrammatical
+    (λ before at p stand typed plain. typed_one before at p stand typed plain) profile program before p h is plain
 
 -- each parameter has a number
 own_count : (ps : List ParameterTree) → length (all_own ps) ≡ length ps
 own_count [] = refl
 own_count (p ∷ ps) = let same = own_count ps in omega (arith, same)
 
-pub flat_is_typed : (profile : Profile) (program : ProgramTree) (before : List ProcedureTree) (p : ProcedureTree) → length (violations profile program) ≡ 0 → exported [] program.procedures ≡ Some (before, p) → AllByRecursion IsGrammatical before → IsGrammatical p
+pub flat_is_typed : (profile : Profile) (program : ProgramTree) (before : List ProcedureTree) (p : ProcedureTree)
+    → length (violations profile program) ≡ 0 → exported [] program.procedures ≡ Some (before, p)
+    → AllByRecursion IsGrammatical before → IsGrammatical p
     → IsTypedProgram (flattened profile before p)
 flat_is_typed profile program before p h is earlier plain =
     let e = export_typed profile program before p h is earlier in
@@ -91,11 +107,14 @@ flat_is_typed profile program before p h is earlier plain =
     let front = all_own p.parameters in
     let back = declared_in_all (callables before) p.body in
     let many = length-map p.parameters param_of in
-    let linked = linked_parameters profile (with_procedure e.scope (length before) p) e.observed one.variables p.parameters e.typed.parameters in
+    let linked = linked_parameters profile (with_procedure e.scope (length before) p) e.observed one.variables
+    p.parameters e.typed.parameters in
     record {
       parameters = ap (λ k. take k (front ++ back)) (many ∙ sym (own_count p.parameters)) ∙ take-append_seam front back;
-      numbered = subst (λ k. AreNumbered k (block (callables before) (parameter_names p) n p.body)) (sym many) (block_takes (callables before) (all_counted before) (parameter_names p) n p.body).numbered;
-      body = one.typed (front ++ back) Public (parameter_names p) types n linked (λ e. absurd (public_not_secret e)) (subst (λ k. Lists (front ++ back) k back) (own_count p.parameters) (lists_end front back));
+      numbered = subst (λ k. AreNumbered k (block (callables before) (parameter_names p) n p.body)) (sym many)
+          (block_takes (callables before) (all_counted before) (parameter_names p) n p.body).numbered;
+      body = one.typed (front ++ back) Public (parameter_names p) types n linked (λ e. absurd (public_not_secret e))
+          (subst (λ k. Lists (front ++ back) k back) (own_count p.parameters) (lists_end front back));
       result = one.result (parameter_names p) types n linked;
     }
   where

@@ -45,7 +45,8 @@ first_not true b e = e
 within : (most n : ℕ) → nat_lt most n ≡ false → n ≤ most
 within most n h = grind (arith, nat_tests)
 
-limits : (before : List ProcedureTree) (p : ProcedureTree) → length (size_violations before p) ≡ 0 → (nodes_of (extents_of before) p ≤ most_nodes) × (declared_bytes (extents_of before) p ≤ most_declared_bytes)
+limits : (before : List ProcedureTree) (p : ProcedureTree) → length (size_violations before p) ≡ 0
+    → (nodes_of (extents_of before) p ≤ most_nodes) × (declared_bytes (extents_of before) p ≤ most_declared_bytes)
 limits before p h =
     let many = nat_lt most_nodes (nodes_of (extents_of before) p) in
     let deep = nat_lt most_bodies (bodies_of (extents_of before) p) in
@@ -54,8 +55,11 @@ limits before p h =
     let m = length-map {B = Violation} (a ++ b) (λ rule. record { place = p.place; rule = rule }) in
     let n = length-append a b in
     let one : length a ≡ 0 = omega (arith, h, m, n) in
-    let other : length b ≡ 0 = omega (arith, h, m, n) in
-    (within most_nodes (nodes_of (extents_of before) p) (first_not many deep (not_passed _ InlinedSize one)), within most_declared_bytes (declared_bytes (extents_of before) p) (not_passed _ DeclaredBytes other))
+    let other : length b ≡ 0 = omega (arith, h, m, n) in (
+      within most_nodes (nodes_of (extents_of before) p) (first_not many deep (not_passed _ InlinedSize one)),
+      within
+          most_declared_bytes (declared_bytes (extents_of before) p) (not_passed _ DeclaredBytes other),
+    )
 
 -- Statements.
 
@@ -71,7 +75,9 @@ module _ (earlier : List ProcedureTree) (at : Scope) (stand : Stand SizedBody ea
     pub nodes : body_nodes (right_block known names n r) + term_nodes (right known names n r) ≡ right_nodes extents r
     pub words : 3 * declared_words (right_variables known r) ≤ 3 * right_words extents r + right_nodes extents r
 
-  right_sized : {scope : Scope} {control : Label} {r : RightTree} {given : WordType} → Gives earlier scope control r (Word given) → IsWithin earlier at scope → (names : Numbers) (n : ℕ) → RightSized names n r
+  right_sized : {scope : Scope} {control : Label} {r : RightTree} {given : WordType}
+      → Gives earlier scope control r (Word given) → IsWithin earlier at scope → (names : Numbers) (n : ℕ)
+      → RightSized names n r
   right_sized (of_value {e = e} has) inside names n = record { nodes = omega (arith, same_nodes names e); words = omega arith }
   right_sized {given = given} (of_call {c = c} is) inside names n =
       let f = call_sized earlier at stand is inside names n in
@@ -91,9 +97,12 @@ module _ (earlier : List ProcedureTree) (at : Scope) (stand : Stand SizedBody ea
     pub nodes : body_nodes (block known names n b) ≡ block_nodes extents b
     pub words : 3 * declared_words (declared_in_all known b) ≤ 3 * block_words extents b + block_nodes extents b
 
-  element_sized : {scope : Scope} {control : Label} {r : RightTree} {given : WordType} → Gives earlier scope control r (Word given) → IsWithin earlier at scope → (place bracket target : Place) (text : List ℕ) (index : ExprTree) (names : Numbers) (n : ℕ)
+  element_sized : {scope : Scope} {control : Label} {r : RightTree} {given : WordType}
+      → Gives earlier scope control r (Word given) → IsWithin earlier at scope
+      → (place bracket target : Place) (text : List ℕ) (index : ExprTree) (names : Numbers) (n : ℕ)
       → StatementSized names n (element_assignment place bracket target text index r)
-  element_sized (of_value {e = e} has) inside place bracket target text index names n = record { nodes = omega (arith, same_nodes names index, same_nodes names e); words = omega arith }
+  element_sized (of_value {e = e} has) inside place bracket target text index names n =
+      record { nodes = omega (arith, same_nodes names index, same_nodes names e); words = omega arith }
   element_sized {given = given} (of_call {c = c} is) inside place bracket target text index names n =
       let f = call_sized earlier at stand is inside names (n + 1) in
       let body = call_block (known c.name) names (n + 1) c.arguments in
@@ -105,23 +114,27 @@ module _ (earlier : List ProcedureTree) (at : Scope) (stand : Stand SizedBody ea
       record { nodes = omega (arith, whole, there, same, same_nodes names index); words = omega (arith, few) }
 
   mutual
-    pub statement_sized : {scope : Scope} {control : Label} {s : StatementTree} → IsWellTyped earlier scope control s → IsWithin earlier at scope → (names : Numbers) (n : ℕ) → StatementSized names n s
+    pub statement_sized : {scope : Scope} {control : Label} {s : StatementTree} → IsWellTyped earlier scope control s
+        → IsWithin earlier at scope → (names : Numbers) (n : ℕ) → StatementSized names n s
     statement_sized (declares {label = label} {mutable = mutable} {kind = kind} {right = r} new has suit flow) inside names n =
         let f = right_sized has inside names n in
         let own = word_as (labelled kind label) mutable in
-        let whole = chain-nodes (right_block known names n r) (single (tree.declare (right_end known n r) (labelled kind label) mutable (right known names n r))) in
+        let whole = chain-nodes (right_block known names n r)
+        (single (tree.declare (right_end known n r) (labelled kind label) mutable (right known names n r))) in
         let sum = words-append (right_variables known r) (own ∷ []) in
         let same = f.nodes in
         let few = f.words in
         record { nodes = omega (arith, whole, same); words = omega (arith, sum, few) }
-    statement_sized (declares_array {values = values} new suit count flow) inside names n = record { nodes = omega (arith, same_all names (written values)); words = omega arith }
+    statement_sized (declares_array {values = values} new suit count flow) inside names n =
+        record { nodes = omega (arith, same_all names (written values)); words = omega arith }
     statement_sized (assigns {text = text} {right = r} is has suit flow) inside names n =
         let f = right_sized has inside names n in
         let whole = chain-nodes (right_block known names n r) (single (tree.assign (number_of names text) (right known names n r))) in
         let same = f.nodes in
         let few = f.words in
         record { nodes = omega (arith, whole, same); words = omega (arith, few) }
-    statement_sized (assigns_element {place = place} {bracket = bracket} {target = target} {text = text} {index = index} is has value suit flow) inside names n = element_sized value inside place bracket target text index names n
+    statement_sized (assigns_element {place = place} {bracket = bracket} {target = target} {text = text} {index = index}
+        is has value suit flow) inside names n = element_sized value inside place bracket target text index names n
     statement_sized (calls {c = c} is) inside names n =
         let f = call_sized earlier at stand is inside names n in
         let o = known c.name in
@@ -145,16 +158,19 @@ module _ (earlier : List ProcedureTree) (at : Scope) (stand : Stand SizedBody ea
         let more = b.words in
         record { nodes = omega (arith, left, right, same_nodes names condition); words = omega (arith, sum, few, more) }
     statement_sized (repeats {scope = scope} {text = text} {low = low} {high = high} {body = body} has is new all) inside names n =
-        let b = block_sized all (callable_declared earlier (IsAt at) scope text _ inside) (naming names text n (word_as counter_type false)) (n + 1) in
+        let b = block_sized all (callable_declared earlier (IsAt at) scope text _ inside)
+        (naming names text n (word_as counter_type false)) (n + 1) in
         let same = b.nodes in
         let few = b.words in
         record { nodes = omega (arith, same, same_nodes names low, same_nodes names high); words = omega (arith, few) }
 
-    pub block_sized : {scope : Scope} {control : Label} {b : BlockTree} → AreWellTyped earlier scope control b → IsWithin earlier at scope → (names : Numbers) (n : ℕ) → BlockSized names n b
+    pub block_sized : {scope : Scope} {control : Label} {b : BlockTree} → AreWellTyped earlier scope control b
+        → IsWithin earlier at scope → (names : Numbers) (n : ℕ) → BlockSized names n b
     block_sized no_statement inside names n = record { nodes = refl; words = omega arith }
     block_sized (one_more {statement = s} {rest = rest} here there) inside names n =
         let a = statement_sized here inside names n in
-        let b = block_sized there (callable_after earlier (IsAt at) here inside) (names_after known names n s) (n + numbers_taken known s) in
+        let b = block_sized there (callable_after earlier (IsAt at) here inside) (names_after known names n s)
+        (n + numbers_taken known s) in
         let whole = chain-nodes (statement known names n s) (block known (names_after known names n s) (n + numbers_taken known s) rest) in
         let sum = words-append (declared_in known s) (declared_in_all known rest) in
         let left = a.nodes in
@@ -165,13 +181,16 @@ module _ (earlier : List ProcedureTree) (at : Scope) (stand : Stand SizedBody ea
 
 -- Procedures.
 
-return_together : {scope : Scope} {result : Option WordType} {returned : Option ReturnTree} → Returns scope result returned → GoTogether result returned
+return_together : {scope : Scope} {result : Option WordType} {returned : Option ReturnTree}
+    → Returns scope result returned → GoTogether result returned
 return_together nothing_returned = tt
 return_together (value_returned has suit) = tt
 
-sized_one : (before : List ProcedureTree) (at : Scope) (p : ProcedureTree) → Stand SizedBody before at → IsProcedure before at p → SizedBody before at p
+sized_one : (before : List ProcedureTree) (at : Scope) (p : ProcedureTree) → Stand SizedBody before at
+    → IsProcedure before at p → SizedBody before at p
 sized_one before at p stand typed =
-    let inside = callable_parameters before (IsAt at) p.parameters (with_procedure at (length before) p) (earlier_within SizedBody before at stand p typed.is_new) in
+    let inside = callable_parameters before (IsAt at) p.parameters (with_procedure at (length before) p)
+    (earlier_within SizedBody before at stand p typed.is_new) in
     record {
       nodes = λ names n. (block_sized before at stand typed.body inside names n).nodes;
       words = (block_sized before at stand typed.body inside [] 0).words;
@@ -194,16 +213,20 @@ has_length SingleWord length is = is
 has_length FixedArray length is = (is.some, is.few)
 has_length MutableArray length is = (is.some, is.few)
 
-have_lengths : (ps : List ParameterTree) → AllByRecursion HasForm ps → AllByRecursion (λ (p : Param). flat.HasLength p.form p.length) (map param_of ps)
+have_lengths : (ps : List ParameterTree) → AllByRecursion HasForm ps
+    → AllByRecursion (λ (p : Param). flat.HasLength p.form p.length) (map param_of ps)
 have_lengths [] are = tt
 have_lengths (p ∷ ps) are = (has_length p.form p.length are.0, have_lengths ps are.1)
 
 -- The program.
 
-pub flat_is_sized : (profile : Profile) (program : ProgramTree) (before : List ProcedureTree) (p : ProcedureTree) → length (violations profile program) ≡ 0 → exported [] program.procedures ≡ Some (before, p) → AllByRecursion IsGrammatical before → IsGrammatical p
+pub flat_is_sized : (profile : Profile) (program : ProgramTree) (before : List ProcedureTree) (p : ProcedureTree)
+    → length (violations profile program) ≡ 0 → exported [] program.procedures ≡ Some (before, p)
+    → AllByRecursion IsGrammatical before → IsGrammatical p
     → length (size_violations before p) ≡ 0 → IsSized (flattened profile before p)
 flat_is_sized profile program before p h is earlier plain small =
-    let e = own_typing SizedBody IsGrammatical (λ before at p stand typed plain. sized_one before at p stand typed) profile program before p h is earlier in
+    let e = own_typing SizedBody IsGrammatical (λ before at p stand typed plain. sized_one before at p stand typed)
+    profile program before p h is earlier in
     let body = sized_one before e.scope p e.stand e.typed in
     let few = limits before p small in
     let nodes = body.nodes (parameter_names p) (length p.parameters) in

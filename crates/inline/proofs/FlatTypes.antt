@@ -39,7 +39,8 @@ kept_secret (public_flows {label = label}) e = cc
 kept_secret secret_flows e = refl
 
 -- nor under secret control around it
-still_secret : {control label : Label} (outer : Label) → FlowsTo control label → (outer ≡ Secret → label ≡ Secret) → joined outer control ≡ Secret → label ≡ Secret
+still_secret : {control label : Label} (outer : Label) → FlowsTo control label → (outer ≡ Secret → label ≡ Secret)
+    → joined outer control ≡ Secret → label ≡ Secret
 still_secret Public flow hidden e = kept_secret flow e
 still_secret Secret flow hidden e = hidden refl
 
@@ -51,17 +52,23 @@ joined-swap Secret Secret control = refl
 -- Names.
 
 -- what may be assigned to is declared so
-served : {there : Option FlatVariable} {d : FlatVariable} → Serves there d → d.mutable ≡ true → there ≡ Some (record { word = d.word; mutable = true; elements = d.elements })
+served : {there : Option FlatVariable} {d : FlatVariable} → Serves there d → d.mutable ≡ true
+    → there ≡ Some (record { word = d.word; mutable = true; elements = d.elements })
 served {d = d} serves free = serves.is ∙ ap (λ b. Some (record { word = d.word; mutable = b; elements = d.elements })) (serves.enough free)
 
 -- an array's number and size
-array_there : {names : Numbers} {types : Types} {text : List ℕ} {array : ArrayType} → KnownAs names types text (array_as array.element true array.length) → types.at (number_of names text) ≡ Some (array_as array.element true (size_of names text))
+array_there : {names : Numbers} {types : Types} {text : List ℕ} {array : ArrayType}
+    → KnownAs names types text (array_as array.element true array.length)
+    → types.at (number_of names text) ≡ Some (array_as array.element true (size_of names text))
 array_there {types = types} {array = own} x =
-    ap (λ (x : Numbered). types.at x.number) x.here ∙ (served x.typed refl ∙ ap (λ (x : Numbered). Some (array_as own.element true (numbers_in x.declaration.elements))) (sym x.here))
+    ap (λ (x : Numbered). types.at x.number) x.here
+    ∙ (served x.typed refl ∙ ap (λ (x : Numbered). Some
+    (array_as own.element true (numbers_in x.declaration.elements))) (sym x.here))
 
 -- the first values of an array
 module _ (scope : Scope) (names : Numbers) (types : Types) (n : ℕ) (linked : Linked scope names types n) where
-  all_suit : {wanted : WordType} {es : List ExprTree} → rules.AllSuit scope wanted es → AreAllSmall es → flat.AllSuit types wanted (map (term names) es)
+  all_suit : {wanted : WordType} {es : List ExprTree} → rules.AllSuit scope wanted es → AreAllSmall es
+      → flat.AllSuit types wanted (map (term names) es)
   all_suit rules.none_wanted small = tt
   all_suit (rules.one_suits has suit all) small = (suits_there (means scope names types n linked has small.0) suit, all_suit all small.1)
 
@@ -73,7 +80,8 @@ as_many : (names : Numbers) (size : ℕ) (es : List ExprTree) → length es ≡ 
 as_many names size [] is = tt
 as_many names size (e ∷ es) is = length-map (e ∷ es) (term names) ∙ is
 
-has_count : (names : Numbers) {size : ℕ} {values : Option (List ExprTree)} → rules.HasCount size values → flat.HasCount size (map (term names) (written values))
+has_count : (names : Numbers) {size : ℕ} {values : Option (List ExprTree)} → rules.HasCount size values
+    → flat.HasCount size (map (term names) (written values))
 has_count names rules.all_zero = tt
 has_count names {size = size} (rules.all_given {values = values} is) = as_many names size values is
 
@@ -91,13 +99,18 @@ module _ (earlier : List ProcedureTree) where
   counted = all_counted earlier
 
   -- names, types and numbers still go together behind a right side
-  linked_right : (scope : Scope) (names : Numbers) (types : Types) (n : ℕ) → Linked scope names types n → (r : RightTree) → Linked scope names (types_after_all types (right_block known names n r)) (right_end known n r)
-  linked_right scope names types n linked r = passed_over scope names types n (right_block known names n r) (length (right_variables known r)) (right_takes known counted names n r) linked
+  linked_right : (scope : Scope) (names : Numbers) (types : Types) (n : ℕ) → Linked scope names types n
+      → (r : RightTree) → Linked scope names (types_after_all types (right_block known names n r)) (right_end known n r)
+  linked_right scope names types n linked r = passed_over scope names types n (right_block known names n r)
+      (length (right_variables known r)) (right_takes known counted names n r) linked
 
   -- after a statement
-  pub linked_after : {scope : Scope} {control : Label} {s : StatementTree} → IsWellTyped earlier scope control s → (names : Numbers) (types : Types) (n : ℕ) → Linked scope names types n
-      → Linked (scope_after scope s) (names_after known names n s) (types_after_all types (statement known names n s)) (n + numbers_taken known s)
-  linked_after (declares {scope = scope} {place = place} {label = label} {mutable = mutable} {kind = kind} {text = text} {right = r} new has suit flow) names types n linked =
+  pub linked_after : {scope : Scope} {control : Label} {s : StatementTree} → IsWellTyped earlier scope control s
+      → (names : Numbers) (types : Types) (n : ℕ) → Linked scope names types n
+      → Linked (scope_after scope s) (names_after known names n s) (types_after_all types (statement known names n s))
+      (n + numbers_taken known s)
+  linked_after (declares {scope = scope} {place = place} {label = label} {mutable = mutable} {kind = kind} {text = text}
+      {right = r} new has suit flow) names types n linked =
       let own = word_as (labelled kind label) mutable in
       let vars = right_variables known r in
       let front = right_block known names n r in
@@ -105,21 +118,32 @@ module _ (earlier : List ProcedureTree) where
       let count = length-append vars (own ∷ []) in
       let same : m + 1 ≡ n + length (vars ++ own ∷ []) = omega (arith, count) in
       let there = linked_declared scope names (types_after_all types front) m (linked_right scope names types n linked r) text own new in
-      subst (Linked (scope_after scope (declaration place label mutable kind text r)) (naming names text m own) (types_after_all types (statement known names n (declaration place label mutable kind text r)))) same
-      (subst (λ t. Linked (scope_after scope (declaration place label mutable kind text r)) (naming names text m own) t (m + 1)) (sym (chain-types types front (single (tree.declare m (labelled kind label) mutable (right known names n r))))) there)
-  linked_after (declares_array {scope = scope} {label = label} {mutable = mutable} {kind = kind} {size = size} {text = text} new all count flow) names types n linked =
+      subst (Linked (scope_after scope (declaration place label mutable kind text r)) (naming names text m own)
+      (types_after_all types (statement known names n (declaration place label mutable kind text r)))) same
+      (subst (λ t. Linked (scope_after scope (declaration place label mutable kind text r)) (naming names text m own) t
+      (m + 1)) (sym (chain-types types front
+      (single (tree.declare m (labelled kind label) mutable (right known names n r))))) there)
+  linked_after (declares_array {scope = scope} {label = label} {mutable = mutable} {kind = kind} {size = size}
+      {text = text} new all count flow) names types n linked =
       linked_declared scope names types n linked text (array_as (labelled kind label) mutable size) new
-  linked_after (assigns {scope = scope} {place = place} {target = target} {text = text} {right = r} is has suit flow) names types n linked = passed_over scope names types n _ _ (statement_takes known counted names n (assignment place target text r)) linked
-  linked_after (assigns_element {scope = scope} {place = place} {bracket = bracket} {target = target} {text = text} {index = index} {right = r} is has value suit flow) names types n linked =
-      passed_over scope names types n _ _ (statement_takes known counted names n (element_assignment place bracket target text index r)) linked
-  linked_after (calls {scope = scope} {c = c} is) names types n linked = passed_over scope names types n _ _ (statement_takes known counted names n (call c)) linked
+  linked_after (assigns {scope = scope} {place = place} {target = target} {text = text} {right = r} is has suit flow)
+      names types n linked = passed_over scope names types n _ _
+      (statement_takes known counted names n (assignment place target text r)) linked
+  linked_after (assigns_element {scope = scope} {place = place} {bracket = bracket} {target = target} {text = text}
+      {index = index} {right = r} is has value suit flow) names types n linked =
+      passed_over scope names types n _ _
+      (statement_takes known counted names n (element_assignment place bracket target text index r)) linked
+  linked_after (calls {scope = scope} {c = c} is) names types n linked =
+      passed_over scope names types n _ _ (statement_takes known counted names n (call c)) linked
   linked_after (chooses {scope = scope} {accepted = accepted} {otherwise = otherwise} has one other) names types n linked =
       later scope names types n (n + length (declared_in_all known accepted ++ declared_in_all known otherwise)) (omega arith) linked
   linked_after (repeats {scope = scope} {body = body} low high new inner) names types n linked =
       later scope names types n (n + suc (numbers_taken_all known body)) (omega arith) linked
 
-  pub linked_after_all : {scope : Scope} {control : Label} {b : BlockTree} → AreWellTyped earlier scope control b → (names : Numbers) (types : Types) (n : ℕ) → Linked scope names types n
-      → Linked (scope_after_all scope b) (names_after_all known names n b) (types_after_all types (block known names n b)) (n + numbers_taken_all known b)
+  pub linked_after_all : {scope : Scope} {control : Label} {b : BlockTree} → AreWellTyped earlier scope control b
+      → (names : Numbers) (types : Types) (n : ℕ) → Linked scope names types n
+      → Linked (scope_after_all scope b) (names_after_all known names n b)
+      (types_after_all types (block known names n b)) (n + numbers_taken_all known b)
   linked_after_all (no_statement {scope = scope}) names types n linked = later scope names types n (n + 0) (omega arith) linked
   linked_after_all (one_more {scope = scope} {statement = s} {rest = rest} here there) names types n linked =
       let m = n + numbers_taken known s in
@@ -129,8 +153,10 @@ module _ (earlier : List ProcedureTree) where
       let end = linked_after_all there next inside m (linked_after here names types n linked) in
       let count = length-append (declared_in known s) (declared_in_all known rest) in
       let same : m + numbers_taken_all known rest ≡ n + length (declared_in known s ++ declared_in_all known rest) = omega (arith, count) in
-      subst (Linked (scope_after_all (scope_after scope s) rest) (names_after_all known next m rest) (types_after_all types (chain (statement known names n s) back))) same
-      (subst (λ t. Linked (scope_after_all (scope_after scope s) rest) (names_after_all known next m rest) t (m + numbers_taken_all known rest)) (sym (chain-types types (statement known names n s) back)) end)
+      subst (Linked (scope_after_all (scope_after scope s) rest) (names_after_all known next m rest)
+      (types_after_all types (chain (statement known names n s) back))) same
+      (subst (λ t. Linked (scope_after_all (scope_after scope s) rest) (names_after_all known next m rest) t
+      (m + numbers_taken_all known rest)) (sym (chain-types types (statement known names n s) back)) end)
 
   module _ (at : Scope) (stand : Stand TypedBody earlier at) (all : List FlatVariable) (outer : Label) where
     -- a right side that is well typed
@@ -138,10 +164,15 @@ module _ (earlier : List ProcedureTree) where
       pub typed : AreTyped all types control (right_block known names n r)
       pub suits : Suits (types_after_all types (right_block known names n r)) wanted (right known names n r)
 
-    right_fits : {scope : Scope} {control : Label} {r : RightTree} {given wanted : WordType} → Gives earlier scope control r (Word given) → rules.Suits given wanted → IsWithin earlier at scope → (outer ≡ Secret → right_assigns at r ≡ false)
-        → (names : Numbers) (types : Types) (n : ℕ) → Linked scope names types n → IsSmallRight r → Lists all n (right_variables known r) → RightFits types (joined outer control) names n r wanted
-    right_fits {scope = scope} (of_value has) suit within hush names types n linked small lists = record { typed = tt; suits = suits_there (means scope names types n linked has small) suit }
-    right_fits {control = control} {given = given} {wanted = wanted} (of_call {c = c} is) suit within hush names types n linked small lists =
+    right_fits : {scope : Scope} {control : Label} {r : RightTree} {given wanted : WordType}
+        → Gives earlier scope control r (Word given) → rules.Suits given wanted → IsWithin earlier at scope
+        → (outer ≡ Secret → right_assigns at r ≡ false)
+        → (names : Numbers) (types : Types) (n : ℕ) → Linked scope names types n → IsSmallRight r
+        → Lists all n (right_variables known r) → RightFits types (joined outer control) names n r wanted
+    right_fits {scope = scope} (of_value has) suit within hush names types n linked small lists =
+        record { typed = tt; suits = suits_there (means scope names types n linked has small) suit }
+    right_fits {control = control} {given = given} {wanted = wanted} (of_call {c = c} is) suit within hush names types n
+        linked small lists =
         let f = call_fits earlier at stand is within outer hush all names types n linked small lists in
         let body = call_block (known c.name) names n c.arguments in
         let value = call_value (known c.name) names n c.arguments in
@@ -152,64 +183,87 @@ module _ (earlier : List ProcedureTree) where
         }
 
     -- an assignment to an element
-    element_typed : (text : List ℕ) {scope : Scope} {control : Label} {index : ExprTree} {r : RightTree} {given : WordType} {array : ArrayType} → IsVariable scope text (Array array) true → rules.HasType scope index (Word counter_type)
-        → Gives earlier scope control r (Word given) → rules.Suits given array.element → FlowsTo control array.element.label → IsWithin earlier at scope → IsHushed outer scope (right_assigns at r) → (bracket : Place)
-        → (names : Numbers) (types : Types) (n : ℕ) → Linked scope names types n → AreSmall index → IsSmallRight r → Lists all n (element_variables known r) → AreTyped all types (joined outer control) (element_block known names n bracket text index r)
-    element_typed text {scope = scope} {array = own} is has (of_value value) suit flow within hush bracket names types n linked plain small lists = (
-      record {
-        word = own.element;
-        known = array_there (known_array scope names types n linked text own true is);
-        index_type = (means scope names types n linked has plain).typed;
-        suits = suits_there (means scope names types n linked value small) suit;
-        hidden = still_secret outer flow (λ e. (hush e).0 text _ is refl);
-      },
-      tt,
-    )
-    element_typed text {scope = scope} {control = control} {index = index} {given = given} {array = own} is has (of_call {c = c} made) suit flow within hush bracket names types n linked plain small lists =
+    element_typed : (text : List ℕ) {scope : Scope} {control : Label} {index : ExprTree} {r : RightTree}
+        {given : WordType} {array : ArrayType} → IsVariable scope text (Array array) true
+        → rules.HasType scope index (Word counter_type)
+        → Gives earlier scope control r (Word given) → rules.Suits given array.element
+        → FlowsTo control array.element.label → IsWithin earlier at scope
+        → IsHushed outer scope (right_assigns at r) → (bracket : Place)
+        → (names : Numbers) (types : Types) (n : ℕ) → Linked scope names types n → AreSmall index → IsSmallRight r
+        → Lists all n (element_variables known r) → AreTyped all types (joined outer control)
+        (element_block known names n bracket text index r)
+    element_typed text {scope = scope} {array = own} is has (of_value value) suit flow within hush bracket names types n
+        linked plain small lists = (
+          record {
+            word = own.element;
+            known = array_there (known_array scope names types n linked text own true is);
+            index_type = (means scope names types n linked has plain).typed;
+            suits = suits_there (means scope names types n linked value small) suit;
+            hidden = still_secret outer flow (λ e. (hush e).0 text _ is refl);
+          },
+          tt,
+        )
+    element_typed text {scope = scope} {control = control} {index = index} {given = given} {array = own} is has
+        (of_call {c = c} made) suit flow within hush bracket names types n linked plain small lists =
         let counter = word_as counter_type false in
         let o = known c.name in
         let vars = call_variables o c.arguments in
         let inside = with_type types n counter in
         let next = linked_beside scope names types n counter linked in
-        let f = call_fits earlier at stand made within outer (λ e. (hush e).1) all names inside (n + 1) next small (lists_right all n (counter ∷ []) vars lists) in
+        let f = call_fits earlier at stand made within outer (λ e. (hush e).1) all names inside (n + 1) next small
+        (lists_right all n (counter ∷ []) vars lists) in
         let body = call_block o names (n + 1) c.arguments in
         let value = call_value o names (n + 1) c.arguments in
         let takes = call_takes names c.arguments (n + 1) o (counted c.name) in
         let end = types_after_all inside body in
         let there = passed_over scope names inside (n + 1) body (length vars) takes next in
-        let put : IsPut end (joined outer control) (number_of names text) (size_of names text) (tree.variable n) (value_given value) = record {
+        let put : IsPut end (joined outer control) (number_of names text) (size_of names text) (tree.variable n)
+        (value_given value) = record {
           word = own.element;
           known = array_there (known_array scope names end ((n + 1) + length vars) there text own true is);
           index_type = flat.of_variable (types_before inside (n + 1) body takes.numbered n (omega arith) ∙ with_type-same types n counter);
           suits = result_suits end (call_result o) value given own.element f.result f.gives suit;
           hidden = still_secret outer flow (λ e. (hush e).0 text _ is refl);
         } in (
-          (record { new = linked.fresh n (omega arith); listed = lists_first all n counter vars lists }, (means scope names types n linked has plain).typed),
-          chain-typed all inside (joined outer control) body (single (tree.put bracket (number_of names text) (size_of names text) (tree.variable n) (value_given value))) f.typed (put, tt),
+          (
+            record { new = linked.fresh n (omega arith); listed = lists_first all n counter vars lists },
+            (means scope names types n linked has plain).typed,
+          ),
+          chain-typed all inside (joined outer control) body
+              (single (tree.put bracket (number_of names text) (size_of names text) (tree.variable n)
+              (value_given value))) f.typed (put, tt),
         )
 
     mutual
-      pub typed_statement : {scope : Scope} {control : Label} {s : StatementTree} → IsWellTyped earlier scope control s → IsWithin earlier at scope → IsHushed outer scope (statement_assigns at s)
-          → (names : Numbers) (types : Types) (n : ℕ) → Linked scope names types n → IsPlain s → Lists all n (declared_in known s) → AreTyped all types (joined outer control) (statement known names n s)
-      typed_statement (declares {scope = scope} {control = control} {label = label} {mutable = mutable} {kind = kind} {right = r} new has suit flow) within hush names types n linked plain lists =
+      pub typed_statement : {scope : Scope} {control : Label} {s : StatementTree} → IsWellTyped earlier scope control s
+          → IsWithin earlier at scope → IsHushed outer scope (statement_assigns at s)
+          → (names : Numbers) (types : Types) (n : ℕ) → Linked scope names types n → IsPlain s
+          → Lists all n (declared_in known s) → AreTyped all types (joined outer control)
+          (statement known names n s)
+      typed_statement (declares {scope = scope} {control = control} {label = label} {mutable = mutable} {kind = kind}
+          {right = r} new has suit flow) within hush names types n linked plain lists =
           let own = word_as (labelled kind label) mutable in
           let vars = right_variables known r in
           let front = right_block known names n r in
           let m = right_end known n r in
           let there = linked_right scope names types n linked r in
-          let f = right_fits has suit within (λ e. (either_false _ (right_assigns at r) (hush e).1).1) names types n linked plain (lists_left all n vars (own ∷ []) lists) in
+          let f = right_fits has suit within (λ e. (either_false _ (right_assigns at r) (hush e).1).1) names types n
+          linked plain (lists_left all n vars (own ∷ []) lists) in
           let listed = lists_first all m own [] (lists_right all n vars (own ∷ []) lists) in
-          chain-typed all types (joined outer control) front (single (tree.declare m (labelled kind label) mutable (right known names n r))) f.typed
+          chain-typed all types (joined outer control) front
+          (single (tree.declare m (labelled kind label) mutable (right known names n r))) f.typed
           ((record { new = there.fresh m (omega arith); listed = listed }, f.suits), tt)
-      typed_statement (declares_array {scope = scope} {label = label} {mutable = mutable} {kind = kind} {size = size} {values = values} new suit count flow) within hush names types n linked plain lists = (
-        (
-          record { new = linked.fresh n (omega arith); listed = lists_first all n (array_as (labelled kind label) mutable size) [] lists },
-          all_suit scope names types n linked suit (small_values values plain.1),
-          has_count names count,
-        ),
-        tt,
-      )
-      typed_statement (assigns {scope = scope} {control = control} {text = text} {right = r} {wanted = wanted} is has suit flow) within hush names types n linked plain lists =
+      typed_statement (declares_array {scope = scope} {label = label} {mutable = mutable} {kind = kind} {size = size}
+          {values = values} new suit count flow) within hush names types n linked plain lists = (
+            (
+              record { new = linked.fresh n (omega arith); listed = lists_first all n (array_as (labelled kind label) mutable size) [] lists },
+              all_suit scope names types n linked suit (small_values values plain.1),
+              has_count names count,
+            ),
+            tt,
+          )
+      typed_statement (assigns {scope = scope} {control = control} {text = text} {right = r} {wanted = wanted} is has
+          suit flow) within hush names types n linked plain lists =
           let front = right_block known names n r in
           let m = right_end known n r in
           let inside = types_after_all types front in
@@ -224,7 +278,8 @@ module _ (earlier : List ProcedureTree) where
             },
             tt,
           )
-      typed_statement (assigns_element {bracket = bracket} {text = text} is has value suit flow) within hush names types n linked plain lists =
+      typed_statement (assigns_element {bracket = bracket} {text = text} is has value suit flow) within hush names types
+          n linked plain lists =
           element_typed text is has value suit flow within hush bracket names types n linked plain.0 plain.1 lists
       typed_statement (calls {scope = scope} {control = control} {c = c} is) within hush names types n linked plain lists =
           let o = known c.name in
@@ -233,38 +288,53 @@ module _ (earlier : List ProcedureTree) where
           let body = call_block o names n c.arguments in
           let value = call_value o names n c.arguments in
           let m = n + length vars in
-          let f = call_fits earlier at stand is within outer (λ e. (hush e).1) all names types n linked plain (lists_left all n vars dropped lists) in
+          let f = call_fits earlier at stand is within outer (λ e. (hush e).1) all names types n linked plain
+          (lists_left all n vars dropped lists) in
           let there = passed_over scope names types n body (length vars) (call_takes names c.arguments n o (counted c.name)) linked in (
             tt,
             chain-typed all types (joined outer control) body (dropped_block m (call_result o) value) f.typed
-                (dropped_typed all (types_after_all types body) (joined outer control) m (call_result o) value (there.fresh m (omega arith)) (lists_right all n vars dropped lists) f.result),
+                (dropped_typed all (types_after_all types body) (joined outer control) m (call_result o) value
+                (there.fresh m (omega arith)) (lists_right all n vars dropped lists) f.result),
           )
-      typed_statement (chooses {scope = scope} {control = control} {condition = condition} {accepted = accepted} {otherwise = otherwise} {label = label} has one other) within hush names types n linked plain lists =
+      typed_statement (chooses {scope = scope} {control = control} {condition = condition} {accepted = accepted}
+          {otherwise = otherwise} {label = label} has one other) within hush names types n linked plain lists =
           let m = n + numbers_taken_all known accepted in
           let c = means scope names types n linked has plain.0 in
           let quiet = λ (e : outer ≡ Secret). either_false (block_assigns at accepted) (block_assigns at otherwise) (hush e).1 in
-          let a = typed_block one within (λ e. ((hush e).0, (quiet e).0)) names types n linked plain.1 (lists_left all n (declared_in_all known accepted) (declared_in_all known otherwise) lists) in
-          let b = typed_block other within (λ e. ((hush e).0, (quiet e).1)) names types m (later scope names types n m (omega arith) linked) plain.2 (lists_right all n (declared_in_all known accepted) (declared_in_all known otherwise) lists) in
+          let a = typed_block one within (λ e. ((hush e).0, (quiet e).0)) names types n linked plain.1
+          (lists_left all n (declared_in_all known accepted) (declared_in_all known otherwise) lists) in
+          let b = typed_block other within (λ e. ((hush e).0, (quiet e).1)) names types m
+          (later scope names types n m (omega arith) linked) plain.2
+          (lists_right all n (declared_in_all known accepted) (declared_in_all known otherwise) lists) in
           let swap = joined-swap outer label control in
-          let arms = subst (λ k. AreTyped all types k (block known names n accepted) × AreTyped all types k (block known names m otherwise)) swap (a, b) in (
-            subst (λ l. flat.HasType types (term names condition) (labelled Boolean l) × AreTyped all types (joined l (joined outer control)) (block known names n accepted) × AreTyped all types (joined l (joined outer control)) (block known names m otherwise))
+          let arms = subst (λ k. AreTyped all types k (block known names n accepted)
+          × AreTyped all types k (block known names m otherwise)) swap (a, b) in (
+            subst (λ l. flat.HasType types (term names condition) (labelled Boolean l)
+                × AreTyped all types (joined l (joined outer control)) (block known names n accepted)
+                × AreTyped all types (joined l (joined outer control)) (block known names m otherwise))
                 (sym c.label) (c.typed, arms.0, arms.1),
             tt,
           )
-      typed_statement (repeats {scope = scope} {text = text} {body = body} low high new inner) within hush names types n linked plain lists =
+      typed_statement (repeats {scope = scope} {text = text} {body = body} low high new inner) within hush names types n
+          linked plain lists =
           let own = word_as counter_type false in (
             (
               (means scope names types n linked low plain.0).typed,
               (means scope names types n linked high plain.1).typed,
               record { new = linked.fresh n (omega arith); listed = lists_first all n own (declared_in_all known body) lists },
-              typed_block inner (callable_declared earlier (IsAt at) scope text _ within) (λ e. (hides_counter scope text new (hush e).0, (hush e).1)) (naming names text n own) (with_type types n own) (n + 1) (linked_declared scope names types n linked text own new) plain.2
+              typed_block inner (callable_declared earlier (IsAt at) scope text _ within)
+                  (λ e. (hides_counter scope text new (hush e).0, (hush e).1)) (naming names text n own)
+                  (with_type types n own) (n + 1) (linked_declared scope names types n linked text own new) plain.2
                   (lists_right all n (own ∷ []) (declared_in_all known body) lists),
             ),
             tt,
           )
 
-      pub typed_block : {scope : Scope} {control : Label} {b : BlockTree} → AreWellTyped earlier scope control b → IsWithin earlier at scope → IsHushed outer scope (block_assigns at b)
-          → (names : Numbers) (types : Types) (n : ℕ) → Linked scope names types n → ArePlain b → Lists all n (declared_in_all known b) → AreTyped all types (joined outer control) (block known names n b)
+      pub typed_block : {scope : Scope} {control : Label} {b : BlockTree} → AreWellTyped earlier scope control b
+          → IsWithin earlier at scope → IsHushed outer scope (block_assigns at b)
+          → (names : Numbers) (types : Types) (n : ℕ) → Linked scope names types n → ArePlain b
+          → Lists all n (declared_in_all known b) → AreTyped all types (joined outer control)
+          (block known names n b)
       typed_block no_statement within hush names types n linked plain lists = tt
       typed_block (one_more {control = control} {statement = s} {rest = rest} here there) within hush names types n linked plain lists =
           let front = statement known names n s in
@@ -272,6 +342,9 @@ module _ (earlier : List ProcedureTree) where
           let m = n + numbers_taken known s in
           let quiet = λ (e : outer ≡ Secret). either_false (statement_assigns at s) (block_assigns at rest) (hush e).1 in
           chain-typed all types (joined outer control) front (block known next m rest)
-          (typed_statement here within (λ e. ((hush e).0, (quiet e).0)) names types n linked plain.0 (lists_left all n (declared_in known s) (declared_in_all known rest) lists))
-          (typed_block there (callable_after earlier (IsAt at) here within) (λ e. (hides_after at here (hush e).0 (quiet e).0, (quiet e).1)) next (types_after_all types front) m (linked_after here names types n linked) plain.1
+          (typed_statement here within (λ e. ((hush e).0, (quiet e).0)) names types n linked plain.0
+          (lists_left all n (declared_in known s) (declared_in_all known rest) lists))
+          (typed_block there (callable_after earlier (IsAt at) here within)
+          (λ e. (hides_after at here (hush e).0 (quiet e).0, (quiet e).1)) next (types_after_all types front) m
+          (linked_after here names types n linked) plain.1
           (lists_right all n (declared_in known s) (declared_in_all known rest) lists))

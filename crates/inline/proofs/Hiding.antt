@@ -23,11 +23,13 @@ either_false true b e = absurd (true≢false e)
 abbrev pub Hides : Scope → Type 0
 Hides scope = (text : List ℕ) (v : VariableType) → found scope text ≡ Some (Variable v) → v.mutable ≡ true → label_of v.value ≡ Secret
 
-pub hides_declared : (scope : Scope) (name : List ℕ) (v : VariableType) → found scope name ≡ None → (v.mutable ≡ true → label_of v.value ≡ Secret) → Hides scope → Hides (declared scope name (Variable v))
+pub hides_declared : (scope : Scope) (name : List ℕ) (v : VariableType) → found scope name ≡ None
+    → (v.mutable ≡ true → label_of v.value ≡ Secret) → Hides scope → Hides (declared scope name (Variable v))
 hides_declared scope name v new own hides text w is = by_name (bytes_eq text name) refl
   where
     by_name : (b : Bool) → bytes_eq text name ≡ b → w.mutable ≡ true → label_of w.value ≡ Secret
-    by_name true e = subst (λ (u : VariableType). u.mutable ≡ true → label_of u.value ≡ Secret) (same_variable v w (sym (found-new scope.names name (Variable v) text e new) ∙ is)) own
+    by_name true e = subst (λ (u : VariableType). u.mutable ≡ true → label_of u.value ≡ Secret)
+        (same_variable v w (sym (found-new scope.names name (Variable v) text e new) ∙ is)) own
     by_name false e = hides text w (sym (found-other scope.names name (Variable v) text e) ∙ is)
 
 -- what is no public name that may be assigned to
@@ -37,10 +39,13 @@ secret_one Public false none e = absurd (true≢false (sym e))
 secret_one Secret mutable none e = refl
 
 module _ (at : Scope) where
-  pub hides_after : {earlier : List ProcedureTree} {scope : Scope} {control : Label} {s : StatementTree} → IsWellTyped earlier scope control s → Hides scope → statement_assigns at s ≡ false → Hides (scope_after scope s)
+  pub hides_after : {earlier : List ProcedureTree} {scope : Scope} {control : Label} {s : StatementTree}
+      → IsWellTyped earlier scope control s → Hides scope → statement_assigns at s ≡ false → Hides (scope_after scope s)
   hides_after (declares {scope = scope} {label = label} {mutable = mutable} {text = text} {right = r} new has suit flow) hides none =
-      hides_declared scope text _ new (secret_one label mutable (either_false (is_public_mutable label mutable) (right_assigns at r) none).0) hides
-  hides_after (declares_array {scope = scope} {label = label} {mutable = mutable} {text = text} new suit count flow) hides none = hides_declared scope text _ new (secret_one label mutable none) hides
+      hides_declared scope text _ new
+      (secret_one label mutable (either_false (is_public_mutable label mutable) (right_assigns at r) none).0) hides
+  hides_after (declares_array {scope = scope} {label = label} {mutable = mutable} {text = text} new suit count flow)
+      hides none = hides_declared scope text _ new (secret_one label mutable none) hides
   hides_after (assigns is has suit flow) hides none = hides
   hides_after (assigns_element is has value suit flow) hides none = hides
   hides_after (calls is) hides none = hides
@@ -59,8 +64,10 @@ parameter_label p SingleWord = refl
 parameter_label p FixedArray = refl
 parameter_label p MutableArray = refl
 
-pub hides_parameters : {scope : Scope} {ps : List ParameterTree} → AreNew scope ps → Hides scope → parameters_assign ps ≡ false → Hides (with_parameters scope ps)
+pub hides_parameters : {scope : Scope} {ps : List ParameterTree} → AreNew scope ps → Hides scope
+    → parameters_assign ps ≡ false → Hides (with_parameters scope ps)
 hides_parameters no_parameter hides none = hides
 hides_parameters (one_is_new {scope = scope} {p = p} {ps = ps} here there) hides none =
     let split = either_false (is_public_mutable p.label (is_mutable p.form)) (parameters_assign ps) none in
-    hides_parameters there (hides_declared scope p.name _ here (λ e. parameter_label p p.form ∙ secret_one p.label (is_mutable p.form) split.0 e) hides) split.1
+    hides_parameters there (hides_declared scope p.name _ here
+    (λ e. parameter_label p p.form ∙ secret_one p.label (is_mutable p.form) split.0 e) hides) split.1

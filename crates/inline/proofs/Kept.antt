@@ -27,13 +27,15 @@ use Rattle.inline.proofs.Rights.{right_means}
 use Rattle.inline.proofs.States.{with_value-other}
 
 -- with one more name, of a number of its own
-pub spares_named : (names : Numbers) (n x : ℕ) → Spares names n x → (text : List ℕ) (k m : ℕ) (d : FlatVariable) → n ≤ k → n ≤ m → Spares (naming names text k d) m x
+pub spares_named : (names : Numbers) (n x : ℕ) → Spares names n x → (text : List ℕ) (k m : ℕ) (d : FlatVariable) → n ≤ k
+    → n ≤ m → Spares (naming names text k d) m x
 spares_named names n x spares text k m d one other = record {
   below = let low = spares.below in omega arith;
   spared = λ name y is free same. by_name name y free same (found-split names text (entry k d) name y is);
 }
   where
-    by_name : (name : List ℕ) (y : Numbered) → y.declaration.mutable ≡ true → y.number ≡ x → (found names name ≡ Some y) ⊎ ((bytes_eq name text ≡ true) × (entry k d ≡ y)) → ⊥
+    by_name : (name : List ℕ) (y : Numbered) → y.declaration.mutable ≡ true → y.number ≡ x
+        → (found names name ≡ Some y) ⊎ ((bytes_eq name text ≡ true) × (entry k d ≡ y)) → ⊥
     by_name name y free same (inl old) = spares.spared name y old free same
     by_name name y free same (inr new) =
         let number = ap (λ (z : Numbered). z.number) new.1 in
@@ -43,20 +45,31 @@ spares_named names n x spares text k m d one other = record {
 pub spares_later : (names : Numbers) (n m x : ℕ) → n ≤ m → Spares names n x → Spares names m x
 spares_later names n m x more spares = record { below = let low = spares.below in omega arith; spared = spares.spared }
 
-spares_after : (earlier : List ProcedureTree) {scope : Scope} {control : Label} {s : StatementTree} → IsWellTyped earlier scope control s → (names : Numbers) (n x : ℕ) → Spares names n x
+spares_after : (earlier : List ProcedureTree) {scope : Scope} {control : Label} {s : StatementTree}
+    → IsWellTyped earlier scope control s → (names : Numbers) (n x : ℕ) → Spares names n x
     → Spares (names_after (callables earlier) names n s) (n + numbers_taken (callables earlier) s) x
-spares_after earlier {s = s} (declares {label = label} {mutable = mutable} {kind = kind} {text = text} {right = right} new has suit flow) names n x spares =
-    spares_named names n x spares text (right_end (callables earlier) n right) (n + numbers_taken (callables earlier) s) (word_as (labelled kind label) mutable) (omega arith) (omega arith)
-spares_after earlier {s = s} (declares_array {label = label} {mutable = mutable} {kind = kind} {size = size} {text = text} new all count flow) names n x spares =
-    spares_named names n x spares text n (n + numbers_taken (callables earlier) s) (array_as (labelled kind label) mutable size) (omega arith) (omega arith)
-spares_after earlier {s = s} (assigns is has suit flow) names n x spares = spares_later names n (n + numbers_taken (callables earlier) s) x (omega arith) spares
-spares_after earlier {s = s} (assigns_element is has value suit flow) names n x spares = spares_later names n (n + numbers_taken (callables earlier) s) x (omega arith) spares
-spares_after earlier {s = s} (calls is) names n x spares = spares_later names n (n + numbers_taken (callables earlier) s) x (omega arith) spares
-spares_after earlier {s = s} (chooses has one other) names n x spares = spares_later names n (n + numbers_taken (callables earlier) s) x (omega arith) spares
-spares_after earlier {s = s} (repeats low high new inner) names n x spares = spares_later names n (n + numbers_taken (callables earlier) s) x (omega arith) spares
+spares_after earlier {s = s} (declares {label = label} {mutable = mutable} {kind = kind} {text = text} {right = right}
+    new has suit flow) names n x spares =
+    spares_named names n x spares text (right_end (callables earlier) n right) (n + numbers_taken (callables earlier) s)
+    (word_as (labelled kind label) mutable) (omega arith) (omega arith)
+spares_after earlier {s = s} (declares_array {label = label} {mutable = mutable} {kind = kind} {size = size}
+    {text = text} new all count flow) names n x spares =
+    spares_named names n x spares text n (n + numbers_taken (callables earlier) s)
+    (array_as (labelled kind label) mutable size) (omega arith) (omega arith)
+spares_after earlier {s = s} (assigns is has suit flow) names n x spares =
+    spares_later names n (n + numbers_taken (callables earlier) s) x (omega arith) spares
+spares_after earlier {s = s} (assigns_element is has value suit flow) names n x spares =
+    spares_later names n (n + numbers_taken (callables earlier) s) x (omega arith) spares
+spares_after earlier {s = s} (calls is) names n x spares = spares_later names n
+    (n + numbers_taken (callables earlier) s) x (omega arith) spares
+spares_after earlier {s = s} (chooses has one other) names n x spares =
+    spares_later names n (n + numbers_taken (callables earlier) s) x (omega arith) spares
+spares_after earlier {s = s} (repeats low high new inner) names n x spares =
+    spares_later names n (n + numbers_taken (callables earlier) s) x (omega arith) spares
 
 -- one statement behind a block
-behind : (b : FlatBlock) (s : FlatTree) (x : ℕ) (m : Values) → ((t : Values) → after t s x ≡ t x) → after_all m b x ≡ m x → after_all m (chain b (single s)) x ≡ m x
+behind : (b : FlatBlock) (s : FlatTree) (x : ℕ) (m : Values) → ((t : Values) → after t s x ≡ t x)
+    → after_all m b x ≡ m x → after_all m (chain b (single s)) x ≡ m x
 behind b s x m step kept = ap (λ (end : Values). end x) (after_chain b (single s) m) ∙ (step (after_all m b) ∙ kept)
 
 -- so many turns
@@ -69,7 +82,8 @@ either_arm true x one other m same alike = alike
 either_arm false x one other m same alike = same
 
 -- a result that nothing takes goes into a new variable
-pub dropped_keeps : (k x : ℕ) → x < k → (result : Option WordType) (value : Option TermTree) (m : Values) → after_all m (dropped_block k result value) x ≡ m x
+pub dropped_keeps : (k x : ℕ) → x < k → (result : Option WordType) (value : Option TermTree) (m : Values)
+    → after_all m (dropped_block k result value) x ≡ m x
 dropped_keeps k x low None value m = refl
 dropped_keeps k x low (Some word) value m = with_value-other m k x (value_in m (value_given value) ∷ []) (λ q. omega arith)
 
@@ -87,30 +101,39 @@ module _ (earlier : List ProcedureTree) where
         spares.spared text _ k.found refl (sym (ap (λ (z : Numbered). z.number) k.here) ∙ sym same)
 
   mutual
-    pub statement_keeps : {scope : Scope} {control : Label} {s : StatementTree} → IsWellTyped earlier scope control s → (names : Numbers) (n : ℕ) → Ready earlier scope names n → (x : ℕ) → Spares names n x → (m : Values)
+    pub statement_keeps : {scope : Scope} {control : Label} {s : StatementTree} → IsWellTyped earlier scope control s
+        → (names : Numbers) (n : ℕ) → Ready earlier scope names n → (x : ℕ) → Spares names n x → (m : Values)
         → after_all m (statement (callables earlier) names n s) x ≡ m x
-    statement_keeps (declares {scope = scope} {label = label} {mutable = mutable} {kind = kind} {text = text} {right = value} new has suit flow) names n ready x spares m =
+    statement_keeps (declares {scope = scope} {label = label} {mutable = mutable} {kind = kind} {text = text}
+        {right = value} new has suit flow) names n ready x spares m =
         let k = right_end (callables earlier) n value in
         let low = spares.below in
         let taken = right (callables earlier) names n value in
         behind (right_block (callables earlier) names n value) (flat.declare k (labelled kind label) mutable taken) x m
-        (λ t. with_value-other t k x (value_in t taken ∷ []) (λ q. omega arith)) ((right_means earlier scope names n ready has).keeps x spares m)
+        (λ t. with_value-other t k x (value_in t taken ∷ []) (λ q. omega arith))
+        ((right_means earlier scope names n ready has).keeps x spares m)
     statement_keeps (declares_array {size = size} {values = values} new all count flow) names n ready x spares m =
         let low = spares.below in
         with_value-other m n x (elements m size (map (term names) (written values))) (λ q. omega arith)
     statement_keeps (assigns {scope = scope} {text = text} {right = value} {wanted = wanted} is has suit flow) names n ready x spares m =
         let taken = right (callables earlier) names n value in
         behind (right_block (callables earlier) names n value) (flat.assign (number_of names text) taken) x m
-        (λ t. with_value-other t (number_of names text) x (value_in t taken ∷ []) (other_word scope names n ready x spares text wanted is)) ((right_means earlier scope names n ready has).keeps x spares m)
-    statement_keeps (assigns_element {scope = scope} {text = text} {index = index} {array = array} is has (of_value {e = e} value) suit flow) names n ready x spares m =
+        (λ t. with_value-other t (number_of names text) x (value_in t taken ∷ [])
+        (other_word scope names n ready x spares text wanted is))
+        ((right_means earlier scope names n ready has).keeps x spares m)
+    statement_keeps (assigns_element {scope = scope} {text = text} {index = index} {array = array} is has
+        (of_value {e = e} value) suit flow) names n ready x spares m =
         with_value-other m (number_of names text) x _ (other_array scope names n ready x spares text array is)
-    statement_keeps (assigns_element {scope = scope} {bracket = bracket} {text = text} {index = index} {array = array} is has (of_call {c = c} value) suit flow) names n ready x spares m =
+    statement_keeps (assigns_element {scope = scope} {bracket = bracket} {text = text} {index = index} {array = array}
+        is has (of_call {c = c} value) suit flow) names n ready x spares m =
         let low = spares.below in
         let next = flat_meaning.with_value m n (value_in m (term names index) ∷ []) in
         let given = value_given (call_value (callables earlier c.name) names (n + 1) c.arguments) in
-        behind (call_block (callables earlier c.name) names (n + 1) c.arguments) (flat.put bracket (number_of names text) (size_of names text) (flat.variable n) given) x next
+        behind (call_block (callables earlier c.name) names (n + 1) c.arguments)
+        (flat.put bracket (number_of names text) (size_of names text) (flat.variable n) given) x next
         (λ t. with_value-other t (number_of names text) x _ (other_array scope names n ready x spares text array is))
-        ((call_means earlier scope names (n + 1) (ready_later n (n + 1) (omega arith) ready) value).keeps x (spares_later names n (n + 1) x (omega arith) spares) next)
+        ((call_means earlier scope names (n + 1) (ready_later n (n + 1) (omega arith) ready) value).keeps x
+        (spares_later names n (n + 1) x (omega arith) spares) next)
         ∙ with_value-other m n x (value_in m (term names index) ∷ []) (λ q. omega arith)
     statement_keeps (calls {scope = scope} {c = c} is) names n ready x spares m =
         let tree = call_block (callables earlier c.name) names n c.arguments in
@@ -122,16 +145,23 @@ module _ (earlier : List ProcedureTree) where
         ∙ (dropped_keeps k x (omega arith) result value (after_all m tree) ∙ (call_means earlier scope names n ready is).keeps x spares m)
     statement_keeps (chooses {condition = condition} {accepted = accepted} {otherwise = otherwise} has one other) names n ready x spares m =
         let k = n + numbers_taken_all (callables earlier) accepted in
-        either_arm (value_in m (term names condition) == 0) x (after_all m (block (callables earlier) names n accepted)) (after_all m (block (callables earlier) names k otherwise)) m
-        (block_keeps one names n ready x spares m) (block_keeps other names k (ready_later n k (omega arith) ready) x (spares_later names n k x (omega arith) spares) m)
+        either_arm (value_in m (term names condition) == 0) x (after_all m (block (callables earlier) names n accepted))
+        (after_all m (block (callables earlier) names k otherwise)) m
+        (block_keeps one names n ready x spares m)
+        (block_keeps other names k (ready_later n k (omega arith) ready) x
+        (spares_later names n k x (omega arith) spares) m)
     statement_keeps (repeats {text = text} {low = low} {high = high} {body = body} one other new inner) names n ready x spares m =
         let own = word_as counter_type false in
         let inside = naming names text n own in
         let under = spares.below in
-        turns_keep x (value_in m (term names high) - value_in m (term names low)) (value_in m (term names low)) (λ i t. after_all (flat_meaning.with_value t n (i ∷ [])) (block (callables earlier) inside (n + 1) body))
-        (λ i t. block_keeps inner inside (n + 1) (ready_declared n ready text own new) x (spares_named names n x spares text n (n + 1) own (omega arith) (omega arith)) (flat_meaning.with_value t n (i ∷ [])) ∙ with_value-other t n x (i ∷ []) (λ q. omega arith)) m
+        turns_keep x (value_in m (term names high) - value_in m (term names low)) (value_in m (term names low))
+        (λ i t. after_all (flat_meaning.with_value t n (i ∷ [])) (block (callables earlier) inside (n + 1) body))
+        (λ i t. block_keeps inner inside (n + 1) (ready_declared n ready text own new) x
+        (spares_named names n x spares text n (n + 1) own (omega arith) (omega arith))
+        (flat_meaning.with_value t n (i ∷ [])) ∙ with_value-other t n x (i ∷ []) (λ q. omega arith)) m
 
-    pub block_keeps : {scope : Scope} {control : Label} {b : BlockTree} → AreWellTyped earlier scope control b → (names : Numbers) (n : ℕ) → Ready earlier scope names n → (x : ℕ) → Spares names n x → (m : Values)
+    pub block_keeps : {scope : Scope} {control : Label} {b : BlockTree} → AreWellTyped earlier scope control b
+        → (names : Numbers) (n : ℕ) → Ready earlier scope names n → (x : ℕ) → Spares names n x → (m : Values)
         → after_all m (block (callables earlier) names n b) x ≡ m x
     block_keeps no_statement names n ready x spares m = refl
     block_keeps (one_more {statement = s} {rest = rest} here there) names n ready x spares m =
@@ -139,5 +169,6 @@ module _ (earlier : List ProcedureTree) where
         let tree = statement (callables earlier) names n s in
         let more = block (callables earlier) (names_after (callables earlier) names n s) k rest in
         ap (λ (end : Values). end x) (after_chain tree more m)
-        ∙ (block_keeps there (names_after (callables earlier) names n s) k (ready_after earlier here names n ready) x (spares_after earlier here names n x spares) (after_all m tree)
+        ∙ (block_keeps there (names_after (callables earlier) names n s) k (ready_after earlier here names n ready) x
+        (spares_after earlier here names n x spares) (after_all m tree)
         ∙ statement_keeps here names n ready x spares m)

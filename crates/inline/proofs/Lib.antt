@@ -35,6 +35,6 @@ pub mod NumberingLemmas
 pub mod Measures
 pub mod CallLemmas
 mod SizeLemmas
-mod CountLemmas
-mod LimitLemmas
+pub mod CountLemmas
+mod MeasureLemmas
 pub mod Face

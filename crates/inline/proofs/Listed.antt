@@ -33,7 +33,8 @@ get_right (x ∷ xs) ys i =
     let same : length (x ∷ xs) + i ≡ suc (length xs + i) = omega arith in
     ap (slice_get (x ∷ xs ++ ys)) same ∙ get_right xs ys i
 
-pub lists_first : (all : List FlatVariable) (n : ℕ) (d : FlatVariable) (ds : List FlatVariable) → Lists all n (d ∷ ds) → slice_get all n ≡ Some d
+pub lists_first : (all : List FlatVariable) (n : ℕ) (d : FlatVariable) (ds : List FlatVariable) → Lists all n (d ∷ ds)
+    → slice_get all n ≡ Some d
 lists_first all n d ds lists = ap (slice_get all) (omega arith) ∙ lists 0 d refl
 
 pub lists_left : (all : List FlatVariable) (n : ℕ) (xs ys : List FlatVariable) → Lists all n (xs ++ ys) → Lists all n xs
@@ -78,10 +79,12 @@ takes_one : (n : ℕ) (s : FlatTree) → IsNumbered n s → declarations_in s �
 takes_one n s is one = record { numbered = (is, tt); counted = omega (arith, one) }
 
 -- the names in scope go on with further types
-pub passed_over : (scope : Scope) (names : Numbers) (types : Types) (n : ℕ) (b : FlatBlock) (count : ℕ) → Takes n b count → Linked scope names types n → Linked scope names (types_after_all types b) (n + count)
+pub passed_over : (scope : Scope) (names : Numbers) (types : Types) (n : ℕ) (b : FlatBlock) (count : ℕ)
+    → Takes n b count → Linked scope names types n → Linked scope names (types_after_all types b) (n + count)
 passed_over scope names types n b count takes linked =
     let same = takes.counted in
-    widened scope names types (types_after_all types b) n (n + count) (omega arith) (types_observed types b) (types_before types n b takes.numbered)
+    widened scope names types (types_after_all types b) n (n + count) (omega arith) (types_observed types b)
+    (types_before types n b takes.numbered)
     (λ x high. types_behind types n b takes.numbered x (omega (arith, same, high)) ∙ linked.fresh x (omega (arith, high))) linked
 
 -- Calls.
@@ -90,13 +93,17 @@ passed_over scope names types n b count takes linked =
 abbrev pub IsCounted : Callable → Type 0
 IsCounted c = (names : Numbers) (n : ℕ) → Takes n (c.body names n) (length c.declared)
 
-pub passed_takes : (names : Numbers) (n : ℕ) (ps : List ParameterTree) (es : List ExprTree) → Takes n (passed names n ps es) (length (passed_variables ps es))
+pub passed_takes : (names : Numbers) (n : ℕ) (ps : List ParameterTree) (es : List ExprTree)
+    → Takes n (passed names n ps es) (length (passed_variables ps es))
 passed_takes names n [] es = record { numbered = tt; counted = refl }
 passed_takes names n (p ∷ ps) [] = record { numbered = tt; counted = refl }
 passed_takes names n (p ∷ ps) (e ∷ es) = by_form (is_word p.form) (passed_takes names (n + 1) ps es) (passed_takes names n ps es)
   where
-    by_form : (b : Bool) → Takes (n + 1) (passed names (n + 1) ps es) (length (passed_variables ps es)) → Takes n (passed names n ps es) (length (passed_variables ps es))
-        → Takes n (if b then flat.first (flat.declare n (labelled p.kind p.label) false (term names e)) (passed names (n + 1) ps es) else passed names n ps es) (length (if b then own_variable p ∷ passed_variables ps es else passed_variables ps es))
+    by_form : (b : Bool) → Takes (n + 1) (passed names (n + 1) ps es) (length (passed_variables ps es))
+        → Takes n (passed names n ps es) (length (passed_variables ps es))
+        → Takes n (if b then flat.first (flat.declare n (labelled p.kind p.label) false (term names e))
+        (passed names (n + 1) ps es) else passed names n ps es)
+        (length (if b then own_variable p ∷ passed_variables ps es else passed_variables ps es))
     by_form true one other =
         let count = one.counted in
         record { numbered = (refl, one.numbered); counted = omega (arith, count) }
@@ -108,10 +115,13 @@ module _ (names : Numbers) (es : List ExprTree) where
   call_takes n (Some c) is =
       let words = passed_variables c.parameters es in
       let count = length-append words c.declared in
-      let whole = takes_chain n (passed names n c.parameters es) (c.body (call_names names n c es) (call_start n c es)) (length words) (length c.declared) (passed_takes names n c.parameters es) (is (call_names names n c es) (call_start n c es)) in
+      let whole = takes_chain n (passed names n c.parameters es) (c.body (call_names names n c es) (call_start n c es))
+      (length words) (length c.declared) (passed_takes names n c.parameters es)
+      (is (call_names names n c es) (call_start n c es)) in
       subst (Takes n (call_block (Some c) names n es)) (sym count) whole
 
-dropped_takes : (n : ℕ) (result : Option WordType) (value : Option TermTree) → Takes n (dropped_block n result value) (length (dropped_variables result))
+dropped_takes : (n : ℕ) (result : Option WordType) (value : Option TermTree)
+    → Takes n (dropped_block n result value) (length (dropped_variables result))
 dropped_takes n None value = record { numbered = tt; counted = refl }
 dropped_takes n (Some word) value = takes_one n (flat.declare n word false (value_given value)) refl refl
 
@@ -125,21 +135,31 @@ module _ (known : Callables) (counted : AllKnown IsCounted known) where
       let count = length (call_variables (known c.name) c.arguments) in
       let same : count + 0 ≡ count = omega arith in
       takes_skip n (chain body (single flat.skip)) count
-      (subst (Takes n (chain body (single flat.skip))) same (takes_chain n body (single flat.skip) count 0 (call_takes names c.arguments n (known c.name) (counted c.name)) (takes_none (n + count) flat.skip tt refl)))
+      (subst (Takes n (chain body (single flat.skip))) same
+      (takes_chain n body (single flat.skip) count 0
+      (call_takes names c.arguments n (known c.name) (counted c.name)) (takes_none (n + count) flat.skip tt refl)))
 
   -- a right side, and a statement behind it that declares nothing
-  then_none : (names : Numbers) (n : ℕ) (r : RightTree) (s : FlatTree) → IsNumbered (right_end known n r) s → declarations_in s ≡ 0 → Takes n (chain (right_block known names n r) (single s)) (length (right_variables known r))
+  then_none : (names : Numbers) (n : ℕ) (r : RightTree) (s : FlatTree) → IsNumbered (right_end known n r) s
+      → declarations_in s ≡ 0 → Takes n (chain (right_block known names n r) (single s))
+      (length (right_variables known r))
   then_none names n r s is none =
       let count = length (right_variables known r) in
       let same : count + 0 ≡ count = omega arith in
-      subst (Takes n (chain (right_block known names n r) (single s))) same (takes_chain n (right_block known names n r) (single s) count 0 (right_takes names n r) (takes_none (n + count) s is none))
+      subst (Takes n (chain (right_block known names n r) (single s))) same
+      (takes_chain n (right_block known names n r) (single s) count 0 (right_takes names n r)
+      (takes_none (n + count) s is none))
 
-  element_takes : (names : Numbers) (n : ℕ) (bracket : Place) (text : List ℕ) (index : ExprTree) (r : RightTree) → Takes n (element_block known names n bracket text index r) (length (element_variables known r))
+  element_takes : (names : Numbers) (n : ℕ) (bracket : Place) (text : List ℕ) (index : ExprTree) (r : RightTree)
+      → Takes n (element_block known names n bracket text index r) (length (element_variables known r))
   element_takes names n bracket text index (computed e) = record { numbered = (tt, tt); counted = refl }
   element_takes names n bracket text index (called c) =
       let body = call_block (known c.name) names (n + 1) c.arguments in
-      let last = single (flat.put bracket (number_of names text) (size_of names text) (flat.variable n) (value_given (call_value (known c.name) names (n + 1) c.arguments))) in
-      let whole = takes_chain (n + 1) body last (length (call_variables (known c.name) c.arguments)) 0 (call_takes names c.arguments (n + 1) (known c.name) (counted c.name)) (record { numbered = (tt, tt); counted = refl }) in
+      let last = single (flat.put bracket (number_of names text) (size_of names text) (flat.variable n)
+      (value_given (call_value (known c.name) names (n + 1) c.arguments))) in
+      let whole = takes_chain (n + 1) body last (length (call_variables (known c.name) c.arguments)) 0
+      (call_takes names c.arguments (n + 1) (known c.name) (counted c.name))
+      (record { numbered = (tt, tt); counted = refl }) in
       let count = whole.counted in
       record { numbered = (refl, whole.numbered); counted = omega (arith, count) }
 
@@ -150,10 +170,12 @@ module _ (known : Callables) (counted : AllKnown IsCounted known) where
         let m = right_end known n value in
         let vars = right_variables known value in
         let last = flat.declare m (labelled kind label) mutable (right known names n value) in
-        let whole = takes_chain n (right_block known names n value) (single last) (length vars) 1 (right_takes names n value) (takes_one m last refl refl) in
+        let whole = takes_chain n (right_block known names n value) (single last) (length vars) 1
+        (right_takes names n value) (takes_one m last refl refl) in
         subst (Takes n (chain (right_block known names n value) (single last))) (sym (length-append vars (own ∷ []))) whole
     statement_takes names n (array place label mutable kind size text values) = takes_one n _ refl refl
-    statement_takes names n (assignment place target text value) = then_none names n value (flat.assign (number_of names text) (right known names n value)) tt refl
+    statement_takes names n (assignment place target text value) =
+        then_none names n value (flat.assign (number_of names text) (right known names n value)) tt refl
     statement_takes names n (element_assignment place bracket target text index value) = element_takes names n bracket text index value
     statement_takes names n (call c) =
         let o = known c.name in
@@ -161,8 +183,11 @@ module _ (known : Callables) (counted : AllKnown IsCounted known) where
         let dropped = dropped_variables (call_result o) in
         let body = call_block o names n c.arguments in
         let last = dropped_block (n + length vars) (call_result o) (call_value o names n c.arguments) in
-        let whole = takes_chain n body last (length vars) (length dropped) (call_takes names c.arguments n o (counted c.name)) (dropped_takes (n + length vars) (call_result o) (call_value o names n c.arguments)) in
-        takes_skip n (chain body last) (length (vars ++ dropped)) (subst (Takes n (chain body last)) (sym (length-append vars dropped)) whole)
+        let whole = takes_chain n body last (length vars) (length dropped)
+        (call_takes names c.arguments n o (counted c.name))
+        (dropped_takes (n + length vars) (call_result o) (call_value o names n c.arguments)) in
+        takes_skip n (chain body last) (length (vars ++ dropped))
+        (subst (Takes n (chain body last)) (sym (length-append vars dropped)) whole)
     statement_takes names n (conditional place condition accepted otherwise) =
         let m = n + numbers_taken_all known accepted in
         let a = block_takes names n accepted in
@@ -184,8 +209,10 @@ module _ (known : Callables) (counted : AllKnown IsCounted known) where
     block_takes names n (first s rest) =
         let m = n + numbers_taken known s in
         let next = names_after known names n s in
-        let whole = takes_chain n (statement known names n s) (block known next m rest) (numbers_taken known s) (numbers_taken_all known rest) (statement_takes names n s) (block_takes next m rest) in
-        subst (Takes n (chain (statement known names n s) (block known next m rest))) (sym (length-append (declared_in known s) (declared_in_all known rest))) whole
+        let whole = takes_chain n (statement known names n s) (block known next m rest) (numbers_taken known s)
+        (numbers_taken_all known rest) (statement_takes names n s) (block_takes next m rest) in
+        subst (Takes n (chain (statement known names n s) (block known next m rest)))
+        (sym (length-append (declared_in known s) (declared_in_all known rest))) whole
 
 -- of procedures that may be called
 pub all_counted : (before : List ProcedureTree) → AllKnown IsCounted (callables before)

@@ -28,13 +28,18 @@ pub next_number : (old new more : List FlatVariable) → new ≡ old ++ more →
 next_number old new more is = ap length is ∙ length-append old more
 
 -- one more statement, and what comes after it
-module _ (known : Callables) (names between : Numbers) (old new : List FlatVariable) (s : StatementTree) (rest : BlockTree) (named : between ≡ names_after known names (length old) s) (more : new ≡ old ++ declared_in known s) where
+module _ (known : Callables) (names between : Numbers) (old new : List FlatVariable) (s : StatementTree)
+    (rest : BlockTree) (named : between ≡ names_after known names (length old) s)
+    (more : new ≡ old ++ declared_in known s) where
   next : length new ≡ length old + numbers_taken known s
   next = next_number old new (declared_in known s) more
 
-  pub one_more : (done all : FlatBlock) → all ≡ chain done (statement known names (length old) s) → chain all (block known between (length new) rest) ≡ chain done (block known names (length old) (source.first s rest))
+  pub one_more : (done all : FlatBlock) → all ≡ chain done (statement known names (length old) s)
+      → chain all (block known between (length new) rest) ≡ chain done
+      (block known names (length old) (source.first s rest))
   one_more done all is =
-      behind done all (chain all (block known between (length new) rest)) (statement known names (length old) s) (block known between (length new) rest) is refl
+      behind done all (chain all (block known between (length new) rest)) (statement known names (length old) s)
+      (block known between (length new) rest) is refl
       ∙ ap (λ b. chain done (chain (statement known names (length old) s) b)) (ap₂ (λ ns n. block known ns n rest) named next)
 
   pub more_names : names_after_all known between (length new) rest ≡ names_after_all known names (length old) (source.first s rest)
@@ -65,16 +70,21 @@ declared_more names text what = by (is_some (found names text)) refl
     by true is = rw is ([], sym (append-nil names))
     by false is = rw is ((text, what) ∷ [], refl)
 
-after_more : (known : Callables) (names : Numbers) (n : ℕ) (s : StatementTree) → (more : Numbers) × (names_after known names n s ≡ names ++ more)
-after_more known names n (declaration place label mutable kind text value) = declared_more names text (record { number = right_end known n value; declaration = word_as (labelled kind label) mutable })
+after_more : (known : Callables) (names : Numbers) (n : ℕ) (s : StatementTree) → (more : Numbers)
+    × (names_after known names n s ≡ names ++ more)
+after_more known names n (declaration place label mutable kind text value) =
+    declared_more names text (record
+    { number = right_end known n value; declaration = word_as (labelled kind label) mutable })
 after_more known names n (assignment place target text value) = ([], sym (append-nil names))
-after_more known names n (source.array place label mutable kind size text values) = declared_more names text (record { number = n; declaration = array_as (labelled kind label) mutable size })
+after_more known names n (source.array place label mutable kind size text values) =
+    declared_more names text (record { number = n; declaration = array_as (labelled kind label) mutable size })
 after_more known names n (source.element_assignment place bracket target text index right) = ([], sym (append-nil names))
 after_more known names n (source.call c) = ([], sym (append-nil names))
 after_more known names n (source.loop place counter text low high body) = ([], sym (append-nil names))
 after_more known names n (conditional place condition accepted otherwise) = ([], sym (append-nil names))
 
-all_more : (known : Callables) (b : BlockTree) (names : Numbers) (n : ℕ) → (more : Numbers) × (names_after_all known names n b ≡ names ++ more)
+all_more : (known : Callables) (b : BlockTree) (names : Numbers) (n : ℕ) → (more : Numbers)
+    × (names_after_all known names n b ≡ names ++ more)
 all_more known source.nothing names n = ([], sym (append-nil names))
 all_more known (source.first s rest) names n =
     let one = after_more known names n s in
@@ -82,43 +92,59 @@ all_more known (source.first s rest) names n =
     (one.0 ++ others.0, others.1 ∙ ap (λ front. front ++ others.0) one.1 ∙ append_assoc names one.0 others.0)
 
 -- the names before a block are the earliest of those after it
-pub names_before : (known : Callables) (names : Numbers) (n : ℕ) (b : BlockTree) → take (length names) (names_after_all known names n b) ≡ names
+pub names_before : (known : Callables) (names : Numbers) (n : ℕ) (b : BlockTree)
+    → take (length names) (names_after_all known names n b) ≡ names
 names_before known names n b =
     let after = all_more known b names n in
     ap (take (length names)) after.1 ∙ take-append_seam names after.0
 
 -- so are those before a loop
-pub names_before_loop : (known : Callables) (names : Numbers) (n k : ℕ) (text : List ℕ) (d : FlatVariable) (b : BlockTree) → take (length names) (names_after_all known (naming names text n d) k b) ≡ names
+pub names_before_loop : (known : Callables) (names : Numbers) (n k : ℕ) (text : List ℕ) (d : FlatVariable)
+    (b : BlockTree) → take (length names) (names_after_all known (naming names text n d) k b) ≡ names
 names_before_loop known names n k text d b =
     let one = declared_more names text (record { number = n; declaration = d }) in
     let after = all_more known b (naming names text n d) k in
-    ap (take (length names)) (after.1 ∙ ap (λ front. front ++ after.0) one.1 ∙ append_assoc names one.0 after.0) ∙ take-append_seam names (one.0 ++ after.0)
+    ap (take (length names)) (after.1 ∙ ap (λ front. front ++ after.0) one.1 ∙ append_assoc names one.0 after.0)
+    ∙ take-append_seam names (one.0 ++ after.0)
 
 -- a conditional of flat arms
-pub numbered_branch : (known : Callables) (names between : Numbers) (old new : List FlatVariable) (e : ExprTree) (ones others : BlockTree) (label : Label) (value : Term) (flat_ones flat_others : Vec FlatStatement Global) →
+pub numbered_branch : (known : Callables) (names between : Numbers) (old new : List FlatVariable) (e : ExprTree)
+    (ones others : BlockTree) (label : Label) (value : Term) (flat_ones flat_others : Vec FlatStatement Global) →
     label ≡ label_in names e → term_tree value ≡ term names e → flat_block flat_ones.items ≡ block known names (length old) ones →
     between ≡ names → new ≡ old ++ declared_in_all known ones → flat_block flat_others.items ≡ block known between (length new) others →
-    single (flat_tree (Branch label value flat_ones flat_others)) ≡ single (flat.branch (label_in names e) (term names e) (block known names (length old) ones) (block known names (length old + numbers_taken_all known ones) others))
+    single (flat_tree (Branch label value flat_ones flat_others))
+    ≡ single (flat.branch (label_in names e) (term names e) (block known names (length old) ones)
+    (block known names (length old + numbers_taken_all known ones) others))
 numbered_branch known names between old new e ones others label value flat_ones flat_others l v a same more o =
     let next = next_number old new (declared_in_all known ones) more in
-    let other : flat_block flat_others.items ≡ block known names (length old + numbers_taken_all known ones) others = o ∙ ap₂ (λ ns n. block known ns n others) same next in
-    ap single (branch_tree label value flat_ones flat_others ∙ ap₂ (λ k t. flat.branch k t (flat_block flat_ones.items) (flat_block flat_others.items)) l v
+    let other : flat_block flat_others.items ≡ block known names (length old + numbers_taken_all known ones) others = o
+    ∙ ap₂ (λ ns n. block known ns n others) same next in
+    ap single (branch_tree label value flat_ones flat_others ∙ ap₂
+    (λ k t. flat.branch k t (flat_block flat_ones.items) (flat_block flat_others.items)) l v
     ∙ ap₂ (flat.branch (label_in names e) (term names e)) a other)
 
 -- a loop of a flat body
-pub numbered_turns : (known : Callables) (names inner : Numbers) (old new : List FlatVariable) (text : List ℕ) (d : FlatVariable) (body : BlockTree) (x : ℕ) (lo hi : ExprTree) (low high : Term)
+pub numbered_turns : (known : Callables) (names inner : Numbers) (old new : List FlatVariable) (text : List ℕ)
+    (d : FlatVariable) (body : BlockTree) (x : ℕ) (lo hi : ExprTree) (low high : Term)
     (start : List FlatStatement) (turn : Vec FlatStatement Global) →
-    x ≡ length old → inner ≡ naming names text (length old) d → new ≡ old ++ d ∷ [] → start ≡ [] → flat_block turn.items ≡ chain (flat_block start) (block known inner (length new) body) →
+    x ≡ length old → inner ≡ naming names text (length old) d → new ≡ old ++ d ∷ [] → start ≡ []
+    → flat_block turn.items ≡ chain (flat_block start) (block known inner (length new) body) →
     term_tree low ≡ term names lo → term_tree high ≡ term names hi →
-    single (flat_tree (Loop x low high turn)) ≡ single (flat.loop (length old) (term names lo) (term names hi) (block known (naming names text (length old) d) (length old + 1) body))
+    single (flat_tree (Loop x low high turn)) ≡ single
+    (flat.loop (length old) (term names lo) (term names hi)
+    (block known (naming names text (length old) d) (length old + 1) body))
 numbered_turns known names inner old new text d body x lo hi low high start turn number begins more empty inside l h =
     let next = next_number old new (d ∷ []) more in
     let turns : flat_block turn.items ≡ block known (naming names text (length old) d) (length old + 1) body =
-    inside ∙ ap (λ ss. chain (flat_block ss) (block known inner (length new) body)) empty ∙ ap₂ (λ ns n. block known ns n body) begins next in
+    inside ∙ ap (λ ss. chain (flat_block ss) (block known inner (length new) body)) empty
+    ∙ ap₂ (λ ns n. block known ns n body) begins next in
     ap single (flat_loop_tree x low high turn ∙ ap₂ (λ k t. flat.loop k t (term_tree high) (flat_block turn.items)) number l
     ∙ ap₂ (flat.loop (length old) (term names lo)) h turns)
 
 -- a result that is held
-pub numbered_dropped : (n number : ℕ) (result : Option WordType) (word : WordType) (given : Option TermTree) (value : TermTree) → result ≡ Some word → number ≡ n → value ≡ value_given given →
+pub numbered_dropped : (n number : ℕ) (result : Option WordType) (word : WordType) (given : Option TermTree)
+    (value : TermTree) → result ≡ Some word → number ≡ n → value ≡ value_given given →
     single (flat.declare number word false value) ≡ dropped_block n result given
-numbered_dropped n number result word given value is same gives = ap₂ (λ k v. single (flat.declare k word false v)) same gives ∙ sym (ap (λ (o : Option WordType). dropped_block n o given) is)
+numbered_dropped n number result word given value is same gives =
+    ap₂ (λ k v. single (flat.declare k word false v)) same gives
+    ∙ sym (ap (λ (o : Option WordType). dropped_block n o given) is)

@@ -54,9 +54,11 @@ typed_with types n [] = types
 typed_with types n (d ∷ ds) = typed_with (with_type types n d) (n + 1) ds
 
 -- names of the one list keep what they stand for in a longer one
-pub kept_parameters : (ps : List ParameterTree) (names : Numbers) (n : ℕ) (text : List ℕ) (x : Numbered) → found names text ≡ Some x → found (numbering.with_parameters names n ps) text ≡ Some x
+pub kept_parameters : (ps : List ParameterTree) (names : Numbers) (n : ℕ) (text : List ℕ) (x : Numbered)
+    → found names text ≡ Some x → found (numbering.with_parameters names n ps) text ≡ Some x
 kept_parameters [] names n text x is = is
-kept_parameters (p ∷ ps) names n text x is = kept_parameters ps (naming names p.name n (own p)) (n + 1) text x (found-kept names p.name (entry n (own p)) text x is)
+kept_parameters (p ∷ ps) names n text x is = kept_parameters ps (naming names p.name n (own p)) (n + 1) text x
+    (found-kept names p.name (entry n (own p)) text x is)
 
 -- each parameter's name has its number
 abbrev pub Named : Numbers → ℕ → List ParameterTree → Type 0
@@ -70,32 +72,42 @@ pub record Begins (scope : Scope) (names : Numbers) (types : Types) (n : ℕ) (p
 pub itself : (text : List ℕ) → bytes_eq text text ≡ true
 itself text = (bytes_decides text text).1 refl
 
-begins : (ps : List ParameterTree) (scope : Scope) (names : Numbers) (types : Types) (n : ℕ) → AreNew scope ps → Linked scope names types n → Begins scope names types n ps
+begins : (ps : List ParameterTree) (scope : Scope) (names : Numbers) (types : Types) (n : ℕ) → AreNew scope ps
+    → Linked scope names types n → Begins scope names types n ps
 begins [] scope names types n new linked =
     let same : n ≡ n + 0 = omega arith in
     record { linked = subst (Linked scope names types) same linked; named = tt }
 begins (p ∷ ps) scope names types n (one_is_new here there) linked =
-    let next = subst (λ d. Linked (declared scope p.name d) (naming names p.name n (own p)) (with_type types n (own p)) (n + 1)) (parameter_same p) (linked_declared scope names types n linked p.name (own p) here) in
+    let next = subst (λ d. Linked (declared scope p.name d) (naming names p.name n (own p)) (with_type types n (own p))
+    (n + 1)) (parameter_same p) (linked_declared scope names types n linked p.name (own p) here) in
     let rest = begins ps _ (naming names p.name n (own p)) (with_type types n (own p)) (n + 1) there next in
     let same : (n + 1) + length ps ≡ n + length (p ∷ ps) = omega arith in
     record {
-      linked = subst (Linked (with_parameters scope (p ∷ ps)) (numbering.with_parameters names n (p ∷ ps)) (typed_with types n (all_own (p ∷ ps)))) same rest.linked;
-      named = (kept_parameters ps (naming names p.name n (own p)) (n + 1) p.name (entry n (own p)) (found-new names p.name (entry n (own p)) p.name (itself p.name) (linked.none p.name here)), rest.named);
+      linked = subst (Linked (with_parameters scope (p ∷ ps)) (numbering.with_parameters names n (p ∷ ps))
+          (typed_with types n (all_own (p ∷ ps)))) same rest.linked;
+      named = (
+        kept_parameters ps (naming names p.name n (own p)) (n + 1) p.name (entry n (own p))
+            (found-new names p.name (entry n (own p)) p.name (itself p.name) (linked.none p.name here)),
+        rest.named,
+      );
     }
 
 -- the types by number
 before_all : (ds : List FlatVariable) (types : Types) (n x : ℕ) → x < n → (typed_with types n ds).at x ≡ types.at x
 before_all [] types n x low = refl
-before_all (d ∷ ds) types n x low = before_all ds (with_type types n d) (n + 1) x (omega arith) ∙ with_type-other types n x d (λ q. omega arith)
+before_all (d ∷ ds) types n x low = before_all ds (with_type types n d) (n + 1) x (omega arith)
+    ∙ with_type-other types n x d (λ q. omega arith)
 
-from_all : (ds : List FlatVariable) (types : Types) (n i : ℕ) → ((x : ℕ) → n ≤ x → types.at x ≡ None) → (typed_with types n ds).at (n + i) ≡ slice_get ds i
+from_all : (ds : List FlatVariable) (types : Types) (n i : ℕ) → ((x : ℕ) → n ≤ x → types.at x ≡ None)
+    → (typed_with types n ds).at (n + i) ≡ slice_get ds i
 from_all [] types n i fresh = fresh (n + i) (omega arith)
 from_all (d ∷ ds) types n zero fresh =
     let same : n + 0 ≡ n = omega arith in
     ap (typed_with types n (d ∷ ds)).at same ∙ (before_all ds (with_type types n d) (n + 1) n (omega arith) ∙ with_type-same types n d)
 from_all (d ∷ ds) types n (suc i) fresh =
     let same : n + suc i ≡ (n + 1) + i = omega arith in
-    ap (typed_with types n (d ∷ ds)).at same ∙ from_all ds (with_type types n d) (n + 1) i (λ x high. with_type-other types n x d (λ q. omega arith) ∙ fresh x (omega arith))
+    ap (typed_with types n (d ∷ ds)).at same ∙ from_all ds (with_type types n d) (n + 1) i
+    (λ x high. with_type-other types n x d (λ q. omega arith) ∙ fresh x (omega arith))
 
 -- and the observer
 observed_all : (ds : List FlatVariable) (types : Types) (n : ℕ) → (typed_with types n ds).profile ≡ types.profile
@@ -111,15 +123,18 @@ types_same profile ds x =
     ap (typed_with (no_types profile) 0 ds).at same ∙ from_all ds (no_types profile) 0 x (λ y high. refl)
 
 -- types that are equal everywhere serve as well
-retyped : (scope : Scope) (names : Numbers) (types others : Types) (n : ℕ) → types.profile ≡ others.profile → ((x : ℕ) → types.at x ≡ others.at x) → Linked scope names types n → Linked scope names others n
+retyped : (scope : Scope) (names : Numbers) (types others : Types) (n : ℕ) → types.profile ≡ others.profile
+    → ((x : ℕ) → types.at x ≡ others.at x) → Linked scope names types n → Linked scope names others n
 retyped scope names types others n one same linked =
-    widened scope names types others n n (omega arith) (sym one) (λ x low. sym (same x)) (λ x high. sym (same x) ∙ linked.fresh x high) linked
+    widened scope names types others n n (omega arith) (sym one) (λ x low. sym (same x))
+    (λ x high. sym (same x) ∙ linked.fresh x high) linked
 
 -- no variable stands in a scope of procedures
 abbrev pub NoVariables : Scope → Type 0
 NoVariables scope = (text : List ℕ) (v : VariableType) → found scope.names text ≢ Some (Variable v)
 
-pub where_begun : (profile : Profile) (scope : Scope) → scope.profile ≡ profile → NoVariables scope → (ps : List ParameterTree) → AreNew scope ps → Begins scope [] (no_types profile) 0 ps
+pub where_begun : (profile : Profile) (scope : Scope) → scope.profile ≡ profile → NoVariables scope
+    → (ps : List ParameterTree) → AreNew scope ps → Begins scope [] (no_types profile) 0 ps
 where_begun profile scope observed none ps new = begins ps scope [] (no_types profile) 0 new (record {
   observed = sym observed;
   known = λ text v is. absurd (none text v is);
@@ -129,18 +144,22 @@ where_begun profile scope observed none ps new = begins ps scope [] (no_types pr
   fresh = λ x high. refl;
 })
 
-pub linked_parameters : (profile : Profile) (scope : Scope) → scope.profile ≡ profile → NoVariables scope → (ps : List ParameterTree) → AreNew scope ps
+pub linked_parameters : (profile : Profile) (scope : Scope) → scope.profile ≡ profile → NoVariables scope
+    → (ps : List ParameterTree) → AreNew scope ps
     → Linked (with_parameters scope ps) (numbering.with_parameters [] 0 ps) (types_of profile (all_own ps)) (length ps)
 linked_parameters profile scope observed none ps new =
     let same : 0 + length ps ≡ length ps = omega arith in
     let types = typed_with (no_types profile) 0 (all_own ps) in
-    retyped (with_parameters scope ps) (numbering.with_parameters [] 0 ps) types (types_of profile (all_own ps)) (length ps) (observed_all (all_own ps) (no_types profile) 0) (types_same profile (all_own ps))
-    (subst (Linked (with_parameters scope ps) (numbering.with_parameters [] 0 ps) types) same (where_begun profile scope observed none ps new).linked)
+    retyped (with_parameters scope ps) (numbering.with_parameters [] 0 ps) types (types_of profile (all_own ps))
+    (length ps) (observed_all (all_own ps) (no_types profile) 0) (types_same profile (all_own ps))
+    (subst (Linked (with_parameters scope ps) (numbering.with_parameters [] 0 ps) types) same
+    (where_begun profile scope observed none ps new).linked)
 
 -- Arguments.
 
 -- an argument within the type is what its variable holds
-argument_held : (kind : Kind) (form : Form) (size : ℕ) (arg : Arg) → HasShape form size arg → Some (argument_value kind arg) ≡ Some (held kind (elements_by form size) (words_of arg))
+argument_held : (kind : Kind) (form : Form) (size : ℕ) (arg : Arg) → HasShape form size arg
+    → Some (argument_value kind arg) ≡ Some (held kind (elements_by form size) (words_of arg))
 argument_held kind SingleWord size (Word word) shape = refl
 argument_held kind SingleWord size (Array words) shape = absurd shape
 argument_held kind FixedArray size (Word word) shape = absurd shape
@@ -148,7 +167,8 @@ argument_held kind FixedArray size (Array words) shape = refl
 argument_held kind MutableArray size (Word word) shape = absurd shape
 argument_held kind MutableArray size (Array words) shape = refl
 
-pub argument_count : (form : Form) (size : ℕ) (arg : Arg) → HasShape form size arg → length (words_of arg) ≡ numbers_in (elements_by form size)
+pub argument_count : (form : Form) (size : ℕ) (arg : Arg) → HasShape form size arg
+    → length (words_of arg) ≡ numbers_in (elements_by form size)
 argument_count SingleWord size (Word word) shape = refl
 argument_count SingleWord size (Array words) shape = absurd shape
 argument_count FixedArray size (Word word) shape = absurd shape
@@ -160,31 +180,41 @@ argument_count MutableArray size (Array words) shape = shape
 record Passed (n : ℕ) (ps : List ParameterTree) (rest : List FlatVariable) (text : List ℕ) (x : Numbered) : Type 0 where
   pub index : ℕ
   pub number : x.number ≡ n + index
-  pub holds : (args : List Arg) → AreWithin (map param_of ps) args → Holds x.declaration (holding ps args text) (given (all_own ps ++ rest) args index)
+  pub holds : (args : List Arg) → AreWithin (map param_of ps) args
+      → Holds x.declaration (holding ps args text) (given (all_own ps ++ rest) args index)
 
-first_holds : (p : ParameterTree) (ps : List ParameterTree) (rest : List FlatVariable) (args : List Arg) (text : List ℕ) → bytes_eq text p.name ≡ true → AreWithin (map param_of (p ∷ ps)) args
+first_holds : (p : ParameterTree) (ps : List ParameterTree) (rest : List FlatVariable) (args : List Arg) (text : List ℕ)
+    → bytes_eq text p.name ≡ true → AreWithin (map param_of (p ∷ ps)) args
     → Holds (own p) (holding (p ∷ ps) args text) (given (all_own (p ∷ ps) ++ rest) args 0)
 first_holds p ps rest [] text e within = absurd within
 first_holds p ps rest (arg ∷ args) text e within = record {
-  is = ap (λ t. cond t (Some (argument_value p.kind arg)) (holding ps args text)) e ∙ argument_held p.kind p.form p.length arg within.0.shape;
+  is = ap (λ t. cond t (Some (argument_value p.kind arg)) (holding ps args text)) e
+      ∙ argument_held p.kind p.form p.length arg within.0.shape;
   count = argument_count p.form p.length arg within.0.shape;
 }
 
-later_holds : (p : ParameterTree) (ps : List ParameterTree) (rest : List FlatVariable) (args : List Arg) (text : List ℕ) (index : ℕ) (d : FlatVariable) → bytes_eq text p.name ≡ false → AreWithin (map param_of (p ∷ ps)) args
+later_holds : (p : ParameterTree) (ps : List ParameterTree) (rest : List FlatVariable) (args : List Arg) (text : List ℕ)
+    (index : ℕ) (d : FlatVariable) → bytes_eq text p.name ≡ false → AreWithin (map param_of (p ∷ ps)) args
     → ((more : List Arg) → AreWithin (map param_of ps) more → Holds d (holding ps more text) (given (all_own ps ++ rest) more index))
     → Holds d (holding (p ∷ ps) args text) (given (all_own (p ∷ ps) ++ rest) args (suc index))
 later_holds p ps rest [] text index d e within holds = absurd within
 later_holds p ps rest (arg ∷ args) text index d e within holds =
-    subst (λ o. Holds d o (given (all_own ps ++ rest) args index)) (sym (ap (λ t. cond t (Some (argument_value p.kind arg)) (holding ps args text)) e)) (holds args within.1)
+    subst (λ o. Holds d o (given (all_own ps ++ rest) args index))
+    (sym (ap (λ t. cond t (Some (argument_value p.kind arg)) (holding ps args text)) e)) (holds args within.1)
 
-passed : (ps : List ParameterTree) (names : Numbers) (n : ℕ) (rest : List FlatVariable) (text : List ℕ) (x : Numbered) → found names text ≡ None → found (numbering.with_parameters names n ps) text ≡ Some x → Passed n ps rest text x
+passed : (ps : List ParameterTree) (names : Numbers) (n : ℕ) (rest : List FlatVariable) (text : List ℕ) (x : Numbered)
+    → found names text ≡ None → found (numbering.with_parameters names n ps) text ≡ Some x → Passed n ps rest text x
 passed [] names n rest text x none is = absurd (none-some x (sym none ∙ is))
-passed (p ∷ ps) names n rest text x none is = by_name (bytes_eq text p.name) refl (λ old. passed ps (naming names p.name n (own p)) (n + 1) rest text x old is)
+passed (p ∷ ps) names n rest text x none is = by_name (bytes_eq text p.name) refl
+    (λ old. passed ps (naming names p.name n (own p)) (n + 1) rest text x old is)
   where
-    by_name : (b : Bool) → bytes_eq text p.name ≡ b → (found (naming names p.name n (own p)) text ≡ None → Passed (n + 1) ps rest text x) → Passed n (p ∷ ps) rest text x
+    by_name : (b : Bool) → bytes_eq text p.name ≡ b
+        → (found (naming names p.name n (own p)) text ≡ None → Passed (n + 1) ps rest text x)
+        → Passed n (p ∷ ps) rest text x
     by_name true e more =
         let new = ap (found names) (sym ((bytes_decides text p.name).0 e)) ∙ none in
-        let here = kept_parameters ps (naming names p.name n (own p)) (n + 1) text (entry n (own p)) (found-new names p.name (entry n (own p)) text e new) in
+        let here = kept_parameters ps (naming names p.name n (own p)) (n + 1) text (entry n (own p))
+        (found-new names p.name (entry n (own p)) text e new) in
         let same = same_Some (entry n (own p)) x (sym here ∙ is) in
         let zeroth : n ≡ n + 0 = omega arith in
         subst (Passed n (p ∷ ps) rest text) same (record { index = 0; number = zeroth; holds = λ args. first_holds p ps rest args text e })
@@ -192,10 +222,17 @@ passed (p ∷ ps) names n rest text x none is = by_name (bytes_eq text p.name) r
         let r = more (found-other names p.name (entry n (own p)) text e ∙ none) in
         let i = r.index in
         let same : (n + 1) + i ≡ n + suc i = omega arith in
-        record { index = suc r.index; number = r.number ∙ same; holds = λ args within. later_holds p ps rest args text r.index x.declaration e within r.holds }
+        record {
+          index = suc r.index;
+          number = r.number ∙ same;
+          holds = λ args within. later_holds p ps rest args text
+              r.index x.declaration e within r.holds;
+        }
 
 -- the parameters hold the arguments
-pub shows_arguments : (ps : List ParameterTree) (rest : List FlatVariable) (args : List Arg) → AreWithin (map param_of ps) args → Shows (numbering.with_parameters [] 0 ps) (holding ps args) (given (all_own ps ++ rest) args)
+pub shows_arguments : (ps : List ParameterTree) (rest : List FlatVariable) (args : List Arg)
+    → AreWithin (map param_of ps) args → Shows (numbering.with_parameters [] 0 ps) (holding ps args)
+    (given (all_own ps ++ rest) args)
 shows_arguments ps rest args within text x is =
     let r = passed ps [] 0 rest text x refl is in
     let i = r.index in
@@ -205,12 +242,14 @@ shows_arguments ps rest args within text x is =
 
 -- The `mut` arrays at the end.
 
-array_same : (kind : Kind) (form : Form) (size : ℕ) (o : Option Value) (numbers : List ℕ) → o ≡ Some (held kind (elements_by form size) numbers) → final_array form o ≡ array_of form numbers
+array_same : (kind : Kind) (form : Form) (size : ℕ) (o : Option Value) (numbers : List ℕ)
+    → o ≡ Some (held kind (elements_by form size) numbers) → final_array form o ≡ array_of form numbers
 array_same kind SingleWord size o numbers is = refl
 array_same kind FixedArray size o numbers is = refl
 array_same kind MutableArray size o numbers is = ap (final_array MutableArray) is
 
-pub arrays_same : (ps : List ParameterTree) (names : Numbers) (n : ℕ) (t : State) (m : Values) → Named names n ps → Shows names t m → final_arrays t ps ≡ arrays_from n (map param_of ps) m
+pub arrays_same : (ps : List ParameterTree) (names : Numbers) (n : ℕ) (t : State) (m : Values) → Named names n ps
+    → Shows names t m → final_arrays t ps ≡ arrays_from n (map param_of ps) m
 arrays_same [] names n t m named shows = refl
 arrays_same (p ∷ ps) names n t m named shows =
     ap (λ a. a ++ final_arrays t ps) (array_same p.kind p.form p.length (t p.name) (m n) (shows p.name (entry n (own p)) named.0).is)

@@ -25,17 +25,20 @@ module _ (names : Numbers) (n : ℕ) (p : ParameterTree) (ps : List ParameterTre
   passed_more = by (is_word p.form)
     where
       by : (word : Bool) →
-          (if word then flat.first (flat.declare n (labelled p.kind p.label) false (term names e)) (passed names (n + 1) ps es) else passed names n ps es)
+          (if word then flat.first (flat.declare n (labelled p.kind p.label) false (term names e))
+          (passed names (n + 1) ps es) else passed names n ps es)
           ≡ chain (if word then flat.first (flat.declare n (labelled p.kind p.label) false (term names e)) nothing else nothing)
           (passed names (n + length (if word then own_variable p ∷ [] else [])) ps es)
       by true = refl
       by false = ap (λ k. passed names k ps es) (same n)
 
-  begun_more : (own : Numbers) → begun names own n (p ∷ ps) (e ∷ es) ≡ begun names (begun names own n (p ∷ []) (e ∷ [])) (n + length one) ps es
+  begun_more : (own : Numbers) → begun names own n (p ∷ ps) (e ∷ es)
+      ≡ begun names (begun names own n (p ∷ []) (e ∷ [])) (n + length one) ps es
   begun_more own = by (is_word p.form)
     where
       by : (word : Bool) →
-          (if word then begun names (naming own p.name n (own_variable p)) (n + 1) ps es else begun names (naming own p.name (number_given names e) (own_variable p)) n ps es)
+          (if word then begun names (naming own p.name n (own_variable p)) (n + 1) ps es else begun names
+          (naming own p.name (number_given names e) (own_variable p)) n ps es)
           ≡ begun names (if word then naming own p.name n (own_variable p) else naming own p.name (number_given names e) (own_variable p))
           (n + length (if word then own_variable p ∷ [] else [])) ps es
       by true = refl
@@ -44,7 +47,8 @@ module _ (names : Numbers) (n : ℕ) (p : ParameterTree) (ps : List ParameterTre
   variables_more : passed_variables (p ∷ ps) (e ∷ es) ≡ one ++ passed_variables ps es
   variables_more = by (is_word p.form)
     where
-      by : (word : Bool) → (if word then own_variable p ∷ passed_variables ps es else passed_variables ps es) ≡ (if word then own_variable p ∷ [] else []) ++ passed_variables ps es
+      by : (word : Bool) → (if word then own_variable p ∷ passed_variables ps es else passed_variables ps es)
+          ≡ (if word then own_variable p ∷ [] else []) ++ passed_variables ps es
       by true = refl
       by false = refl
 
@@ -68,7 +72,8 @@ variables_without [] = refl
 variables_without (p ∷ ps) = refl
 
 -- what is done and what is left come to all of it
-pub record Passes (names : Numbers) (done : FlatBlock) (own : Numbers) (now : List FlatVariable) (ps : List ParameterTree) (es : List ExprTree)
+pub record Passes (names : Numbers) (done : FlatBlock) (own : Numbers) (now : List FlatVariable)
+    (ps : List ParameterTree) (es : List ExprTree)
     (whole : FlatBlock) (names_begun : Numbers) (variables : List FlatVariable) : Type 0 where
   pub block : chain done (passed names (length now) ps es) ≡ whole
   pub begins : begun names own (length now) ps es ≡ names_begun
@@ -76,26 +81,33 @@ pub record Passes (names : Numbers) (done : FlatBlock) (own : Numbers) (now : Li
 
 module _ {names : Numbers} {whole : FlatBlock} {names_begun : Numbers} {variables : List FlatVariable} where
   -- one more argument
-  passes_more : (done between : FlatBlock) (own next : Numbers) (old new : List FlatVariable) (p : ParameterTree) (ps : List ParameterTree) (e : ExprTree) (es : List ExprTree)
-      → between ≡ chain done (passed names (length old) (p ∷ []) (e ∷ [])) → next ≡ begun names own (length old) (p ∷ []) (e ∷ []) → new ≡ old ++ passed_variables (p ∷ []) (e ∷ [])
-      → Passes names done own old (p ∷ ps) (e ∷ es) whole names_begun variables → Passes names between next new ps es whole names_begun variables
+  passes_more : (done between : FlatBlock) (own next : Numbers) (old new : List FlatVariable) (p : ParameterTree)
+      (ps : List ParameterTree) (e : ExprTree) (es : List ExprTree)
+      → between ≡ chain done (passed names (length old) (p ∷ []) (e ∷ []))
+      → next ≡ begun names own (length old) (p ∷ []) (e ∷ []) → new ≡ old ++ passed_variables (p ∷ []) (e ∷ [])
+      → Passes names done own old (p ∷ ps) (e ∷ es) whole names_begun variables
+      → Passes names between next new ps es whole names_begun variables
   passes_more done between own next old new p ps e es is starts more all =
-      let number : length new ≡ length old + length (passed_variables (p ∷ []) (e ∷ [])) = ap length more ∙ length-append old (passed_variables (p ∷ []) (e ∷ [])) in
+      let number : length new ≡ length old + length (passed_variables (p ∷ []) (e ∷ [])) = ap length more
+      ∙ length-append old (passed_variables (p ∷ []) (e ∷ [])) in
       record {
         block = behind done between (chain between (passed names (length new) ps es)) _ (passed names (length new) ps es) is refl
             ∙ ap (λ k. chain done (chain (passed names (length old) (p ∷ []) (e ∷ [])) (passed names k ps es))) number
             ∙ ap (chain done) (sym (passed_more names (length old) p ps e es)) ∙ all.block;
         begins = ap₂ (λ o k. begun names o k ps es) starts number ∙ sym (begun_more names (length old) p ps e es own) ∙ all.begins;
-        declared = ap (λ ds. ds ++ passed_variables ps es) more ∙ append_assoc old (passed_variables (p ∷ []) (e ∷ [])) (passed_variables ps es)
+        declared = ap (λ ds. ds ++ passed_variables ps es) more
+            ∙ append_assoc old (passed_variables (p ∷ []) (e ∷ [])) (passed_variables ps es)
             ∙ ap (λ ds. old ++ ds) (sym (variables_more names (length old) p ps e es)) ∙ all.declared;
       }
 
   -- no argument is left, or no parameter
-  passes_all : (done : FlatBlock) (own : Numbers) (now : List FlatVariable) (es : List ExprTree) → Passes names done own now [] es whole names_begun variables
+  passes_all : (done : FlatBlock) (own : Numbers) (now : List FlatVariable) (es : List ExprTree)
+      → Passes names done own now [] es whole names_begun variables
       → (done ≡ whole) × (own ≡ names_begun) × (now ≡ variables)
   passes_all done own now es all = (sym (chain_nothing done) ∙ all.block, all.begins, sym (append-nil now) ∙ all.declared)
 
-  passes_early : (done : FlatBlock) (own : Numbers) (now : List FlatVariable) (ps : List ParameterTree) → Passes names done own now ps [] whole names_begun variables
+  passes_early : (done : FlatBlock) (own : Numbers) (now : List FlatVariable) (ps : List ParameterTree)
+      → Passes names done own now ps [] whole names_begun variables
       → (done ≡ whole) × (own ≡ names_begun) × (now ≡ variables)
   passes_early done own now ps all = (
     sym (chain_nothing done) ∙ ap (chain done) (sym (passed_without names (length now) ps)) ∙ all.block,
@@ -104,7 +116,8 @@ module _ {names : Numbers} {whole : FlatBlock} {names_begun : Numbers} {variable
   )
 
   -- so it is for lists and an index into them
-  pub passes_next : (done between : FlatBlock) (own next : Numbers) (old new : List FlatVariable) (ps : List Parameter) (es : List Expr) (i : ℕ) (d : Parameter) (e : Expr)
+  pub passes_next : (done between : FlatBlock) (own next : Numbers) (old new : List FlatVariable) (ps : List Parameter)
+      (es : List Expr) (i : ℕ) (d : Parameter) (e : Expr)
       → i < length ps → i < length es → e ≡ get_or es i e
       → between ≡ chain done (passed names (length old) (parameter_tree (get_or ps i d) ∷ []) (expr_tree e ∷ []))
       → next ≡ begun names own (length old) (parameter_tree (get_or ps i d) ∷ []) (expr_tree e ∷ [])
@@ -112,16 +125,27 @@ module _ {names : Numbers} {whole : FlatBlock} {names_begun : Numbers} {variable
       → Passes names done own old (map parameter_tree (drop i ps)) (map expr_tree (drop i es)) whole names_begun variables
       → Passes names between next new (map parameter_tree (drop (i + 1) ps)) (map expr_tree (drop (i + 1) es)) whole names_begun variables
   passes_next done between own next old new ps es i d e inside_ps inside_es is_e is starts more all =
-      passes_more done between own next old new (parameter_tree (get_or ps i d)) (map parameter_tree (drop (i + 1) ps)) (expr_tree e) (map expr_tree (drop (i + 1) es)) is starts more
-      (subst (λ xs. Passes names done own old (map parameter_tree xs) (expr_tree e ∷ map expr_tree (drop (i + 1) es)) whole names_begun variables) (drop_more ps i d inside_ps)
-      (subst (λ xs. Passes names done own old (map parameter_tree (drop i ps)) (map expr_tree xs) whole names_begun variables) (drop_more es i e inside_es ∙ ap (λ x. x ∷ drop (i + 1) es) (sym is_e)) all))
+      passes_more done between own next old new (parameter_tree (get_or ps i d)) (map parameter_tree (drop (i + 1) ps))
+      (expr_tree e) (map expr_tree (drop (i + 1) es)) is starts more
+      (subst (λ xs. Passes names done own old (map parameter_tree xs) (expr_tree e ∷ map expr_tree (drop (i + 1) es))
+      whole names_begun variables) (drop_more ps i d inside_ps)
+      (subst (λ xs. Passes names done own old (map parameter_tree (drop i ps)) (map expr_tree xs) whole names_begun
+      variables) (drop_more es i e inside_es ∙ ap (λ x. x ∷ drop (i + 1) es) (sym is_e)) all))
 
-  pub passes_parameters : (done : FlatBlock) (own : Numbers) (now : List FlatVariable) (ps : List Parameter) (es : List Expr) (i : ℕ) → length ps ≤ i
-      → Passes names done own now (map parameter_tree (drop i ps)) (map expr_tree (drop i es)) whole names_begun variables → (done ≡ whole) × (own ≡ names_begun) × (now ≡ variables)
+  pub passes_parameters : (done : FlatBlock) (own : Numbers) (now : List FlatVariable) (ps : List Parameter)
+      (es : List Expr) (i : ℕ) → length ps ≤ i
+      → Passes names done own now (map parameter_tree (drop i ps)) (map expr_tree (drop i es)) whole names_begun
+      variables → (done ≡ whole) × (own ≡ names_begun) × (now ≡ variables)
   passes_parameters done own now ps es i most all =
-      passes_all done own now (map expr_tree (drop i es)) (subst (λ xs. Passes names done own now (map parameter_tree xs) (map expr_tree (drop i es)) whole names_begun variables) (drop_all i ps most) all)
+      passes_all done own now (map expr_tree (drop i es))
+      (subst (λ xs. Passes names done own now (map parameter_tree xs) (map expr_tree (drop i es)) whole names_begun
+      variables) (drop_all i ps most) all)
 
-  pub passes_arguments : (done : FlatBlock) (own : Numbers) (now : List FlatVariable) (ps : List Parameter) (es : List Expr) (i : ℕ) → false ≡ nat_lt i (length es)
-      → Passes names done own now (map parameter_tree (drop i ps)) (map expr_tree (drop i es)) whole names_begun variables → (done ≡ whole) × (own ≡ names_begun) × (now ≡ variables)
+  pub passes_arguments : (done : FlatBlock) (own : Numbers) (now : List FlatVariable) (ps : List Parameter)
+      (es : List Expr) (i : ℕ) → false ≡ nat_lt i (length es)
+      → Passes names done own now (map parameter_tree (drop i ps)) (map expr_tree (drop i es)) whole names_begun
+      variables → (done ≡ whole) × (own ≡ names_begun) × (now ≡ variables)
   passes_arguments done own now ps es i past all =
-      passes_early done own now (map parameter_tree (drop i ps)) (subst (λ xs. Passes names done own now (map parameter_tree (drop i ps)) (map expr_tree xs) whole names_begun variables) (none_after es i past) all)
+      passes_early done own now (map parameter_tree (drop i ps))
+      (subst (λ xs. Passes names done own now (map parameter_tree (drop i ps)) (map expr_tree xs) whole names_begun
+      variables) (none_after es i past) all)

@@ -52,18 +52,22 @@ module _ (Extra : ProcedureTree → Type 0) where
 
 -- What is true, for the scope's observer, of each procedure that a scope lets call, of these.
 abbrev pub EachCallable : List ProcedureTree → (Profile → List ℕ → Callee → ProcedureTree → Type 0) → Scope → Type 0
-EachCallable earlier Is scope = (text : List ℕ) (c : Callee) (p : ProcedureTree) → found scope text ≡ Some (Procedure c) → slice_get earlier c.number ≡ Some p → Is scope.profile text c p
+EachCallable earlier Is scope = (text : List ℕ) (c : Callee) (p : ProcedureTree) → found scope text ≡ Some (Procedure c)
+    → slice_get earlier c.number ≡ Some p → Is scope.profile text c p
 
 -- In a body it stays true: no declaration adds one.
 module _ (earlier : List ProcedureTree) (Is : Profile → List ℕ → Callee → ProcedureTree → Type 0) where
-  pub callable_declared : (scope : Scope) (name : List ℕ) (v : VariableType) → EachCallable earlier Is scope → EachCallable earlier Is (declared scope name (Variable v))
+  pub callable_declared : (scope : Scope) (name : List ℕ) (v : VariableType) → EachCallable earlier Is scope
+      → EachCallable earlier Is (declared scope name (Variable v))
   callable_declared scope name v each text c p is there = by_name (found-split scope.names name (Variable v) text (Procedure c) is)
     where
-      by_name : (found scope text ≡ Some (Procedure c)) ⊎ ((bytes_eq text name ≡ true) × (Variable v ≡ Procedure c)) → Is scope.profile text c p
+      by_name : (found scope text ≡ Some (Procedure c)) ⊎ ((bytes_eq text name ≡ true) × (Variable v ≡ Procedure c))
+          → Is scope.profile text c p
       by_name (inl old) = each text c p old there
       by_name (inr new) = absurd (no_callee c v (ap (λ d. Some d) (sym new.1)))
 
-  pub callable_after : {scope : Scope} {control : Label} {s : StatementTree} → IsWellTyped earlier scope control s → EachCallable earlier Is scope → EachCallable earlier Is (scope_after scope s)
+  pub callable_after : {scope : Scope} {control : Label} {s : StatementTree} → IsWellTyped earlier scope control s
+      → EachCallable earlier Is scope → EachCallable earlier Is (scope_after scope s)
   callable_after (declares {scope = scope} {text = text} new has suit flow) each = callable_declared scope text _ each
   callable_after (declares_array {scope = scope} {text = text} new suit count flow) each = callable_declared scope text _ each
   callable_after (assigns is has suit flow) each = each
@@ -72,9 +76,11 @@ module _ (earlier : List ProcedureTree) (Is : Profile → List ℕ → Callee �
   callable_after (chooses has one other) each = each
   callable_after (repeats low high new inner) each = each
 
-  pub callable_parameters : (ps : List ParameterTree) (scope : Scope) → EachCallable earlier Is scope → EachCallable earlier Is (with_parameters scope ps)
+  pub callable_parameters : (ps : List ParameterTree) (scope : Scope) → EachCallable earlier Is scope
+      → EachCallable earlier Is (with_parameters scope ps)
   callable_parameters [] scope each = each
-  callable_parameters (p ∷ ps) scope each = callable_parameters ps (declared scope p.name (parameter_as p)) (callable_declared scope p.name _ each)
+  callable_parameters (p ∷ ps) scope each = callable_parameters ps (declared scope p.name (parameter_as p))
+      (callable_declared scope p.name _ each)
 
 -- it stands in the scope where the body's procedure begins, for the same observer
 abbrev pub IsAt : Scope → Profile → List ℕ → Callee → ProcedureTree → Type 0
@@ -110,7 +116,8 @@ module _ (Good : List ProcedureTree → Scope → ProcedureTree → Type 0) wher
     callable = λ text c p is there. absurd (none-some (Procedure c) is);
   }
 
-  module _ (earlier : List ProcedureTree) (scope : Scope) (stand : Stand earlier scope) (p : ProcedureTree) (new : found scope p.name ≡ None) where
+  module _ (earlier : List ProcedureTree) (scope : Scope) (stand : Stand earlier scope) (p : ProcedureTree)
+      (new : found scope p.name ≡ None) where
     abbrev own : Callee
     own = as_callee scope (length earlier) p
 
@@ -145,7 +152,8 @@ module _ (Good : List ProcedureTree → Scope → ProcedureTree → Type 0) wher
     pub callable_within : EachCallable earlier (IsCallable earlier) after
     callable_within text c q is get = stand.callable text c q (earlier_within text c q is get).1 get
 
-    below_by : (text : List ℕ) (c : Callee) (b : Bool) → bytes_eq text p.name ≡ b → found after text ≡ Some (Procedure c) → c.number < length (earlier ++ p ∷ [])
+    below_by : (text : List ℕ) (c : Callee) (b : Bool) → bytes_eq text p.name ≡ b
+        → found after text ≡ Some (Procedure c) → c.number < length (earlier ++ p ∷ [])
     below_by text c true e is =
         let same = ap (λ (d : Callee). d.number) (same_callee own c (sym (here text e) ∙ is)) in
         let count = length-append earlier (p ∷ []) in
@@ -159,7 +167,9 @@ module _ (Good : List ProcedureTree → Scope → ProcedureTree → Type 0) wher
     new_by text true e is = absurd (none-some (Procedure own) (sym is ∙ here text e))
     new_by text false e is = named-missed [] earlier p text (stand.new text (sym (there text e) ∙ is)) e
 
-    callable_by : Good earlier scope p → (text : List ℕ) (c : Callee) (q : ProcedureTree) (b : Bool) → bytes_eq text p.name ≡ b → found after text ≡ Some (Procedure c) → slice_get (earlier ++ p ∷ []) c.number ≡ Some q
+    callable_by : Good earlier scope p → (text : List ℕ) (c : Callee) (q : ProcedureTree) (b : Bool)
+        → bytes_eq text p.name ≡ b → found after text ≡ Some (Procedure c)
+        → slice_get (earlier ++ p ∷ []) c.number ≡ Some q
         → IsCallable (earlier ++ p ∷ []) scope.profile text c q
     callable_by good text c q true e is get =
         let same = same_callee own c (sym (here text e) ∙ is) in
@@ -176,7 +186,15 @@ module _ (Good : List ProcedureTree → Scope → ProcedureTree → Type 0) wher
     callable_by good text c q false e is get =
         let old = sym (there text e) ∙ is in
         let k = stand.callable text c q old (sym (get_front earlier p c.number (stand.below text c old)) ∙ get) in
-        record { before = k.before; at = k.at; observed = k.observed; is = named-kept [] earlier p text _ k.is; quiet = k.quiet; good = k.good }
+        record {
+          before = k.before;
+          at = k.at;
+          observed = k.observed;
+          is = named-kept [] earlier p text _ k.is;
+          quiet =
+              k.quiet;
+          good = k.good;
+        }
 
     one_stands : Good earlier scope p → Stand (earlier ++ p ∷ []) after
     one_stands good = record {
@@ -193,29 +211,49 @@ module _ (Good : List ProcedureTree → Scope → ProcedureTree → Type 0) wher
     pub stand : Stand before scope
     pub typed : IsProcedure before scope p
 
-  module _ (Extra : ProcedureTree → Type 0) (step : (before : List ProcedureTree) (scope : Scope) (p : ProcedureTree) → Stand before scope → IsProcedure before scope p → Extra p → Good before scope p) where
-    all_before : (earlier ps before : List ProcedureTree) (p : ProcedureTree) → exported earlier ps ≡ Some (before, p) → AllByRecursion Extra before → AllByRecursion Extra earlier
+  module _ (Extra : ProcedureTree → Type 0)
+      (step : (before : List ProcedureTree) (scope : Scope) (p : ProcedureTree) → Stand before scope
+      → IsProcedure before scope p → Extra p → Good before scope p) where
+    all_before : (earlier ps before : List ProcedureTree) (p : ProcedureTree) → exported earlier ps ≡ Some (before, p)
+        → AllByRecursion Extra before → AllByRecursion Extra earlier
     all_before earlier [] before p is all = absurd (none-some _ is)
-    all_before earlier (q ∷ qs) before p is all = by_word (is_some q.export) (λ rest. (all_front Extra earlier q (all_before (earlier ++ q ∷ []) qs before p rest all)).0) is
+    all_before earlier (q ∷ qs) before p is all = by_word (is_some q.export)
+        (λ rest. (all_front Extra earlier q (all_before (earlier ++ q ∷ []) qs before p rest all)).0) is
       where
-        by_word : (b : Bool) → (exported (earlier ++ q ∷ []) qs ≡ Some (before, p) → AllByRecursion Extra earlier) → (if b then Some (earlier, q) else exported (earlier ++ q ∷ []) qs) ≡ Some (before, p) → AllByRecursion Extra earlier
-        by_word true rest e = subst (AllByRecursion Extra) (sym (ap (λ (z : List ProcedureTree × ProcedureTree). z.0) (same_Some (earlier, q) (before, p) e))) all
+        by_word : (b : Bool) → (exported (earlier ++ q ∷ []) qs ≡ Some (before, p) → AllByRecursion Extra earlier)
+            → (if b then Some (earlier, q) else exported (earlier ++ q ∷ []) qs) ≡ Some (before, p)
+            → AllByRecursion Extra earlier
+        by_word true rest e = subst (AllByRecursion Extra)
+            (sym (ap (λ (z : List ProcedureTree × ProcedureTree). z.0) (same_Some (earlier, q) (before, p) e))) all
         by_word false rest e = rest e
 
-    the_export : {earlier : List ProcedureTree} {scope : Scope} {ps : List ProcedureTree} → AreProcedures earlier scope ps → (before : List ProcedureTree) (p : ProcedureTree) → Stand earlier scope → AllByRecursion Extra before → exported earlier ps ≡ Some (before, p) → Exported scope.profile before p
+    the_export : {earlier : List ProcedureTree} {scope : Scope} {ps : List ProcedureTree}
+        → AreProcedures earlier scope ps → (before : List ProcedureTree) (p : ProcedureTree) → Stand earlier scope
+        → AllByRecursion Extra before → exported earlier ps ≡ Some (before, p) → Exported scope.profile before p
     the_export no_procedure before p stand all is = absurd (none-some _ is)
     the_export (one_procedure {earlier = earlier} {scope = scope} {p = q} {ps = qs} this more) before p stand all is =
-        by_word (is_some q.export) (λ rest. the_export more before p (one_stands earlier scope stand q this.is_new (step earlier scope q stand this (all_front Extra earlier q (all_before (earlier ++ q ∷ []) qs before p rest all)).1)) all rest) is
+        by_word (is_some q.export) (λ rest. the_export more before p
+        (one_stands earlier scope stand q this.is_new
+        (step earlier scope q stand this
+        (all_front Extra earlier q (all_before (earlier ++ q ∷ []) qs before p rest all)).1)) all rest) is
       where
-        by_word : (b : Bool) → (exported (earlier ++ q ∷ []) qs ≡ Some (before, p) → Exported scope.profile before p) → (if b then Some (earlier, q) else exported (earlier ++ q ∷ []) qs) ≡ Some (before, p) → Exported scope.profile before p
+        by_word : (b : Bool) → (exported (earlier ++ q ∷ []) qs ≡ Some (before, p) → Exported scope.profile before p)
+            → (if b then Some (earlier, q) else exported (earlier ++ q ∷ []) qs) ≡ Some (before, p)
+            → Exported scope.profile before p
         by_word true rest e =
             let same = same_Some (earlier, q) (before, p) e in
             let one = ap (λ (z : List ProcedureTree × ProcedureTree). z.0) same in
             let other = ap (λ (z : List ProcedureTree × ProcedureTree). z.1) same in
-            subst (λ (x : List ProcedureTree). Exported scope.profile x p) one (subst (λ x. Exported scope.profile earlier x) other (record { scope = scope; observed = refl; stand = stand; typed = this }))
+            subst (λ (x : List ProcedureTree). Exported scope.profile x p) one
+            (subst (λ x. Exported scope.profile earlier x) other
+            (record { scope = scope; observed = refl; stand = stand; typed = this }))
         by_word false rest e = rest e
 
     -- of a program that violates no rule
-    pub own_typing : (profile : Profile) (program : ProgramTree) (before : List ProcedureTree) (p : ProcedureTree) → length (violations profile program) ≡ 0 → exported [] program.procedures ≡ Some (before, p) → AllByRecursion Extra before
+    pub own_typing : (profile : Profile) (program : ProgramTree) (before : List ProcedureTree) (p : ProcedureTree)
+        → length (violations profile program) ≡ 0 → exported [] program.procedures ≡ Some (before, p)
+        → AllByRecursion Extra before
         → Exported profile before p
-    own_typing profile program before p h is all = the_export ((programs profile program).0 (nil_from_length (violations profile program) h)).procedures before p (none_stand profile) all is
+    own_typing profile program before p h is all = the_export
+        ((programs profile program).0 (nil_from_length (violations profile program) h)).procedures before p
+        (none_stand profile) all is

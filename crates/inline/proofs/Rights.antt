@@ -36,24 +36,36 @@ pub word_result : (o : Option WordType) (given : WordType) → result_value o �
 word_result None given h = absurd cc
 word_result (Some word) given h = cc
 
-pub given_word : {m : Values} {given : WordType} {value : Option TermTree} {w : Option state.Word} → HasResult m (Some given) value w → word_given w ≡ word_at given.kind (value_in m (value_given value))
+pub given_word : {m : Values} {given : WordType} {value : Option TermTree} {w : Option state.Word}
+    → HasResult m (Some given) value w → word_given w ≡ word_at given.kind (value_in m (value_given value))
 given_word (a_word same) = same
 
 module _ (earlier : List ProcedureTree) (scope : Scope) (names : Numbers) (n : ℕ) (ready : Ready earlier scope names n) where
   -- a call that gives a word
-  pub call_gives : {control : Label} {c : CallTree} {given : WordType} → rules.IsCall earlier scope control c (Word given) → (s : State) (m : Values) → Shows names s m → IsSmallRight (called c)
-      → Comes (Rights earlier s (called c)) (IsGiven names (after_all m (call_block (callables earlier c.name) names n c.arguments)) given (value_given (call_value (callables earlier c.name) names n c.arguments)))
+  pub call_gives : {control : Label} {c : CallTree} {given : WordType}
+      → rules.IsCall earlier scope control c (Word given) → (s : State) (m : Values) → Shows names s m
+      → IsSmallRight (called c)
+      → Comes (Rights earlier s (called c))
+      (IsGiven names (after_all m (call_block (callables earlier c.name) names n c.arguments)) given
+      (value_given (call_value (callables earlier c.name) names n c.arguments)))
       (either (first_fault (path_along m (call_block (callables earlier c.name) names n c.arguments)))
-      (first_fault (path_in (after_all m (call_block (callables earlier c.name) names n c.arguments)) (value_given (call_value (callables earlier c.name) names n c.arguments)))))
+      (first_fault (path_in (after_all m (call_block (callables earlier c.name) names n c.arguments))
+      (value_given (call_value (callables earlier c.name) names n c.arguments)))))
   call_gives {c = c} {given = given} is s m shows small =
       let k = call_means earlier scope names n ready is in
       let tree = call_block (callables earlier c.name) names n c.arguments in
       let value = call_value (callables earlier c.name) names n c.arguments in
       let end = after_all m tree in
       let result = word_result (call_result (callables earlier c.name)) given k.result in
-      subst (λ p. Comes (Rights earlier s (called c)) (IsGiven names end given (value_given value)) (either (first_fault (path_along m tree)) (first_fault p))) (path_given end value)
+      subst (λ p. Comes (Rights earlier s (called c)) (IsGiven names end given (value_given value))
+      (either (first_fault (path_along m tree)) (first_fault p))) (path_given end value)
       (also (k.comes s m shows small)
-      (λ r is agrees. (r, of_call is, record { word = given_word (subst (λ o. HasResult end o value r.word) result agrees.word); shows = agrees.shows }))
+      (λ r is agrees. (
+        r,
+        of_call is,
+        record
+            { word = given_word (subst (λ o. HasResult end o value r.word) result agrees.word); shows = agrees.shows },
+      ))
       (λ at is. of_call is))
 
   -- what is known of a right side
@@ -62,10 +74,12 @@ module _ (earlier : List ProcedureTree) (scope : Scope) (names : Numbers) (n : �
         (let tree = right_block (callables earlier) names n value in
         let end = after_all m tree in
         let taken = right (callables earlier) names n value in
-        Comes (Rights earlier s value) (IsGiven names end given taken) (either (first_fault (path_along m tree)) (first_fault (path_in end taken))))
+        Comes (Rights earlier s value) (IsGiven names end given taken)
+        (either (first_fault (path_along m tree)) (first_fault (path_in end taken))))
     pub keeps : (x : ℕ) → Spares names n x → (m : Values) → after_all m (right_block (callables earlier) names n value) x ≡ m x
 
-  pub right_means : {control : Label} {value : RightTree} {given : WordType} → rules.Gives earlier scope control value (Word given) → RightMeans value given
+  pub right_means : {control : Label} {value : RightTree} {given : WordType}
+      → rules.Gives earlier scope control value (Word given) → RightMeans value given
   right_means {given = given} (rules.of_value {e = e} has) = record {
     comes = λ s m shows small.
         also ((means scope names ready.types n ready.linked has small).value s m shows)
@@ -78,10 +92,13 @@ module _ (earlier : List ProcedureTree) (scope : Scope) (names : Numbers) (n : �
       let value = value_given (call_value (callables earlier c.name) names n c.arguments) in
       record {
         comes = λ s m shows small.
-            subst (λ (end : Values). Comes (Rights earlier s (called c)) (IsGiven names end given value) (either (first_fault (path_along m (chain tree (single flat.skip)))) (first_fault (path_in end value))))
+            subst (λ (end : Values). Comes (Rights earlier s (called c)) (IsGiven names end given value)
+            (either (first_fault (path_along m (chain tree (single flat.skip)))) (first_fault (path_in end value))))
             (sym (after_chain tree (single flat.skip) m))
-            (subst (λ f. Comes (Rights earlier s (called c)) (IsGiven names (after_all m tree) given value) (either f (first_fault (path_in (after_all m tree) value))))
+            (subst (λ f. Comes (Rights earlier s (called c)) (IsGiven names (after_all m tree) given value)
+            (either f (first_fault (path_in (after_all m tree) value))))
             (sym (either-none (first_fault (path_along m tree))) ∙ sym (fault_chain tree (single flat.skip) m))
             (call_gives is s m shows small));
-        keeps = λ x spares m. ap (λ (end : Values). end x) (after_chain tree (single flat.skip) m) ∙ (call_means earlier scope names n ready is).keeps x spares m;
+        keeps = λ x spares m. ap (λ (end : Values). end x) (after_chain tree (single flat.skip) m)
+            ∙ (call_means earlier scope names n ready is).keeps x spares m;
       }

@@ -17,14 +17,16 @@ flat_arms (Loop' x low high shape body) = ((_, body), (_, end_of-FlatStatement))
 flat_arms _ = ((_, end_of-FlatStatement), (_, end_of-FlatStatement))
 
 pub branch_tree : (label : Label) (condition : Term) (accepted otherwise : Vec FlatStatement Global) →
-    flat_tree (Branch label condition accepted otherwise) ≡ branch label (term_tree condition) (flat_block accepted.items) (flat_block otherwise.items)
+    flat_tree (Branch label condition accepted otherwise) ≡ branch label (term_tree condition)
+    (flat_block accepted.items) (flat_block otherwise.items)
 branch_tree label condition accepted otherwise =
     let both = flat_arms (Branch label condition accepted otherwise) in
     ap₂ (branch label (term_tree condition))
     (flat_rows both.0.0 both.0.1 ∙ ap flat_block (items_hidden-the_row-FlatStatement-0 accepted))
     (flat_rows both.1.0 both.1.1 ∙ ap flat_block (items_hidden-the_row-FlatStatement-0 otherwise))
 
-pub loop_tree : (x : ℕ) (low high : Term) (body : Vec FlatStatement Global) → flat_tree (Loop x low high body) ≡ loop x (term_tree low) (term_tree high) (flat_block body.items)
+pub loop_tree : (x : ℕ) (low high : Term) (body : Vec FlatStatement Global)
+    → flat_tree (Loop x low high body) ≡ loop x (term_tree low) (term_tree high) (flat_block body.items)
 loop_tree x low high body =
     let both = flat_arms (Loop x low high body) in
     ap (loop x (term_tree low) (term_tree high)) (flat_rows both.0.0 both.0.1 ∙ ap flat_block (items_hidden-the_row-FlatStatement-0 body))

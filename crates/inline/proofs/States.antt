@@ -30,10 +30,14 @@ holds_by : {d e : FlatVariable} {o p : Option Value} {a b : List ℕ} → d ≡ 
 holds_by {d = d} {e = e} {o = o} {p = p} {a = a} {b = b} same one other holds =
     subst (λ c. Holds c p b) same (subst (λ q. Holds d q b) one (subst (λ ns. Holds d o ns) other holds))
 
-module _ (scope : Scope) (names : Numbers) (types : Types) (n : ℕ) (linked : Linked scope names types n) (s : State) (m : Values) (shows : Shows names s m) (text : List ℕ) (own : FlatVariable) (v : Value) (numbers : List ℕ) (holds : Holds own (Some v) numbers) where
+module _ (scope : Scope) (names : Numbers) (types : Types) (n : ℕ) (linked : Linked scope names types n) (s : State)
+    (m : Values) (shows : Shows names s m) (text : List ℕ) (own : FlatVariable) (v : Value) (numbers : List ℕ)
+    (holds : Holds own (Some v) numbers) where
   -- after a declaration
   module _ (new : found scope.names text ≡ None) where
-    declared_by : (other : List ℕ) (x : Numbered) (b : Bool) → bytes_eq other text ≡ b → found (naming names text n own) other ≡ Some x → Holds x.declaration (with_value s text v other) (flat.with_value m n numbers x.number)
+    declared_by : (other : List ℕ) (x : Numbered) (b : Bool) → bytes_eq other text ≡ b
+        → found (naming names text n own) other ≡ Some x → Holds x.declaration (with_value s text v other)
+        (flat.with_value m n numbers x.number)
     declared_by other x true e is =
         let same = same_Some (entry n own) x (sym (found-new names text (entry n own) other e (linked.none text new)) ∙ is) in
         holds_by (ap (λ (y : Numbered). y.declaration) same) (sym (ap (λ b. if b then Some v else s other) e))
@@ -41,45 +45,57 @@ module _ (scope : Scope) (names : Numbers) (types : Types) (n : ℕ) (linked : L
     declared_by other x false e is =
         let old = sym (found-other names text (entry n own) other e) ∙ is in
         let low = linked.below other x old in
-        holds_by refl (sym (ap (λ b. if b then Some v else s other) e)) (sym (with_value-other m n x.number numbers (λ q. omega arith))) (shows other x old)
+        holds_by refl (sym (ap (λ b. if b then Some v else s other) e))
+        (sym (with_value-other m n x.number numbers (λ q. omega arith))) (shows other x old)
 
     pub shows_declared : Shows (naming names text n own) (with_value s text v) (flat.with_value m n numbers)
     shows_declared other x is = declared_by other x (bytes_eq other text) refl is
 
   -- after an assignment
   module _ (y : ℕ) (known : found names text ≡ Some (entry y own)) (free : own.mutable ≡ true) where
-    changed_by : (other : List ℕ) (x : Numbered) (b : Bool) → bytes_eq other text ≡ b → found names other ≡ Some x → Holds x.declaration (with_value s text v other) (flat.with_value m y numbers x.number)
+    changed_by : (other : List ℕ) (x : Numbered) (b : Bool) → bytes_eq other text ≡ b → found names other ≡ Some x
+        → Holds x.declaration (with_value s text v other) (flat.with_value m y numbers x.number)
     changed_by other x true e is =
         let same = same_Some (entry y own) x (sym known ∙ (ap (found names) (sym ((bytes_decides other text).0 e)) ∙ is)) in
         holds_by (ap (λ (z : Numbered). z.declaration) same) (sym (ap (λ b. if b then Some v else s other) e))
         (sym (with_value-same m y numbers) ∙ ap (λ (z : Numbered). flat.with_value m y numbers z.number) same) holds
     changed_by other x false e is =
-        let apart = λ (q : x.number ≡ y). true≢false (sym ((bytes_decides other text).1 (sym (linked.apart text other (entry y own) x known is (sym q) free))) ∙ e) in
-        holds_by refl (sym (ap (λ b. if b then Some v else s other) e)) (sym (with_value-other m y x.number numbers apart)) (shows other x is)
+        let apart = λ (q : x.number ≡ y). true≢false
+        (sym ((bytes_decides other text).1 (sym (linked.apart text other (entry y own) x known is (sym q) free)))
+        ∙ e) in
+        holds_by refl (sym (ap (λ b. if b then Some v else s other) e))
+        (sym (with_value-other m y x.number numbers apart)) (shows other x is)
 
     pub shows_changed : Shows names (with_value s text v) (flat.with_value m y numbers)
     shows_changed other x is = changed_by other x (bytes_eq other text) refl is
 
 -- What holds of a state where no number of a name has changed.
-pub shows_kept : (names : Numbers) (s : State) (m o : Values) → Shows names s m → ((text : List ℕ) (x : Numbered) → found names text ≡ Some x → o x.number ≡ m x.number) → Shows names s o
+pub shows_kept : (names : Numbers) (s : State) (m o : Values) → Shows names s m
+    → ((text : List ℕ) (x : Numbered) → found names text ≡ Some x → o x.number ≡ m x.number) → Shows names s o
 shows_kept names s m o shows same text x is = subst (Holds x.declaration (s text)) (sym (same text x is)) (shows text x is)
 
 -- Names outlast statements.
 
 module _ (known : Callables) where
-  kept_number : (s : StatementTree) (names : Numbers) (n : ℕ) (text : List ℕ) (x : Numbered) → found names text ≡ Some x → found (names_after known names n s) text ≡ Some x
-  kept_number (declaration place label mutable kind own value) names n text x h = found-kept names own (entry (right_end known n value) (word_as (labelled kind label) mutable)) text x h
-  kept_number (array place label mutable kind size own values) names n text x h = found-kept names own (entry n (array_as (labelled kind label) mutable size)) text x h
+  kept_number : (s : StatementTree) (names : Numbers) (n : ℕ) (text : List ℕ) (x : Numbered) → found names text ≡ Some x
+      → found (names_after known names n s) text ≡ Some x
+  kept_number (declaration place label mutable kind own value) names n text x h =
+      found-kept names own (entry (right_end known n value) (word_as (labelled kind label) mutable)) text x h
+  kept_number (array place label mutable kind size own values) names n text x h =
+      found-kept names own (entry n (array_as (labelled kind label) mutable size)) text x h
   kept_number (assignment place target own value) names n text x h = h
   kept_number (element_assignment place bracket target own index value) names n text x h = h
   kept_number (call c) names n text x h = h
   kept_number (conditional place condition accepted otherwise) names n text x h = h
   kept_number (loop place counter own low high body) names n text x h = h
 
-  pub kept_numbers : (b : BlockTree) (names : Numbers) (n : ℕ) (text : List ℕ) (x : Numbered) → found names text ≡ Some x → found (names_after_all known names n b) text ≡ Some x
+  pub kept_numbers : (b : BlockTree) (names : Numbers) (n : ℕ) (text : List ℕ) (x : Numbered)
+      → found names text ≡ Some x → found (names_after_all known names n b) text ≡ Some x
   kept_numbers nothing names n text x h = h
-  kept_numbers (first s rest) names n text x h = kept_numbers rest (names_after known names n s) (n + numbers_taken known s) text x (kept_number s names n text x h)
+  kept_numbers (first s rest) names n text x h = kept_numbers rest (names_after known names n s)
+      (n + numbers_taken known s) text x (kept_number s names n text x h)
 
   -- after an arm the names are those before it
-  pub shows_before : (b : BlockTree) (names : Numbers) (n : ℕ) (s : State) (m : Values) → Shows (names_after_all known names n b) s m → Shows names s m
+  pub shows_before : (b : BlockTree) (names : Numbers) (n : ℕ) (s : State) (m : Values)
+      → Shows (names_after_all known names n b) s m → Shows names s m
   shows_before b names n s m shows text x is = shows text x (kept_numbers b names n text x is)

@@ -12,16 +12,22 @@ pub new_number : (types : Types) (x y : ℕ) (d : FlatVariable) → types.at x �
 new_number types x y d new known same = none-some d (sym new ∙ (ap types.at (sym same) ∙ known))
 
 module _ (all : List FlatVariable) where
-  pub type_kept : (types : Types) (control : Label) (s : FlatTree) → IsTyped all types control s → (y : ℕ) (d : FlatVariable) → types.at y ≡ Some d → (types_after types s).at y ≡ Some d
-  type_kept types control (declare x word mutable value) typed y d known = with_type-other types x y (word_as word mutable) (new_number types x y d typed.0.new known) ∙ known
-  type_kept types control (array x word mutable size values) typed y d known = with_type-other types x y (array_as word mutable size) (new_number types x y d typed.0.new known) ∙ known
+  pub type_kept : (types : Types) (control : Label) (s : FlatTree) → IsTyped all types control s
+      → (y : ℕ) (d : FlatVariable) → types.at y ≡ Some d → (types_after types s).at y ≡ Some d
+  type_kept types control (declare x word mutable value) typed y d known =
+      with_type-other types x y (word_as word mutable) (new_number types x y d typed.0.new known) ∙ known
+  type_kept types control (array x word mutable size values) typed y d known =
+      with_type-other types x y (array_as word mutable size) (new_number types x y d typed.0.new known) ∙ known
   type_kept types control (assign x value) typed y d known = known
   type_kept types control (put place x size index value) typed y d known = known
-  type_kept types control (hold x place size index) typed y d known = with_type-other types x y (word_as counter_type false) (new_number types x y d typed.0.new known) ∙ known
+  type_kept types control (hold x place size index) typed y d known =
+      with_type-other types x y (word_as counter_type false) (new_number types x y d typed.0.new known) ∙ known
   type_kept types control skip typed y d known = known
   type_kept types control (branch label condition accepted otherwise) typed y d known = known
   type_kept types control (loop x low high body) typed y d known = known
 
-  pub types_kept : (types : Types) (control : Label) (b : FlatBlock) → AreTyped all types control b → (y : ℕ) (d : FlatVariable) → types.at y ≡ Some d → (types_after_all types b).at y ≡ Some d
+  pub types_kept : (types : Types) (control : Label) (b : FlatBlock) → AreTyped all types control b
+      → (y : ℕ) (d : FlatVariable) → types.at y ≡ Some d → (types_after_all types b).at y ≡ Some d
   types_kept types control nothing typed y d known = known
-  types_kept types control (first s rest) typed y d known = types_kept (types_after types s) control rest typed.1 y d (type_kept types control s typed.0 y d known)
+  types_kept types control (first s rest) typed y d known = types_kept (types_after types s) control rest typed.1 y d
+      (type_kept types control s typed.0 y d known)

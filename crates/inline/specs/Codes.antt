@@ -34,11 +34,14 @@ term_code (number n k) = gcons (gnum 0) (gcons (coded_ℕ.code n) (kind.the_row.
 term_code (truth b) = gcons (gnum 1) (coded_bool.code b)
 term_code (variable x) = gcons (gnum 2) (coded_ℕ.code x)
 term_code (prefix o w e) = gcons (gnum 3) (gcons (prefix_operator.the_row.coded.code o) (gcons (width.the_row.coded.code w) (term_code e)))
-term_code (binary q o w l r) = gcons (gnum 4) (gcons (place.the_row.coded.code q) (gcons (operator.the_row.coded.code o) (gcons (width.the_row.coded.code w) (gcons (term_code l) (term_code r)))))
+term_code (binary q o w l r) = gcons (gnum 4)
+    (gcons (place.the_row.coded.code q)
+    (gcons (operator.the_row.coded.code o) (gcons (width.the_row.coded.code w) (gcons (term_code l) (term_code r)))))
 term_code (rotate w e n) = gcons (gnum 5) (gcons (width.the_row.coded.code w) (gcons (term_code e) (coded_ℕ.code n)))
 term_code (convert k e) = gcons (gnum 6) (gcons (kind.the_row.coded.code k) (term_code e))
 term_code (select c a b) = gcons (gnum 7) (gcons (term_code c) (gcons (term_code a) (term_code b)))
-term_code (element q z u d) = gcons (gnum 8) (gcons (place.the_row.coded.code q) (gcons (coded_ℕ.code z) (gcons (coded_ℕ.code u) (term_code d))))
+term_code (element q z u d) = gcons (gnum 8)
+    (gcons (place.the_row.coded.code q) (gcons (coded_ℕ.code z) (gcons (coded_ℕ.code u) (term_code d))))
 
 pub term_inj : (x y : TermTree) → term_code x ≡ term_code y → x ≡ y
 term_inj (number n k) (number n' k') p =
@@ -91,13 +94,20 @@ terms_inj x y p = cc
 
 abbrev mutual
   pub tree_code : FlatTree → Gv
-  tree_code (declare x w m v) = gcons (gnum 0) (gcons (coded_ℕ.code x) (gcons (word.the_row.coded.code w) (gcons (coded_bool.code m) (term_code v))))
-  tree_code (array x w m n es) = gcons (gnum 1) (gcons (coded_ℕ.code x) (gcons (word.the_row.coded.code w) (gcons (coded_bool.code m) (gcons (coded_ℕ.code n) (terms_code es)))))
+  tree_code (declare x w m v) = gcons (gnum 0)
+      (gcons (coded_ℕ.code x) (gcons (word.the_row.coded.code w) (gcons (coded_bool.code m) (term_code v))))
+  tree_code (array x w m n es) = gcons (gnum 1)
+      (gcons (coded_ℕ.code x) (gcons (word.the_row.coded.code w)
+      (gcons (coded_bool.code m) (gcons (coded_ℕ.code n) (terms_code es)))))
   tree_code (assign x v) = gcons (gnum 2) (gcons (coded_ℕ.code x) (term_code v))
-  tree_code (put q x n e v) = gcons (gnum 3) (gcons (place.the_row.coded.code q) (gcons (coded_ℕ.code x) (gcons (coded_ℕ.code n) (gcons (term_code e) (term_code v)))))
-  tree_code (branch l c a b) = gcons (gnum 4) (gcons (label.the_row.coded.code l) (gcons (term_code c) (gcons (block_code a) (block_code b))))
+  tree_code (put q x n e v) = gcons (gnum 3)
+      (gcons (place.the_row.coded.code q)
+      (gcons (coded_ℕ.code x) (gcons (coded_ℕ.code n) (gcons (term_code e) (term_code v)))))
+  tree_code (branch l c a b) = gcons (gnum 4)
+      (gcons (label.the_row.coded.code l) (gcons (term_code c) (gcons (block_code a) (block_code b))))
   tree_code (loop x c d b) = gcons (gnum 5) (gcons (coded_ℕ.code x) (gcons (term_code c) (gcons (term_code d) (block_code b))))
-  tree_code (hold x q n e) = gcons (gnum 6) (gcons (coded_ℕ.code x) (gcons (place.the_row.coded.code q) (gcons (coded_ℕ.code n) (term_code e))))
+  tree_code (hold x q n e) = gcons (gnum 6)
+      (gcons (coded_ℕ.code x) (gcons (place.the_row.coded.code q) (gcons (coded_ℕ.code n) (term_code e))))
   tree_code skip = gcons (gnum 7) gnil
 
   pub block_code : FlatBlock → Gv
@@ -157,8 +167,18 @@ coded_block = record { code = block_code; inj = block_inj }
 abbrev pub coded_program : Coded FlatProgram
 coded_program =
     code_by (Profile × (Place × (List Param × (Option WordType × (ℕ × (List FlatVariable × (FlatBlock × Option TermTree)))))))
-    (coded× profile.the_row.coded (coded× place.the_row.coded (coded× (coded_list param.the_row.coded) (coded× (coded_option word.the_row.coded)
+    (coded× profile.the_row.coded (coded× place.the_row.coded
+    (coded× (coded_list param.the_row.coded) (coded× (coded_option word.the_row.coded)
     (coded× coded_ℕ (coded× (coded_list flat_variable.the_row.coded) (coded× coded_block (coded_option coded_term))))))))
     (λ p. (p.profile, (p.place, (p.parameters, (p.returned, (p.nodes, (p.declared, (p.body, p.value))))))))
-    (λ t. record { profile = t.0; place = t.1.0; parameters = t.1.1.0; returned = t.1.1.1.0; nodes = t.1.1.1.1.0; declared = t.1.1.1.1.1.0; body = t.1.1.1.1.1.1.0; value = t.1.1.1.1.1.1.1 })
+    (λ t. record {
+      profile = t.0;
+      place = t.1.0;
+      parameters = t.1.1.0;
+      returned = t.1.1.1.0;
+      nodes = t.1.1.1.1.0;
+      declared = t.1.1.1.1.1.0;
+      body = t.1.1.1.1.1.1.0;
+      value = t.1.1.1.1.1.1.1;
+    })
     (λ _. refl)

@@ -79,7 +79,11 @@ elements_by MutableArray length = Some length
 
 -- a parameter is a variable
 abbrev pub declaration_of : Param → FlatVariable
-declaration_of p = record { word = record { kind = p.kind; label = p.label }; mutable = is_mutable p.form; elements = elements_by p.form p.length }
+declaration_of p = record {
+  word = record { kind = p.kind; label = p.label };
+  mutable = is_mutable p.form;
+  elements = elements_by p.form p.length;
+}
 
 -- a number that decides what is public, such as a counter or an index that is held
 abbrev pub counter_type : WordType
@@ -121,7 +125,8 @@ abbrev mutual
   flat_tree (AssignElement place x size index value) = put place x size (term_tree index) (term_tree value)
   flat_tree (Hold x place size index) = hold x place size (term_tree index)
   flat_tree Skip = skip
-  flat_tree (Branch' label condition shape accepted shape' otherwise) = branch label (term_tree condition) (row_tree accepted) (row_tree otherwise)
+  flat_tree (Branch' label condition shape accepted shape' otherwise) =
+      branch label (term_tree condition) (row_tree accepted) (row_tree otherwise)
   flat_tree (Loop' x low high shape body) = loop x (term_tree low) (term_tree high) (row_tree body)
 
   -- the statements of an arm or a loop

@@ -107,7 +107,8 @@ abbrev mutual
       path_in m condition ++ (if value_in m condition == 0 then path_along m otherwise else path_along m accepted)
   path_at m (loop x low high body) =
       path_in m low ++ path_in m high ++ bounded x (value_in m low) (value_in m high)
-      ∷ path_of_turns (value_in m high - value_in m low) (value_in m low) (λ i t. after_all (with_value t x (i ∷ [])) body) (λ i t. path_along (with_value t x (i ∷ [])) body) m
+      ∷ path_of_turns (value_in m high - value_in m low) (value_in m low)
+      (λ i t. after_all (with_value t x (i ∷ [])) body) (λ i t. path_along (with_value t x (i ∷ [])) body) m
 
   pub path_along : Values → FlatBlock → Path
   path_along m nothing = []

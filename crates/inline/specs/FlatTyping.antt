@@ -135,14 +135,16 @@ abbrev mutual
       IsNew declared types x (array_as word mutable size) × AllSuit types word values × HasCount size values
   IsTyped declared types control (assign x value) = IsAssigned types control x value
   IsTyped declared types control (put place x size index value) = IsPut types control x size index value
-  IsTyped declared types control (hold x place size index) = IsNew declared types x (word_as counter_type false) × HasType types index counter_type
+  IsTyped declared types control (hold x place size index) =
+      IsNew declared types x (word_as counter_type false) × HasType types index counter_type
   IsTyped declared types control skip = Unit {0}
   IsTyped declared types control (branch label condition accepted otherwise) =
       HasType types condition (labelled Boolean label)
       × AreTyped declared types (joined label control) accepted × AreTyped declared types (joined label control) otherwise
   IsTyped declared types control (loop x low high body) =
       HasType types low counter_type × HasType types high counter_type
-      × IsNew declared types x (word_as counter_type false) × AreTyped declared (with_type types x (word_as counter_type false)) control body
+      × IsNew declared types x (word_as counter_type false)
+      × AreTyped declared (with_type types x (word_as counter_type false)) control body
 
   pub AreTyped : List FlatVariable → Types → Label → FlatBlock → Type 0
   AreTyped declared types control nothing = Unit {0}
@@ -174,7 +176,8 @@ abbrev mutual
   IsNumbered n (put place x size index value) = Unit {0}
   IsNumbered n (hold x place size index) = x ≡ n
   IsNumbered n skip = Unit {0}
-  IsNumbered n (branch label condition accepted otherwise) = AreNumbered n accepted × AreNumbered (n + declarations_in_all accepted) otherwise
+  IsNumbered n (branch label condition accepted otherwise) =
+      AreNumbered n accepted × AreNumbered (n + declarations_in_all accepted) otherwise
   IsNumbered n (loop x low high body) = (x ≡ n) × AreNumbered (n + 1) body
 
   pub AreNumbered : ℕ → FlatBlock → Type 0

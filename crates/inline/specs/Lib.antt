@@ -8,5 +8,6 @@ pub mod FlatMeaning
 pub mod FlatTyping
 pub mod Fitting
 pub mod FlatSize
+pub mod Counts
 pub mod Measured
 pub mod Kept

@@ -1,45 +1,59 @@
--- Procedures as they were measured, by their names. A count of what may be called stops at the greatest number.
-use Rattle.std.specs.Prelude.{◌≡◌, ℕ, ◌||◌, ◌++◌, List, map, min, nat_lt}
+-- Procedures as they were measured, by their names, and the sizes that are counted by them.
+use Rattle.std.specs.Prelude.{ℕ, ◌+◌, ◌*◌, ◌-◌, ◌^◌, ◌||◌, ◌++◌, List, map, nat_lt}
 use Rattle.std.specs.Option.{option_map}
+use Rattle.inline.specs.Counts.{counted_to}
 use Rattle.inline.specs.declared.measured.Measured.{Measured}
+use Rattle.inline.specs.declared.measured.Size.{Size}
 use Rattle.language.specs.Limits.{most_nodes, most_declared_bytes, most_bodies}
 use Rattle.language.specs.declared.rule.Rule.TheVariants.{InlinedSize, DeclaredBytes}
 use Rattle.language.specs.declared.typing.Violation.{Violation}
-use Rattle.language.specs.Size.{Extent, Extents, nodes_of, bodies_of, declared_bytes}
-use Rattle.language.specs.Tree.{ProcedureTree, parameter_tree}
+use Rattle.language.specs.Size.{Extent, Extents, call_nodes, words_of_called, bodies_of_called, right_nodes, right_words, right_bodies, statement_nodes, statement_words, statement_bodies, block_nodes, block_words, block_bodies, nodes_of, bodies_of}
+use Rattle.language.specs.Tree.{CallTree, RightTree, StatementTree, BlockTree, ProcedureTree, parameter_tree}
 use Rattle.language.specs.Types.{at, when}
 use Rattle.names.specs.Scope.{found}
+use Rattle.word.specs.declared.place.Place.{Place}
+
+-- a count is at most the greatest number of 32 bits
+abbrev pub most_counted : ℕ
+most_counted = 2 ^ 32 - 1
+
+abbrev pub counted : ℕ → ℕ
+counted n = counted_to most_counted n
+
+abbrev pub counted_size : ℕ → ℕ → ℕ → Size
+counted_size nodes words bodies = record { nodes = counted nodes; words = counted words; bodies = counted bodies }
 
 abbrev pub extent_of_measured : Measured → Extent
 extent_of_measured m = record {
   parameters = map parameter_tree m.parameters.now;
-  nodes = m.nodes;
-  words = m.words;
-  bodies = m.bodies;
+  nodes = m.size.nodes;
+  words = m.size.words;
+  bodies = m.size.bodies;
 }
 
 -- what is known by a table of them
 abbrev pub extents_in : List (List ℕ × Measured) → Extents
 extents_in table text = option_map extent_of_measured (found table text)
 
--- what is counted of so many things: at most the greatest number of 32 bits
-abbrev pub counted : ℕ → ℕ
-counted n = min n 4294967295
+-- the size that is counted of a call, of a right side, of a statement, of statements
+abbrev pub call_size : Extents → CallTree → Size
+call_size known c = counted_size (call_nodes known c) (words_of_called (known c.name)) (bodies_of_called (known c.name))
 
-abbrev pub counted_extent : Extent → Extent
-counted_extent e = record {
-  parameters = e.parameters;
-  nodes = counted e.nodes;
-  words = counted e.words;
-  bodies = counted e.bodies;
-}
+abbrev pub right_size : Extents → RightTree → Size
+right_size known r = counted_size (right_nodes known r) (right_words known r) (right_bodies known r)
 
--- the counts of the same procedures
-abbrev pub AreCountsOf : Extents → Extents → Type 0
-AreCountsOf counts extents = (text : List ℕ) → counts text ≡ option_map counted_extent (extents text)
+abbrev pub statement_size : Extents → StatementTree → Size
+statement_size known s = counted_size (statement_nodes known s) (statement_words known s) (statement_bodies known s)
 
--- the limits that a procedure passes by what is known of others
-abbrev pub passed_limits : Extents → ProcedureTree → List Violation
-passed_limits extents p =
-    at p.place (when (nat_lt most_nodes (nodes_of extents p) || nat_lt most_bodies (bodies_of extents p)) InlinedSize
-    ++ when (nat_lt most_declared_bytes (declared_bytes extents p)) DeclaredBytes)
+abbrev pub block_size : Extents → BlockTree → Size
+block_size known b = counted_size (block_nodes known b) (block_words known b) (block_bodies known b)
+
+-- of a procedure whose parameters take so many words
+abbrev pub procedure_size : Extents → ℕ → ProcedureTree → Size
+procedure_size known words p = counted_size (nodes_of known p) (words + block_words known p.body) (bodies_of known p)
+
+-- the limits that a procedure of so many nodes, words and open bodies passes, whose name stands at this place
+abbrev pub passed_limits : Place → ℕ → ℕ → ℕ → List Violation
+passed_limits place nodes words bodies =
+    at place (when (nat_lt most_nodes nodes || nat_lt most_bodies bodies) InlinedSize
+    ++ when (nat_lt most_declared_bytes (4 * words)) DeclaredBytes)

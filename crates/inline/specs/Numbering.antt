@@ -74,7 +74,8 @@ term names (number place value kind) = flat.number value kind
 term names (truth place value) = flat.truth value
 term names (name place text) = flat.variable (number_of names text)
 term names (prefix place operator operand) = flat.prefix operator (width_of (kind_in names operand)) (term names operand)
-term names (binary place operator left right) = flat.binary place operator (width_of (kind_in names left)) (term names left) (term names right)
+term names (binary place operator left right) = flat.binary place operator (width_of (kind_in names left))
+    (term names left) (term names right)
 term names (rotate place operand amount) = flat.rotate (width_of (kind_in names operand)) (term names operand) amount
 term names (convert place kind operand) = flat.convert kind (term names operand)
 term names (select place condition accepted otherwise) = flat.select (term names condition) (term names accepted) (term names otherwise)
@@ -193,7 +194,8 @@ element_block known names n bracket text index (computed e) =
 element_block known names n bracket text index (called c) =
     flat.first (flat.hold n bracket (size_of names text) (term names index))
     (chain (call_block (known c.name) names (n + 1) c.arguments)
-    (single (flat.put bracket (number_of names text) (size_of names text) (flat.variable n) (value_given (call_value (known c.name) names (n + 1) c.arguments)))))
+    (single (flat.put bracket (number_of names text) (size_of names text) (flat.variable n)
+    (value_given (call_value (known c.name) names (n + 1) c.arguments)))))
 
 abbrev pub element_variables : Callables → RightTree → List FlatVariable
 element_variables known (computed e) = []
@@ -211,7 +213,8 @@ dropped_variables (Some word) = word_as word false ∷ []
 abbrev mutual
   -- what a statement declares, in the order of its flat form
   pub declared_in : Callables → StatementTree → List FlatVariable
-  declared_in known (declaration place label mutable kind text value) = right_variables known value ++ word_as (labelled kind label) mutable ∷ []
+  declared_in known (declaration place label mutable kind text value) =
+      right_variables known value ++ word_as (labelled kind label) mutable ∷ []
   declared_in known (array place label mutable kind size text values) = array_as (labelled kind label) mutable size ∷ []
   declared_in known (assignment place target text value) = right_variables known value
   declared_in known (element_assignment place bracket target text index value) = element_variables known value
@@ -234,7 +237,8 @@ numbers_taken_all known b = length (declared_in_all known b)
 abbrev pub names_after : Callables → Numbers → ℕ → StatementTree → Numbers
 names_after known names n (declaration place label mutable kind text value) =
     naming names text (right_end known n value) (word_as (labelled kind label) mutable)
-names_after known names n (array place label mutable kind size text values) = naming names text n (array_as (labelled kind label) mutable size)
+names_after known names n (array place label mutable kind size text values) =
+    naming names text n (array_as (labelled kind label) mutable size)
 names_after known names n (assignment place target text value) = names
 names_after known names n (element_assignment place bracket target text index value) = names
 names_after known names n (call c) = names
@@ -254,15 +258,18 @@ abbrev mutual
   statement known names n (element_assignment place bracket target text index value) = element_block known names n bracket text index value
   statement known names n (call c) =
       flat.first flat.skip (chain (call_block (known c.name) names n c.arguments)
-      (dropped_block (n + length (call_variables (known c.name) c.arguments)) (call_result (known c.name)) (call_value (known c.name) names n c.arguments)))
+      (dropped_block (n + length (call_variables (known c.name) c.arguments)) (call_result (known c.name))
+      (call_value (known c.name) names n c.arguments)))
   statement known names n (conditional place condition accepted otherwise) =
-      single (flat.branch (label_in names condition) (term names condition) (block known names n accepted) (block known names (n + numbers_taken_all known accepted) otherwise))
+      single (flat.branch (label_in names condition) (term names condition) (block known names n accepted)
+      (block known names (n + numbers_taken_all known accepted) otherwise))
   statement known names n (loop place counter text low high body) =
       single (flat.loop n (term names low) (term names high) (block known (naming names text n (word_as counter_type false)) (n + 1) body))
 
   pub block : Callables → Numbers → ℕ → BlockTree → FlatBlock
   block known names n nothing = flat.nothing
-  block known names n (first s rest) = chain (statement known names n s) (block known (names_after known names n s) (n + numbers_taken known s) rest)
+  block known names n (first s rest) = chain (statement known names n s)
+      (block known (names_after known names n s) (n + numbers_taken known s) rest)
 
 -- the names after some statements
 abbrev pub names_after_all : Callables → Numbers → ℕ → BlockTree → Numbers

@@ -2,7 +2,6 @@
 // source means, with the same types and labels. Stands on the syntax tree and its typing.
 #![tactic(auto)]
 
-mod bodies;
 mod calls;
 mod flat;
 mod inlining;
@@ -14,12 +13,12 @@ mod numbering;
 mod program;
 mod sizes;
 mod statements;
-mod words;
 
 pub use flat::{FlatStatement, FlatVariable, Term};
 pub use inlining::inline;
 pub use laws::{
-    flat_is_sized, flat_is_typed, flat_keeps_meaning, flat_values_fit, typed_values_fit,
+    counts_measure_alike, flat_is_sized, flat_is_typed, flat_keeps_meaning, flat_values_fit,
+    typed_values_fit,
 };
 pub use limits::{MOST_VARIABLE_BYTES, limits_are_as_stated};
 pub use program::Flat;

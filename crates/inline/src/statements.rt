@@ -1,7 +1,7 @@
 // Statements and bodies with numbers in place of names, each put behind what there is. The body of a called procedure
 // stands where its call stood.
 
-ghost use Rattle.std.specs.Prelude.{◌≡◌, ◌++◌, ◌∷◌, [], ◌+◌, false, length, map, IfOk, OnOk};
+ghost use Rattle.std.specs.Prelude.{◌≡◌, ◌++◌, ◌∷◌, ◌+◌, false, length, map, IfOk, OnOk};
 ghost use Rattle.std.specs.Option.{option_map};
 ghost use Rattle.inline.specs.Flat as flat_forms;
 ghost use Rattle.inline.specs.Flat.{chain, counter_type, flat_block, term_tree, word_as};

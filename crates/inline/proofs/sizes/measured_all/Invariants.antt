@@ -1,7 +1,7 @@
 use Rattle.std.proofs.Common.{drop, map}
 use Rattle.language.specs.Size.{extents_of}
 use Rattle.language.specs.Tree.{procedure_tree}
-use Rattle.inline.proofs.CountLemmas.{Knows}
+use Rattle.inline.proofs.MeasureLemmas.{Knows}
 use Rattle.inline.proofs.sizes.measured_all.Given as goal
 
 -- the table counts what is known so far

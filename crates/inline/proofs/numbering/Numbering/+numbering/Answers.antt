@@ -36,8 +36,10 @@ block-loop-statement-preserved t c =
     let tree = statement_tree s in
     let trees = block_tree rest in
     record {
-      block = one_more known l.self.names between old new tree trees made.names made.declared (flat_block l.flat.items) (flat_block c.statement.new.flat.items) made.block
-          ∙ ap (λ ss. chain (flat_block l.flat.items) (block known l.self.names (length old) (block_tree ss))) (sym here) ∙ l.invariant.block;
+      block = one_more known l.self.names between old new tree trees made.names made.declared (flat_block l.flat.items)
+          (flat_block c.statement.new.flat.items) made.block
+          ∙ ap (λ ss. chain (flat_block l.flat.items) (block known l.self.names (length old) (block_tree ss)))
+          (sym here) ∙ l.invariant.block;
       names = more_names known l.self.names between old new tree trees made.names made.declared
           ∙ ap (λ ss. names_after_all known l.self.names (length old) (block_tree ss)) (sym here) ∙ l.invariant.names;
       declared = more_declared known l.self.names between old new tree trees made.names made.declared
@@ -48,25 +50,38 @@ block-loop-statement-preserved t c =
 pub block-returns-clause-block : goal.block-returns-clause-block
 block-returns-clause-block t c =
     let l = c.loop-statement in
-    let none = at_drop_all (λ ss. chain (flat_block l.flat.items) (block (called_by c.args.earlier.now) l.self.names (length l.declared.items) (block_tree ss))) c.args.block.now l.statement-index c.loop-statement-test.false in
+    let none = at_drop_all (λ ss. chain (flat_block l.flat.items)
+    (block (called_by c.args.earlier.now) l.self.names (length l.declared.items) (block_tree ss))) c.args.block.now
+    l.statement-index c.loop-statement-test.false in
     sym (chain_nothing (flat_block l.flat.items)) ∙ sym none ∙ l.invariant.block
 
 pub branch-returns-clause-block : goal.branch-returns-clause-block
 branch-returns-clause-block t c =
     ok_along c.push.result (flat_block c.args.flat.now.items) (flat_block c.push.new.flat.items) _ _
-    (numbered_branch (called_by c.args.earlier.now) c.args.self.now.names c.arm.new.self.names c.args.declared.now.items c.arm.new.declared.items (expr_tree c.args.condition.now) (block_tree c.args.accepted.now) (block_tree c.args.otherwise.now)
+    (numbered_branch (called_by c.args.earlier.now) c.args.self.now.names c.arm.new.self.names c.args.declared.now.items
+    c.arm.new.declared.items (expr_tree c.args.condition.now) (block_tree c.args.accepted.now)
+    (block_tree c.args.otherwise.now)
     c.label-label.result c.in_ok-condition.condition c.in_ok-accepted.accepted c.in_ok-otherwise.otherwise
-    c.label-label.ensures c.in_ok-condition.ensures c.in_ok-accepted.ensures.block c.in_ok-accepted.ensures.names c.in_ok-accepted.ensures.declared c.in_ok-otherwise.ensures.block)
+    c.label-label.ensures c.in_ok-condition.ensures c.in_ok-accepted.ensures.block c.in_ok-accepted.ensures.names
+    c.in_ok-accepted.ensures.declared c.in_ok-otherwise.ensures.block)
     c.push.ensures
 
 pub turns-returns-clause-block : goal.turns-returns-clause-block
 turns-returns-clause-block t c =
     ok_along c.push.result (flat_block c.args.flat.now.items) (flat_block c.push.new.flat.items) _ _
-    (numbered_turns (called_by c.args.earlier.now) c.args.self.now.names c.declare.new.self.names c.args.declared.now.items c.declare.new.declared.items c.args.counted.now.name.now _ (block_tree c.args.body.now)
-    c.in_ok-number.number (expr_tree c.args.low.now) (expr_tree c.args.high.now) c.in_ok-low.low c.in_ok-high.high c.new-turn.result.items c.block.new.flat
-    c.in_ok-number.ensures.number c.in_ok-number.ensures.names c.in_ok-number.ensures.declared c.new-turn.ensures.items c.in_ok-block.ensures.block c.in_ok-low.ensures c.in_ok-high.ensures
-    ∙ ap (λ (d : FlatVariable). single (flat.loop (length c.args.declared.now.items) (term c.args.self.now.names (expr_tree c.args.low.now)) (term c.args.self.now.names (expr_tree c.args.high.now))
-    (block (called_by c.args.earlier.now) (naming c.args.self.now.names c.args.counted.now.name.now (length c.args.declared.now.items) d) (length c.args.declared.now.items + 1) (block_tree c.args.body.now)))) c.counter.ensures)
+    (numbered_turns (called_by c.args.earlier.now) c.args.self.now.names c.declare.new.self.names
+    c.args.declared.now.items c.declare.new.declared.items c.args.counted.now.name.now _
+    (block_tree c.args.body.now)
+    c.in_ok-number.number (expr_tree c.args.low.now) (expr_tree c.args.high.now) c.in_ok-low.low c.in_ok-high.high
+    c.new-turn.result.items c.block.new.flat
+    c.in_ok-number.ensures.number c.in_ok-number.ensures.names c.in_ok-number.ensures.declared c.new-turn.ensures.items
+    c.in_ok-block.ensures.block c.in_ok-low.ensures c.in_ok-high.ensures
+    ∙ ap (λ (d : FlatVariable). single
+    (flat.loop (length c.args.declared.now.items) (term c.args.self.now.names (expr_tree c.args.low.now))
+    (term c.args.self.now.names (expr_tree c.args.high.now))
+    (block (called_by c.args.earlier.now)
+    (naming c.args.self.now.names c.args.counted.now.name.now (length c.args.declared.now.items) d)
+    (length c.args.declared.now.items + 1) (block_tree c.args.body.now)))) c.counter.ensures)
     c.push.ensures
 
 pub turns-returns-clause-names : goal.turns-returns-clause-names
@@ -74,47 +89,66 @@ turns-returns-clause-names t c =
     let known = called_by c.args.earlier.now in
     ok_any c.push.result
     (c.truncate.ensures
-    ∙ ap₂ take c.len-names.ensures (c.in_ok-block.ensures.names ∙ ap (λ ns. names_after_all known ns (length c.declare.new.declared.items) (block_tree c.args.body.now)) c.in_ok-number.ensures.names)
-    ∙ names_before_loop known c.args.self.now.names (length c.args.declared.now.items) (length c.declare.new.declared.items) c.args.counted.now.name.now _ (block_tree c.args.body.now))
+    ∙ ap₂ take c.len-names.ensures (c.in_ok-block.ensures.names
+    ∙ ap (λ ns. names_after_all known ns (length c.declare.new.declared.items) (block_tree c.args.body.now))
+    c.in_ok-number.ensures.names)
+    ∙ names_before_loop known c.args.self.now.names (length c.args.declared.now.items)
+    (length c.declare.new.declared.items) c.args.counted.now.name.now _ (block_tree c.args.body.now))
 
 pub statement-branch-self-requires : goal.statement-branch-self-requires
 statement-branch-self-requires t c =
-    let smaller = conditional_smaller c.args.earlier.now c.args.statement.now _ c.in-If.condition c.in-If.accepted c.in-If.otherwise c.deref.result.now c.deref-in-If.result.now c.in-If.is c.deref.ensures.value c.deref-in-If.ensures.value in
+    let smaller = conditional_smaller c.args.earlier.now c.args.statement.now _ c.in-If.condition c.in-If.accepted
+    c.in-If.otherwise c.deref.result.now c.deref-in-If.result.now c.in-If.is c.deref.ensures.value
+    c.deref-in-If.ensures.value in
     search (rules, smaller)
 
 pub statement-turns-requires : goal.statement-turns-requires
 statement-turns-requires t c =
-    let smaller = loop_smaller c.args.earlier.now c.args.statement.now _ c.in-For.counted c.in-For.low c.in-For.high c.in-For.body c.deref-in-For.result.now c.in-For.is c.deref-in-For.ensures.value in
+    let smaller = loop_smaller c.args.earlier.now c.args.statement.now _ c.in-For.counted c.in-For.low c.in-For.high
+    c.in-For.body c.deref-in-For.result.now c.in-For.is c.deref-in-For.ensures.value in
     search (rules, smaller)
 
 pub statement-returns-in-If-clause-block : goal.statement-returns-in-If-clause-block
 statement-returns-in-If-clause-block t c =
     ok_along c.branch-self.result (flat_block c.args.flat.now.items) (flat_block c.branch-self.new.flat.items) _ _
-    (ap (statement (called_by c.args.earlier.now) c.args.self.now.names (length c.args.declared.now.items)) (sym (conditional_whole c.args.statement.now _ c.in-If.condition c.in-If.accepted c.in-If.otherwise c.deref.result.now c.deref-in-If.result.now c.in-If.is c.deref.ensures.value c.deref-in-If.ensures.value)))
+    (ap (statement (called_by c.args.earlier.now) c.args.self.now.names (length c.args.declared.now.items))
+    (sym (conditional_whole c.args.statement.now _ c.in-If.condition c.in-If.accepted c.in-If.otherwise
+    c.deref.result.now c.deref-in-If.result.now c.in-If.is c.deref.ensures.value c.deref-in-If.ensures.value)))
     c.branch-self.ensures.block
 
 pub statement-returns-in-If-clause-declared : goal.statement-returns-in-If-clause-declared
 statement-returns-in-If-clause-declared t c =
-    subst (λ tree. OnOk c.branch-self.result (c.branch-self.new.declared.items ≡ c.args.declared.now.items ++ declared_in (called_by c.args.earlier.now) tree)) (sym (conditional_whole c.args.statement.now _ c.in-If.condition c.in-If.accepted c.in-If.otherwise c.deref.result.now c.deref-in-If.result.now c.in-If.is c.deref.ensures.value c.deref-in-If.ensures.value))
+    subst (λ tree. OnOk c.branch-self.result
+    (c.branch-self.new.declared.items ≡ c.args.declared.now.items
+    ++ declared_in (called_by c.args.earlier.now) tree))
+    (sym (conditional_whole c.args.statement.now _ c.in-If.condition c.in-If.accepted c.in-If.otherwise
+    c.deref.result.now c.deref-in-If.result.now c.in-If.is c.deref.ensures.value c.deref-in-If.ensures.value))
     c.branch-self.ensures.declared
 
 pub statement-returns-in-For-clause-block : goal.statement-returns-in-For-clause-block
 statement-returns-in-For-clause-block t c =
     ok_along c.turns.result (flat_block c.args.flat.now.items) (flat_block c.turns.new.flat.items) _ _
-    (ap (statement (called_by c.args.earlier.now) c.args.self.now.names (length c.args.declared.now.items)) (sym (loop_whole c.args.statement.now _ c.in-For.counted c.in-For.low c.in-For.high c.in-For.body c.deref-in-For.result.now c.in-For.is c.deref-in-For.ensures.value)))
+    (ap (statement (called_by c.args.earlier.now) c.args.self.now.names (length c.args.declared.now.items))
+    (sym (loop_whole c.args.statement.now _ c.in-For.counted c.in-For.low c.in-For.high c.in-For.body
+    c.deref-in-For.result.now c.in-For.is c.deref-in-For.ensures.value)))
     c.turns.ensures.block
 
 pub statement-returns-in-For-clause-declared : goal.statement-returns-in-For-clause-declared
 statement-returns-in-For-clause-declared t c =
-    subst (λ tree. OnOk c.turns.result (c.turns.new.declared.items ≡ c.args.declared.now.items ++ declared_in (called_by c.args.earlier.now) tree)) (sym (loop_whole c.args.statement.now _ c.in-For.counted c.in-For.low c.in-For.high c.in-For.body c.deref-in-For.result.now c.in-For.is c.deref-in-For.ensures.value))
+    subst (λ tree. OnOk c.turns.result
+    (c.turns.new.declared.items ≡ c.args.declared.now.items ++ declared_in (called_by c.args.earlier.now) tree))
+    (sym (loop_whole c.args.statement.now _ c.in-For.counted c.in-For.low c.in-For.high c.in-For.body
+    c.deref-in-For.result.now c.in-For.is c.deref-in-For.ensures.value))
     c.turns.ensures.declared
 
 pub word-returns-clause-block : goal.word-returns-clause-block
 word-returns-clause-block t c =
-    let number = c.in_ok-number.ensures.number ∙ next_number c.args.declared.now.items c.right.new.declared.items _ c.in_ok-value.ensures.declared in
+    let number = c.in_ok-number.ensures.number ∙ next_number c.args.declared.now.items c.right.new.declared.items _
+    c.in_ok-value.ensures.declared in
     ok_behind c.push.result (flat_block c.args.flat.now.items) (flat_block c.right.new.flat.items) (flat_block c.push.new.flat.items) _ _ _
     c.in_ok-value.ensures.block
-    (ap₂ (λ k v. single (flat.declare k (labelled c.args.declaration.now.kind c.args.declaration.now.label) c.args.declaration.now.mutable v)) number c.in_ok-value.ensures.value)
+    (ap₂ (λ k v. single (flat.declare k (labelled c.args.declaration.now.kind c.args.declaration.now.label)
+    c.args.declaration.now.mutable v)) number c.in_ok-value.ensures.value)
     c.push.ensures
 
 pub call-returns-in_default-clause-word : goal.call-returns-in_default-clause-word
@@ -122,29 +156,36 @@ call-returns-in_default-clause-word t c = none_result c.args.earlier.now c.args.
 
 pub call-returns-in_default-clause-value : goal.call-returns-in_default-clause-value
 call-returns-in_default-clause-value t c =
-    none_value c.args.earlier.now c.args.call.now.name.now c.args.self.now.names (length c.args.declared.now.items) (map expr_tree c.args.call.now.arguments.items) c.in_default.ensures
+    none_value c.args.earlier.now c.args.call.now.name.now c.args.self.now.names (length c.args.declared.now.items)
+    (map expr_tree c.args.call.now.arguments.items) c.in_default.ensures
 
 pub call-returns-in_default-clause-block : goal.call-returns-in_default-clause-block
 call-returns-in_default-clause-block t c =
-    none_block c.args.earlier.now c.args.call.now.name.now c.args.self.now.names (length c.args.declared.now.items) (map expr_tree c.args.call.now.arguments.items) (flat_block c.args.flat.now.items) c.in_default.ensures
+    none_block c.args.earlier.now c.args.call.now.name.now c.args.self.now.names (length c.args.declared.now.items)
+    (map expr_tree c.args.call.now.arguments.items) (flat_block c.args.flat.now.items) c.in_default.ensures
 
 pub call-returns-in_default-clause-declared : goal.call-returns-in_default-clause-declared
 call-returns-in_default-clause-declared t c =
-    none_declared c.args.earlier.now c.args.call.now.name.now (map expr_tree c.args.call.now.arguments.items) c.args.declared.now.items c.in_default.ensures
+    none_declared c.args.earlier.now c.args.call.now.name.now (map expr_tree c.args.call.now.arguments.items)
+    c.args.declared.now.items c.in_default.ensures
 
 pub call-block-requires : goal.call-block-requires
 call-block-requires t c =
-    let smaller = body_smaller c.args.earlier.now c.in-Some.before.now c.in-Some.callee.now (call_tree c.args.call.now) c.deref-3.result.now c.in-Some.ensures c.deref-3.ensures.value in
+    let smaller = body_smaller c.args.earlier.now c.in-Some.before.now c.in-Some.callee.now (call_tree c.args.call.now)
+    c.deref-3.result.now c.in-Some.ensures c.deref-3.ensures.value in
     search (rules, smaller)
 
 pub call-returns-clause-word : goal.call-returns-clause-word
-call-returns-clause-word t c = called_result c.args.earlier.now c.in-Some.before.now c.in-Some.callee.now c.args.call.now.name.now c.in-Some.ensures
+call-returns-clause-word t c = called_result c.args.earlier.now c.in-Some.before.now c.in-Some.callee.now
+    c.args.call.now.name.now c.in-Some.ensures
 
 pub call-returns-clause-value : goal.call-returns-clause-value
 call-returns-clause-value t c =
     let names = c.args.self.now.names in
     let old = c.args.declared.now.items in
-    subst (λ xs. option_map term_tree c.in_ok-value.value ≡ call_value (called_by c.args.earlier.now c.args.call.now.name.now) names (length old) (map expr_tree xs)) c.deref-2.ensures.value
+    subst (λ xs. option_map term_tree c.in_ok-value.value ≡ call_value
+    (called_by c.args.earlier.now c.args.call.now.name.now) names (length old) (map expr_tree xs))
+    c.deref-2.ensures.value
     (called_value c.args.earlier.now c.in-Some.before.now c.in-Some.callee.now c.args.call.now.name.now c.in-Some.ensures
     names c.deref.result.now (map expr_tree c.deref-2.result.now) c.deref.ensures.value c.deref-3.result.now c.deref-3.ensures.value
     old c.pass.new.declared.items c.in_ok-own.ensures.declared c.in_ok-own.own.names c.in_ok-own.ensures.own
@@ -154,17 +195,21 @@ pub call-returns-clause-block : goal.call-returns-clause-block
 call-returns-clause-block t c =
     let names = c.args.self.now.names in
     let old = c.args.declared.now.items in
-    subst (λ xs. flat_block c.block.new.flat.items ≡ chain (flat_block c.args.flat.now.items) (call_block (called_by c.args.earlier.now c.args.call.now.name.now) names (length old) (map expr_tree xs))) c.deref-2.ensures.value
+    subst (λ xs. flat_block c.block.new.flat.items ≡ chain (flat_block c.args.flat.now.items)
+    (call_block (called_by c.args.earlier.now c.args.call.now.name.now) names (length old) (map expr_tree xs)))
+    c.deref-2.ensures.value
     (called_block c.args.earlier.now c.in-Some.before.now c.in-Some.callee.now c.args.call.now.name.now c.in-Some.ensures
     names c.deref.result.now (map expr_tree c.deref-2.result.now) c.deref.ensures.value c.deref-3.result.now c.deref-3.ensures.value
     old c.pass.new.declared.items c.in_ok-own.ensures.declared c.in_ok-own.own.names c.in_ok-own.ensures.own
-    (flat_block c.args.flat.now.items) (flat_block c.pass.new.flat.items) (flat_block c.block.new.flat.items) c.in_ok-own.ensures.block c.in_ok-block.ensures.block)
+    (flat_block c.args.flat.now.items) (flat_block c.pass.new.flat.items) (flat_block c.block.new.flat.items)
+    c.in_ok-own.ensures.block c.in_ok-block.ensures.block)
 
 pub call-returns-clause-declared : goal.call-returns-clause-declared
 call-returns-clause-declared t c =
     let names = c.args.self.now.names in
     let old = c.args.declared.now.items in
-    subst (λ xs. c.block.new.declared.items ≡ old ++ call_variables (called_by c.args.earlier.now c.args.call.now.name.now) (map expr_tree xs)) c.deref-2.ensures.value
+    subst (λ xs. c.block.new.declared.items ≡ old ++ call_variables
+    (called_by c.args.earlier.now c.args.call.now.name.now) (map expr_tree xs)) c.deref-2.ensures.value
     (called_declared c.args.earlier.now c.in-Some.before.now c.in-Some.callee.now c.args.call.now.name.now c.in-Some.ensures
     names c.deref.result.now (map expr_tree c.deref-2.result.now) c.deref.ensures.value c.deref-3.result.now c.deref-3.ensures.value
     old c.pass.new.declared.items c.in_ok-own.ensures.declared c.in_ok-own.own.names c.in_ok-own.ensures.own
@@ -177,12 +222,17 @@ call_alone-returns-in_ok-push-2-clause-block t c =
     let names = c.args.self.now.names in
     let old = c.args.declared.now.items in
     let called = c.in_ok-word.ensures in
-    let result : call_result known ≡ Some c.in-Some.word = let a = called.word in let b = c.in_ok-word.word-is in let d = c.in-Some.is in cc in
-    let value : term_tree c.value_given.result ≡ value_given (call_value known names (length old) es) = let a = called.value in let b = c.in_ok-word.value-is in let d = c.value_given.ensures in cc in
+    let result : call_result known ≡ Some c.in-Some.word = let a = called.word in let b =
+    c.in_ok-word.word-is in let d = c.in-Some.is in cc in
+    let value : term_tree c.value_given.result ≡ value_given (call_value known names (length old) es) = let a =
+    called.value in let b = c.in_ok-word.value-is in let d = c.value_given.ensures in cc in
     let number = c.in_ok-number.ensures.number ∙ next_number old c.call.new.declared.items (call_variables known es) called.declared in
-    behind_both (flat_block c.args.flat.now.items) (flat_block c.push.new.flat.items) (flat_block c.call.new.flat.items) (flat_block c.push-in-Some.new.flat.items) (single flat.skip) (call_block known names (length old) es) _
+    behind_both (flat_block c.args.flat.now.items) (flat_block c.push.new.flat.items) (flat_block c.call.new.flat.items)
+    (flat_block c.push-in-Some.new.flat.items) (single flat.skip) (call_block known names (length old) es) _
     c.in_ok-push.ensures called.block
-    (c.in_ok-push-2.ensures ∙ ap (chain (flat_block c.call.new.flat.items)) (numbered_dropped (length old + length (call_variables known es)) c.in_ok-number.number (call_result known) c.in-Some.word (call_value known names (length old) es) (term_tree c.value_given.result) result number value))
+    (c.in_ok-push-2.ensures ∙ ap (chain (flat_block c.call.new.flat.items))
+    (numbered_dropped (length old + length (call_variables known es)) c.in_ok-number.number (call_result known)
+    c.in-Some.word (call_value known names (length old) es) (term_tree c.value_given.result) result number value))
 
 pub element-returns-in_ok-given-in-Call-clause-block :
     goal.element-returns-in_ok-given-in-Call-clause-block
@@ -194,8 +244,12 @@ element-returns-in_ok-given-in-Call-clause-block t c =
     let begun = flat_block c.args.flat.now.items in
     let own = c.numbered-number.result in
     let given = c.in_ok-given-in-Call in
-    subst (λ right. OnOk c.push-in-Call-2.result (flat_block c.push-in-Call-2.new.flat.items ≡ chain begun (element_block known names (length old) a.bracket a.name.now (expr_tree a.index) (right_tree right)))) (sym c.in-Call.is)
-    (numbered_element c.push-in-Call-2.result known names old c.add.new.declared.items c.counter.result a.bracket a.name.now (expr_tree a.index) (call_tree c.in-Call.call)
+    subst (λ right. OnOk c.push-in-Call-2.result
+    (flat_block c.push-in-Call-2.new.flat.items ≡ chain begun
+    (element_block known names (length old) a.bracket a.name.now (expr_tree a.index) (right_tree right))))
+    (sym c.in-Call.is)
+    (numbered_element c.push-in-Call-2.result known names old c.add.new.declared.items c.counter.result a.bracket
+    a.name.now (expr_tree a.index) (call_tree c.in-Call.call)
     c.in_ok-held-in-Call.held own.number c.numbers-size.result (term_tree c.in_ok-index.index) (term_tree c.value_given-value.result)
     begun (flat_block c.push-in-Call.new.flat.items) (flat_block c.call.new.flat.items) (flat_block c.push-in-Call-2.new.flat.items)
     c.in_ok-held-in-Call.ensures.number c.in_ok-held-in-Call.ensures.declared (ap (λ (x : Numbered). x.number) c.numbered-number.ensures)

@@ -14,8 +14,10 @@ invariant-block-loop-statement l =
     let rest = block_tree (drop l.statement-index l.block) in
     let all = block_tree l.block in
     record {
-      block : chain (flat_block l.flat.items) (block known l.self.names (length l.declared.items) rest) ≡ chain (flat_block l.fn.flat.items) (block known l.fn.self.names (length l.fn.declared.items) all);
-      names : names_after_all known l.self.names (length l.declared.items) rest ≡ names_after_all known l.fn.self.names (length l.fn.declared.items) all;
+      block : chain (flat_block l.flat.items) (block known l.self.names (length l.declared.items) rest)
+          ≡ chain (flat_block l.fn.flat.items) (block known l.fn.self.names (length l.fn.declared.items) all);
+      names : names_after_all known l.self.names (length l.declared.items) rest
+          ≡ names_after_all known l.fn.self.names (length l.fn.declared.items) all;
       declared : l.declared.items ++ declared_in_all known rest ≡ l.fn.declared.items ++ declared_in_all known all;
       smaller : nodes_of_block l.earlier (drop l.statement-index l.block) ≤ nodes_of_block l.earlier l.block;
     }
@@ -35,7 +37,8 @@ abbrev pub decreases-assign : goal.decreases-assign
 decreases-assign l = 8 * (1 + nodes_of_right l.earlier.now (right_tree l.assignment.now.value)) + 5
 
 abbrev pub decreases-element : goal.decreases-element
-decreases-element l = 8 * (1 + (1 + nodes_in (expr_tree l.assignment.now.index)) + nodes_of_right l.earlier.now (right_tree l.assignment.now.value)) + 5
+decreases-element l = 8 * (1 + (1 + nodes_in (expr_tree l.assignment.now.index))
+    + nodes_of_right l.earlier.now (right_tree l.assignment.now.value)) + 5
 
 abbrev pub decreases-call_alone : goal.decreases-call_alone
 decreases-call_alone l = 8 * nodes_of_call l.earlier.now (call_tree l.call.now) + 5
@@ -47,7 +50,8 @@ abbrev pub decreases-right : goal.decreases-right
 decreases-right l = 8 * nodes_of_right l.earlier.now (right_tree l.right.now) + 1
 
 abbrev pub decreases-branch : goal.decreases-branch
-decreases-branch l = 8 * (1 + nodes_in (expr_tree l.condition.now) + nodes_of_block l.earlier.now l.accepted.now + nodes_of_block l.earlier.now l.otherwise.now) + 5
+decreases-branch l = 8 * (1 + nodes_in (expr_tree l.condition.now) + nodes_of_block l.earlier.now l.accepted.now
+    + nodes_of_block l.earlier.now l.otherwise.now) + 5
 
 abbrev pub decreases-arm : goal.decreases-arm
 decreases-arm l = 8 * nodes_of_block l.earlier.now l.arm.now + 8

@@ -11,6 +11,7 @@ invariant-loop-parameter l =
     let all = map parameter_tree l.parameters in
     record {
       params : l.params.items ≡ map param_of (map parameter_tree (take l.parameter-index l.parameters));
-      names : with_parameters l.self.names (length l.declared.items) rest ≡ with_parameters l.fn.self.names (length l.fn.declared.items) all;
+      names : with_parameters l.self.names (length l.declared.items) rest
+          ≡ with_parameters l.fn.self.names (length l.fn.declared.items) all;
       declared : l.declared.items ++ map declaration_of (map param_of rest) ≡ l.fn.declared.items ++ map declaration_of (map param_of all);
     }

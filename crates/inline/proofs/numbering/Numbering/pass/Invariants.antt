@@ -13,6 +13,8 @@ invariant-loop-index l =
     let names = l.self.names in
     let old = l.fn.declared.items in
     record {
-      all : Passes names (flat_block l.flat.items) l.own.names l.declared.items (map parameter_tree (drop l.index l.parameters)) (map expr_tree (drop l.index l.arguments))
-          (chain (flat_block l.fn.flat.items) (passed names (length old) ps es)) (begun names [] (length old) ps es) (old ++ passed_variables ps es);
+      all : Passes names (flat_block l.flat.items) l.own.names l.declared.items
+          (map parameter_tree (drop l.index l.parameters)) (map expr_tree (drop l.index l.arguments))
+          (chain (flat_block l.fn.flat.items) (passed names (length old) ps es)) (begun names [] (length old) ps es)
+          (old ++ passed_variables ps es);
     }

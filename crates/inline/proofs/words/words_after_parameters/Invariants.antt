@@ -1,9 +1,0 @@
-use Rattle.std.proofs.Common.{◌≡◌, ◌+◌, drop, map}
-use Rattle.language.specs.Size.{parameter_words}
-use Rattle.language.specs.Tree.{parameter_tree}
-use Rattle.inline.proofs.words.words_after_parameters.Given as goal
-
--- the room left and that for the parameters left make the room at first
-abbrev pub invariant-loop-parameter : goal.invariant-loop-parameter
-invariant-loop-parameter l =
-    l.left + parameter_words (map parameter_tree l.parameters) ≡ l.room + parameter_words (map parameter_tree (drop l.parameter-index l.parameters))
