@@ -195,5 +195,5 @@ bounded p typed sized fits = record {
   nodes = sized.nodes;
   worked = omega (arith, no_more_work_all (ranged p).turns p.declared _ Public p.body typed.body None 0);
   work_fits = fits;
-  controls = controls_taken_all None 0 p.body;
+  controls = omega (arith, controls_taken_all None 0 p.body, few_nodes_all None 0 p.body, sized.counted);
 }

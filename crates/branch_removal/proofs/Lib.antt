@@ -11,5 +11,6 @@ pub mod Loose
 pub mod Fine
 pub mod BoundLemmas
 pub mod Results
+pub mod Shown
 pub mod Removed
 pub mod Statements

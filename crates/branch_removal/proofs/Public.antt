@@ -11,12 +11,11 @@ use Rattle.language.specs.declared.typing.WordType.{WordType}
 use Rattle.word.specs.declared.profile.Profile.{Profile}
 use Rattle.branch_removal.specs.Straight.{StraightTree, set, clear, fill, put, take, set_under, put_under, branch, repeats, StraightBlock, nothing, first}
 use Rattle.branch_removal.specs.StraightMeaning.{StraightState, with_variable, value_at, counted, after, after_all, path_at, path_along}
-use Rattle.branch_removal.specs.StraightTyping.{IsTyped, AreTyped, IsPut, types_but}
+use Rattle.branch_removal.specs.StraightTyping.{IsTyped, AreTyped, IsPut, types_but, IsSecret, IsHidden, AreHidden}
 use Rattle.branch_removal.proofs.Scopes.{but_among, suit_among}
 use Rattle.branch_removal.proofs.Agreement.{Agree, what_is_public, set_in_both}
 use Rattle.branch_removal.proofs.Runs.{turns_relate_from, turns_seen}
 use Rattle.branch_removal.proofs.SeenLemmas.{both_seen}
-use Rattle.branch_removal.proofs.Typed.{IsHidden, AreHidden, IsSecret}
 use Rattle.branch_removal.proofs.Unchanged.{hidden, set_quietly}
 use Rattle.branch_removal.proofs.Values.{public_value, public_suited, public_all, one_seen, all_seen}
 

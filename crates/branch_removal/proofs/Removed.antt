@@ -1,8 +1,7 @@
 -- Straight code is what is promised of it.
 use Rattle.std.proofs.Common.{◌≡◌, ℕ, ◌≤◌, List, Option, None, Some, slice_get, refl, ap₂, subst, sym, arith}
-use Rattle.arguments.specs.Agreement as arguments
 use Rattle.arguments.specs.Within.{AreWithin}
-use Rattle.inline.specs.Flat.{FlatProgram, declaration_of}
+use Rattle.inline.specs.Flat.{FlatProgram, TermTree, declaration_of}
 use Rattle.inline.specs.FlatMeaning.{given, value_in, path_of_result}
 use Rattle.inline.specs.FlatMeaning as flat
 use Rattle.inline.specs.FlatSize.{IsSized}
@@ -26,12 +25,12 @@ use Rattle.branch_removal.proofs.Agreement.{Agree, everything, what_is_public}
 use Rattle.branch_removal.proofs.BoundLemmas.{bounded}
 use Rattle.branch_removal.proofs.Fine.{fine_all, fine_both, fine_front, fine_back}
 use Rattle.branch_removal.proofs.Loose.{returns, follow_all}
-use Rattle.branch_removal.proofs.Public.{in_step_all, same_seen_all}
-use Rattle.branch_removal.proofs.Results.{parameters_among, parameter_at, given_in_step, all_arrays, all_public_arrays, same_return}
+use Rattle.branch_removal.proofs.Results.{parameters_among, parameter_at, all_arrays}
 use Rattle.branch_removal.proofs.Same.{same_all}
 use Rattle.branch_removal.proofs.Scopes.{AreAmong, among_after_all, result_among, stays_all}
-use Rattle.branch_removal.proofs.Typed.{AreHidden, hidden_all, typed_all}
-use Rattle.branch_removal.proofs.SeenLemmas.{both_seen, fine_alike}
+use Rattle.branch_removal.proofs.Typed.{hidden_all, typed_all}
+use Rattle.branch_removal.proofs.SeenLemmas.{fine_alike}
+use Rattle.branch_removal.proofs.Shown.{same_paths, same_public}
 use Rattle.branch_removal.proofs.Values.{one_result, result_seen}
 
 module _ (p : FlatProgram) (typed : IsTypedProgram p) where
@@ -45,11 +44,9 @@ module _ (p : FlatProgram) (typed : IsTypedProgram p) where
   typed_straight = record {
     parameters = typed.parameters;
     body = typed_all p.profile p.declared (controls_in_all p.body) (parameter_types p.profile p.parameters) Public p.body typed.body first_among None 0 tt (omega arith);
+    hidden = hidden_all p.profile p.declared (parameter_types p.profile p.parameters) Public p.body typed.body first_among None 0 tt;
     result = result_among (end_types p) (types_of p.profile p.declared) end_among p.returned p.value typed.result;
   }
-
-  hidden_straight : AreHidden p.declared (removed_all None 0 p.body)
-  hidden_straight = hidden_all p.profile p.declared (parameter_types p.profile p.parameters) Public p.body typed.body first_among None 0 tt
 
   -- a parameter is in scope at the end
   parameter_stays : (k : ℕ) (parameter : Param) → slice_get p.parameters k ≡ Some parameter → (end_types p).at k ≡ Some (declaration_of parameter)
@@ -80,25 +77,6 @@ module _ (p : FlatProgram) (typed : IsTypedProgram p) where
         (fine_back turns run.path (path_of_result run.end p.value)
         (safe args _ within (record { end = run.end; front = run.path; back = path_of_result run.end p.value; body = run.leads; result = returns p.profile p.declared run.end p.value; whole = refl }))))
 
-  module _ (one other : List Arg) (agree : arguments.Agree p.parameters one other) where
-    first_agree : Agree what_is_public (types_of p.profile p.declared) (given p.declared one) (given p.declared other)
-    first_agree = given_in_step p.profile p.parameters p.declared one other typed.parameters agree.one_within agree.other_within agree.equal
-
-    end_agree : Agree what_is_public (types_of p.profile p.declared) (end_of (straightened (ranged p)) one) (end_of (straightened (ranged p)) other)
-    end_agree = in_step_all p.profile p.declared (controls_in_all p.body) (removed_all None 0 p.body) typed_straight.body hidden_straight
-        (start (straightened (ranged p)) one) (start (straightened (ranged p)) other) first_agree
-
-    same_paths : seen p.profile (path_of (straightened (ranged p)) one) ≡ seen p.profile (path_of (straightened (ranged p)) other)
-    same_paths =
-        let s = start (straightened (ranged p)) one in
-        let t = start (straightened (ranged p)) other in
-        let code = removed_all None 0 p.body in
-        both_seen p.profile
-        (path_along s code) (path_of_result (end_of (straightened (ranged p)) one) p.value)
-        (path_along t code) (path_of_result (end_of (straightened (ranged p)) other) p.value)
-        (same_seen_all p.profile p.declared (controls_in_all p.body) code typed_straight.body hidden_straight s t first_agree)
-        (result_seen (types_of p.profile p.declared) _ _ end_agree p.returned p.value typed_straight.result)
-
 is_removed : (p : FlatProgram) → IsTypedProgram p → IsSized p → IsSafe p (ranged p).turns → (ranged p).work ≤ most_work → IsRemoved (ranged p) (straightened (ranged p))
 is_removed p typed sized safe fits = record {
   profile = refl;
@@ -112,16 +90,12 @@ is_removed p typed sized safe fits = record {
   typed = typed_straight p typed;
   outcome = λ args within. same_outcome p typed args;
   fine = λ args within. fine_path p typed args (ranged p).turns safe within;
-  paths = λ one other agree. same_paths p typed one other agree;
-  public = λ one other agree. record {
-    returned_equal = λ public. same_return (types_of p.profile p.declared) _ _ (end_agree p typed one other agree) p.returned p.value (typed_straight p typed).result public;
-    arrays_equal = all_public_arrays p.parameters _ _ (λ k parameter there public.
-        end_agree p typed one other agree k (declaration_of parameter) ((first_among p typed).at k (declaration_of parameter) (parameter_at p.parameters k parameter there)) public);
-  };
+  paths = λ one other agree. same_paths (straightened (ranged p)) (typed_straight p typed) one other agree;
+  public = λ one other agree. same_public (straightened (ranged p)) (typed_straight p typed) one other agree;
 }
 
 -- straight code of these controls and statements
-pub as_listed : (r : RangedProgram) (controls : ℕ) (body : StraightBlock) → controls ≡ controls_in_all r.flat.body → body ≡ removed_all None 0 r.flat.body
+pub as_listed : (r : RangedProgram) (controls : ℕ) (body : StraightBlock) (value : Option TermTree) → controls ≡ controls_in_all r.flat.body → body ≡ removed_all None 0 r.flat.body → value ≡ r.flat.value
     → record {
       profile = r.flat.profile;
       parameters = r.flat.parameters;
@@ -132,9 +106,9 @@ pub as_listed : (r : RangedProgram) (controls : ℕ) (body : StraightBlock) → 
       declared = r.flat.declared;
       controls = controls;
       body = body;
-      value = r.flat.value;
+      value = value;
     } ≡ straightened r
-as_listed r controls body counted same = rw (counted, same) refl
+as_listed r controls body value counted same given = rw (counted, same, given) refl
 
 -- so of a body with what is counted for it
 pub removed_as_promised : (r : RangedProgram) → IsFlat r.flat → IsRanged r → IsRemoved r (straightened r)

@@ -4,7 +4,7 @@ use Rattle.std.proofs.Math.Nat.{le-max_left, le-max_right}
 use mathlib.Core.Former.{Count}
 use Rattle.inline.specs.declared.flat.FlatStatement.{FlatStatement, Branch, Branch', Loop, Loop', Row_of-FlatStatement, end_of-FlatStatement, more_of-FlatStatement, items-the_row-FlatStatement, items_hidden-the_row-FlatStatement-0}
 use Rattle.inline.specs.declared.flat.Term.{Term}
-use Rattle.inline.specs.Flat.{term_tree, flat_tree, row_tree, flat_block}
+use Rattle.inline.specs.Flat.{TermTree, term_tree, flat_tree, row_tree, flat_block}
 use Rattle.inline.specs.Flat as flat
 use Rattle.inline.specs.FlatSize.{body_nodes, tree_nodes}
 use Rattle.language.specs.declared.signature.Label.{Label}
@@ -56,19 +56,19 @@ abbrev code_of_body : StraightStatement → (n : Count) × code.Row_of-StraightS
 code_of_body (code.Repeat' x low high shape body) = (_, body)
 code_of_body _ = (_, code.end_of-StraightStatement)
 
-straight_branch : (condition : Bor Term) (accepted otherwise : Vec StraightStatement Global) →
-    straight_tree (code.Branch condition accepted otherwise) ≡ branch (term_tree condition.now) (straight_block accepted.items) (straight_block otherwise.items)
+straight_branch : (condition : Term) (accepted otherwise : Vec StraightStatement Global) →
+    straight_tree (code.Branch condition accepted otherwise) ≡ branch (term_tree condition) (straight_block accepted.items) (straight_block otherwise.items)
 straight_branch condition accepted otherwise =
     let both = code_arms (code.Branch condition accepted otherwise) in
-    ap₂ (branch (term_tree condition.now))
+    ap₂ (branch (term_tree condition))
     (code_rows both.0.0 both.0.1 ∙ ap straight_block (code.items_hidden-the_row-StraightStatement-0 accepted))
     (code_rows both.1.0 both.1.1 ∙ ap straight_block (code.items_hidden-the_row-StraightStatement-0 otherwise))
 
-straight_loop : (x : ℕ) (low high : Bor Term) (body : Vec StraightStatement Global) →
-    straight_tree (code.Repeat x low high body) ≡ repeats x (term_tree low.now) (term_tree high.now) (straight_block body.items)
+straight_loop : (x : ℕ) (low high : Term) (body : Vec StraightStatement Global) →
+    straight_tree (code.Repeat x low high body) ≡ repeats x (term_tree low) (term_tree high) (straight_block body.items)
 straight_loop x low high body =
     let inner = code_of_body (code.Repeat x low high body) in
-    ap (repeats x (term_tree low.now) (term_tree high.now)) (code_rows inner.0 inner.1 ∙ ap straight_block (code.items_hidden-the_row-StraightStatement-0 body))
+    ap (repeats x (term_tree low) (term_tree high)) (code_rows inner.0 inner.1 ∙ ap straight_block (code.items_hidden-the_row-StraightStatement-0 body))
 
 -- Lists of statements.
 
@@ -96,16 +96,19 @@ nodes_behind [] (suc i) = omega arith
 nodes_behind (s ∷ body) zero = omega arith
 nodes_behind (s ∷ body) (suc i) = omega (arith, nodes_behind body i)
 
-pub pushed_branch : (old new : List StraightStatement) (condition : Bor Term) (accepted otherwise : Vec StraightStatement Global)
-    → new ≡ old ++ code.Branch condition accepted otherwise ∷ []
-    → straight_block new ≡ chain (straight_block old) (first (branch (term_tree condition.now) (straight_block accepted.items) (straight_block otherwise.items)) nothing)
-pushed_branch old new condition accepted otherwise items =
-    pushed old new (code.Branch condition accepted otherwise) _ items (straight_branch condition accepted otherwise)
+pub pushed_branch : (old new : List StraightStatement) (condition : Term) (tree : TermTree) (accepted otherwise : Vec StraightStatement Global)
+    → term_tree condition ≡ tree → new ≡ old ++ code.Branch condition accepted otherwise ∷ []
+    → straight_block new ≡ chain (straight_block old) (first (branch tree (straight_block accepted.items) (straight_block otherwise.items)) nothing)
+pushed_branch old new condition tree accepted otherwise same items =
+    pushed old new (code.Branch condition accepted otherwise) _ items
+    (straight_branch condition accepted otherwise ∙ ap (λ e. branch e (straight_block accepted.items) (straight_block otherwise.items)) same)
 
-pub pushed_loop : (old new : List StraightStatement) (x : ℕ) (low high : Bor Term) (body : Vec StraightStatement Global)
-    → new ≡ old ++ code.Repeat x low high body ∷ []
-    → straight_block new ≡ chain (straight_block old) (first (repeats x (term_tree low.now) (term_tree high.now) (straight_block body.items)) nothing)
-pushed_loop old new x low high body items = pushed old new (code.Repeat x low high body) _ items (straight_loop x low high body)
+pub pushed_loop : (old new : List StraightStatement) (x : ℕ) (low high : Term) (from to : TermTree) (body : Vec StraightStatement Global)
+    → term_tree low ≡ from → term_tree high ≡ to → new ≡ old ++ code.Repeat x low high body ∷ []
+    → straight_block new ≡ chain (straight_block old) (first (repeats x from to (straight_block body.items)) nothing)
+pushed_loop old new x low high from to body at_low at_high items =
+    pushed old new (code.Repeat x low high body) _ items
+    (straight_loop x low high body ∙ ap₂ (λ e f. repeats x e f (straight_block body.items)) at_low at_high)
 
 -- of some statements one more
 pub passed : (within : Option ℕ) (control : ℕ) (body : List FlatStatement) (i : ℕ) (item : FlatStatement) → drop i body ≡ item ∷ drop (i + 1) body

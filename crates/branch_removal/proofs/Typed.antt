@@ -12,7 +12,7 @@ use Rattle.word.specs.declared.profile.Profile.{Profile}
 use Rattle.branch_removal.specs.private.Removal.{removed, removed_all, controls_in, controls_in_all}
 use Rattle.branch_removal.specs.Straight.{StraightTree, set, clear, fill, take, set_under, put_under, repeats, StraightBlock, chain}
 use Rattle.branch_removal.specs.Straight as straight
-use Rattle.branch_removal.specs.StraightTyping.{AreTyped, IsAmong, types_but}
+use Rattle.branch_removal.specs.StraightTyping.{AreTyped, IsAmong, types_but, IsSecret, AreHidden}
 use Rattle.branch_removal.proofs.Scopes.{AreAmong, has_type_among, suits_among, suit_among, among_beside, among_after, among_but}
 
 -- as many values as elements are declared, where some are written
@@ -22,28 +22,7 @@ counted_as word mutable size declared x values count known =
     subst (λ n. slice_get declared x ≡ Some (array_as word mutable n)) (sym count) known
 
 module _ (declared : List FlatVariable) where
-  -- a secret variable
-  abbrev pub IsSecret : ℕ → Type 0
-  IsSecret x = (d : FlatVariable) → slice_get declared x ≡ Some d → d.word.label ≡ Secret
-
-  abbrev mutual
-    -- only what is secret is set under a control value
-    pub IsHidden : StraightTree → Type 0
-    IsHidden (set x value) = Unit {0}
-    IsHidden (clear x size) = Unit {0}
-    IsHidden (fill x values) = Unit {0}
-    IsHidden (straight.put place x size index value) = Unit {0}
-    IsHidden (take control within condition) = Unit {0}
-    IsHidden (set_under control x value) = IsSecret x
-    IsHidden (put_under control place x size index value) = IsSecret x
-    IsHidden (straight.branch condition accepted otherwise) = AreHidden accepted × AreHidden otherwise
-    IsHidden (repeats x low high body) = AreHidden body
-
-    pub AreHidden : StraightBlock → Type 0
-    AreHidden straight.nothing = Unit {0}
-    AreHidden (straight.first statement rest) = IsHidden statement × AreHidden rest
-
-  hidden-chain : (these those : StraightBlock) → AreHidden these → AreHidden those → AreHidden (chain these those)
+  hidden-chain : (these those : StraightBlock) → AreHidden declared these → AreHidden declared those → AreHidden declared (chain these those)
   hidden-chain straight.nothing those one other = other
   hidden-chain (straight.first statement these) those one other = (one.0, hidden-chain these those one.1 other)
 

@@ -70,5 +70,5 @@ pub record IsBounded (p : StraightProgram) : Type 0 where
   pub nodes : p.nodes ≤ most_nodes
   pub worked : block_work p.turns p.body + value_nodes p.value ≤ p.work
   pub work_fits : p.work ≤ most_work
-  -- there are at most two control values for each condition that is taken
-  pub controls : p.controls ≤ 2 * taken_in_all p.body
+  -- there are at most two control values for each condition that is taken, and one for each node fewer than the source has
+  pub controls : p.controls + (block_nodes p.body + value_nodes p.value) ≤ p.nodes + 2 * taken_in_all p.body

@@ -5,4 +5,5 @@ pub mod Bounds
 pub mod Kept
 pub mod Removed
 pub mod Exact
+pub mod Replaced
 pub mod private

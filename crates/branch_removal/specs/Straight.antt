@@ -57,17 +57,32 @@ pub record StraightProgram : Type 0 where
   -- the result, where there is one
   pub value : Option TermTree
 
+-- the same program with another body and another result
+abbrev pub with_body : StraightProgram → StraightBlock → Option TermTree → StraightProgram
+with_body p body value = record {
+  profile = p.profile;
+  parameters = p.parameters;
+  returned = p.returned;
+  nodes = p.nodes;
+  work = p.work;
+  turns = p.turns;
+  declared = p.declared;
+  controls = p.controls;
+  body = body;
+  value = value;
+}
+
 abbrev mutual
   pub straight_tree : StraightStatement → StraightTree
-  straight_tree (Set x value) = set x (term_tree value.now)
+  straight_tree (Set x value) = set x (term_tree value)
   straight_tree (Clear x size) = clear x size
-  straight_tree (Fill x values) = fill x (map term_tree values.now)
-  straight_tree (Put place x size index value) = put place x size (term_tree index.now) (term_tree value.now)
-  straight_tree (Take c within condition) = take c within (term_tree condition.now)
-  straight_tree (SetUnder c x value) = set_under c x (term_tree value.now)
-  straight_tree (PutUnder c place x size index value) = put_under c place x size (term_tree index.now) (term_tree value.now)
-  straight_tree (Branch' condition shape accepted shape' otherwise) = branch (term_tree condition.now) (straight_row accepted) (straight_row otherwise)
-  straight_tree (Repeat' x low high shape body) = repeats x (term_tree low.now) (term_tree high.now) (straight_row body)
+  straight_tree (Fill x values) = fill x (map term_tree values.items)
+  straight_tree (Put place x size index value) = put place x size (term_tree index) (term_tree value)
+  straight_tree (Take c within condition) = take c within (term_tree condition)
+  straight_tree (SetUnder c x value) = set_under c x (term_tree value)
+  straight_tree (PutUnder c place x size index value) = put_under c place x size (term_tree index) (term_tree value)
+  straight_tree (Branch' condition shape accepted shape' otherwise) = branch (term_tree condition) (straight_row accepted) (straight_row otherwise)
+  straight_tree (Repeat' x low high shape body) = repeats x (term_tree low) (term_tree high) (straight_row body)
 
   -- the statements of an arm or a loop
   pub straight_row : {m : _} → Row_of-StraightStatement m → StraightBlock

@@ -8,7 +8,7 @@ use Rattle.inline.specs.FlatTyping.{Types, types_of, HasType, Suits, AllSuit, Is
 use Rattle.language.specs.WellTyped.{labelled}
 use Rattle.language.specs.declared.signature.Kind.TheVariants.{Boolean}
 use Rattle.language.specs.declared.signature.Label.{Label}
-use Rattle.language.specs.declared.signature.Label.TheVariants.{Public}
+use Rattle.language.specs.declared.signature.Label.TheVariants.{Public, Secret}
 use Rattle.language.specs.declared.typing.WordType.{WordType}
 use Rattle.word.specs.declared.profile.Profile.{Profile}
 
@@ -64,8 +64,30 @@ abbrev mutual
   AreTyped profile declared controls nothing = Unit {0}
   AreTyped profile declared controls (first statement rest) = IsTyped profile declared controls statement × AreTyped profile declared controls rest
 
+-- a secret variable
+abbrev pub IsSecret : List FlatVariable → ℕ → Type 0
+IsSecret declared x = (d : FlatVariable) → slice_get declared x ≡ Some d → d.word.label ≡ Secret
+
+abbrev mutual
+  -- only what is secret is set under a control value
+  pub IsHidden : List FlatVariable → StraightTree → Type 0
+  IsHidden declared (set x value) = Unit {0}
+  IsHidden declared (clear x size) = Unit {0}
+  IsHidden declared (fill x values) = Unit {0}
+  IsHidden declared (put place x size index value) = Unit {0}
+  IsHidden declared (take control within condition) = Unit {0}
+  IsHidden declared (set_under control x value) = IsSecret declared x
+  IsHidden declared (put_under control place x size index value) = IsSecret declared x
+  IsHidden declared (branch condition accepted otherwise) = AreHidden declared accepted × AreHidden declared otherwise
+  IsHidden declared (repeats x low high body) = AreHidden declared body
+
+  pub AreHidden : List FlatVariable → StraightBlock → Type 0
+  AreHidden declared nothing = Unit {0}
+  AreHidden declared (first statement rest) = IsHidden declared statement × AreHidden declared rest
+
 -- a well-typed program: its parameters are the first variables
 pub record IsTypedStraight (p : StraightProgram) : Type 0 where
   pub parameters : first_of (length p.parameters) p.declared ≡ map declaration_of p.parameters
   pub body : AreTyped p.profile p.declared p.controls p.body
+  pub hidden : AreHidden p.declared p.body
   pub result : IsResult (types_of p.profile p.declared) p.returned p.value

@@ -4,8 +4,11 @@
 #![tactic(auto)]
 
 mod controls;
+mod copies;
+mod laws;
 mod removal;
 mod straight;
 
+pub use laws::{replaced_is_removed, straight_shows_what_is_public};
 pub use removal::remove;
 pub use straight::{Straight, StraightStatement};

@@ -7,6 +7,7 @@ ghost use Rattle.branch_removal.specs.Removed.{IsRemoved};
 ghost use Rattle.branch_removal.specs.Straight.{straight_tree, straight_block, chain};
 
 use crate::controls::controls_in_all;
+use crate::copies::{all_copied, copied, copied_where_any};
 use crate::{Straight, StraightStatement};
 use inline::{FlatStatement, Term};
 use intervals::Ranged;
@@ -15,8 +16,8 @@ use std::alloc::{AllocError, Global};
 use word::Place;
 
 /// An assignment under the enclosing control value, where there is one.
-fn set_within<'f>(within: Option<u32>, variable: u32, value: &'f Term) -> StraightStatement<'f>
-    ensures { straight_tree result ≡ set_within within variable (term_tree value.now) }
+fn set_within(within: Option<u32>, variable: u32, value: Term) -> StraightStatement
+    ensures { straight_tree result ≡ set_within within variable (term_tree value) }
 {
     match within {
         None => StraightStatement::Set(variable, value),
@@ -25,15 +26,15 @@ fn set_within<'f>(within: Option<u32>, variable: u32, value: &'f Term) -> Straig
 }
 
 /// An assignment to an element under the enclosing control value, where there is one.
-fn put_within<'f>(
+fn put_within(
     within: Option<u32>,
     place: Place,
     variable: u32,
     size: u32,
-    index: &'f Term,
-    value: &'f Term,
-) -> StraightStatement<'f>
-    ensures { straight_tree result ≡ put_within within place variable size (term_tree index.now) (term_tree value.now) }
+    index: Term,
+    value: Term,
+) -> StraightStatement
+    ensures { straight_tree result ≡ put_within within place variable size (term_tree index) (term_tree value) }
 {
     match within {
         None => StraightStatement::Put(place, variable, size, index, value),
@@ -42,46 +43,50 @@ fn put_within<'f>(
 }
 
 /// A new array: its first values where some are written, else zeros.
-fn made<'f>(variable: u32, size: u32, values: &'f [Term]) -> StraightStatement<'f>
-    ensures { straight_tree result ≡ made variable size (map term_tree values.now) }
+fn made(variable: u32, size: u32, values: Vec<Term>) -> StraightStatement
+    ensures { straight_tree result ≡ made variable size (map term_tree values.items) }
 {
-    match values {
-        [] => StraightStatement::Clear(variable, size),
-        _ => StraightStatement::Fill(variable, values),
+    if values.is_empty() {
+        StraightStatement::Clear(variable, size)
+    } else {
+        StraightStatement::Fill(variable, values)
     }
 }
 
 /// Puts a statement's straight code behind what there is. Its own control values are from `control` on.
 #[cycle(removal)]
-fn push_removed<'f>(
+fn push_removed(
     alloc: Global,
-    code: &mut Vec<StraightStatement<'f>>,
+    code: &mut Vec<StraightStatement>,
     within: Option<u32>,
     control: u32,
-    statement: &'f FlatStatement,
+    statement: &FlatStatement,
 ) -> Result<(), AllocError>
     requires numbered { control + controls_in (flat_tree statement.now) < 2 ^ 32 }
     ensures { OnOk result (straight_block code.new.items ≡ chain (straight_block code.old.items) (removed within control (flat_tree statement.now))) }
 {
     match statement {
         FlatStatement::Declare(variable, _, _, value) => {
-            code.push(StraightStatement::Set(*variable, value))?;
+            code.push(StraightStatement::Set(*variable, copied(alloc, value)?))?;
         }
         FlatStatement::DeclareArray(variable, _, _, size, values) => {
-            code.push(made(*variable, *size, values))?;
+            code.push(made(*variable, *size, all_copied(alloc, values)?))?;
         }
         FlatStatement::Assign(variable, value) => {
-            code.push(set_within(within, *variable, value))?;
+            code.push(set_within(within, *variable, copied(alloc, value)?))?;
         }
         FlatStatement::AssignElement(place, variable, size, index, value) => {
+            let index = copied(alloc, index)?;
+            let value = copied(alloc, value)?;
             code.push(put_within(within, *place, *variable, *size, index, value))?;
         }
         FlatStatement::Hold(variable, _, _, index) => {
-            code.push(StraightStatement::Set(*variable, index))?;
+            code.push(StraightStatement::Set(*variable, copied(alloc, index)?))?;
         }
         FlatStatement::Skip => {}
         FlatStatement::Branch(label, condition, accepted, otherwise) => match label {
             Label::Secret => {
+                let condition = copied(alloc, condition)?;
                 code.push(StraightStatement::Take(control, within, condition))?;
                 push_removed_all(alloc, code, Some(control), control + 2, accepted)?;
                 push_removed_all(alloc, code, Some(control + 1), control + 2, otherwise)?;
@@ -91,12 +96,14 @@ fn push_removed<'f>(
                 push_removed_all(alloc, &mut one, within, control, accepted)?;
                 let mut other = Vec::new(alloc);
                 push_removed_all(alloc, &mut other, within, control, otherwise)?;
-                code.push(StraightStatement::Branch(condition, one, other))?;
+                code.push(StraightStatement::Branch(copied(alloc, condition)?, one, other))?;
             }
         },
         FlatStatement::Loop(counter, low, high, body) => {
             let mut turn = Vec::new(alloc);
             push_removed_all(alloc, &mut turn, within, control, body)?;
+            let low = copied(alloc, low)?;
+            let high = copied(alloc, high)?;
             code.push(StraightStatement::Repeat(*counter, low, high, turn))?;
         }
     }
@@ -105,12 +112,12 @@ fn push_removed<'f>(
 
 /// The same for some statements.
 #[cycle(removal)]
-fn push_removed_all<'f>(
+fn push_removed_all(
     alloc: Global,
-    code: &mut Vec<StraightStatement<'f>>,
+    code: &mut Vec<StraightStatement>,
     within: Option<u32>,
     control: u32,
-    body: &'f [FlatStatement],
+    body: &[FlatStatement],
 ) -> Result<(), AllocError>
     requires numbered { control + controls_in_all (flat_block body.now) < 2 ^ 32 }
     ensures { OnOk result (straight_block code.new.items ≡ chain (straight_block code.old.items) (removed_all within control (flat_block body.now))) }
@@ -128,9 +135,11 @@ pub fn remove<'r>(alloc: Global, ranged: &'r Ranged<'_>) -> Result<Straight<'r>,
     ensures exact { IfOk result (λ straight. straight ≡ straight_of ranged.now) }
     ensures memory { IfErr result (λ refusal. IsWantOfMemory refusal.rule refusal.place) }
 {
-    let body = ranged.flat().body();
+    let flat = ranged.flat();
+    let body = flat.body();
     let controls = controls_in_all(body);
     let mut code = Vec::new(alloc);
     push_removed_all(alloc, &mut code, None, 0, body)?;
-    Ok(Straight::new(ranged, controls, code))
+    let value = copied_where_any(alloc, flat.value())?;
+    Ok(Straight::new(ranged, controls, code, value))
 }

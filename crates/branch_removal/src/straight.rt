@@ -2,7 +2,7 @@ ghost use Rattle.std.specs.Prelude.{◌≡◌};
 ghost use Rattle.std.specs.Option.{option_map};
 ghost use Rattle.inline.specs.Flat.{term_tree};
 ghost use Rattle.branch_removal.specs.Kept.{IsStraight};
-ghost use Rattle.branch_removal.specs.Straight.{StraightProgram, straight_block};
+ghost use Rattle.branch_removal.specs.Straight.{StraightProgram, straight_block, with_body};
 
 use inline::{FlatVariable, Term};
 use intervals::Ranged;
@@ -12,26 +12,26 @@ use word::{Place, Profile};
 
 /// A statement of straight code. Branches and loops are left only where what decides them is public.
 #[derive(Debug, Drop)]
-pub enum StraightStatement<'f> {
+pub enum StraightStatement {
     /// Sets a variable.
-    Set(u32, &'f Term),
+    Set(u32, Term),
     /// All elements of an array, which has so many, become 0.
     Clear(u32, u32),
     /// An array gets its first values, one for each element.
-    Fill(u32, &'f [Term]),
+    Fill(u32, Vec<Term>),
     /// The element at an index of an array, which has so many, is set to a value.
-    Put(Place, u32, u32, &'f Term, &'f Term),
+    Put(Place, u32, u32, Term, Term),
     /// Takes a condition into two control values, this one for where it is true and the next for where
     /// it is not. Each is joined with the enclosing one, where there is one.
-    Take(u32, Option<u32>, &'f Term),
+    Take(u32, Option<u32>, Term),
     /// Under a control value, sets a variable: where the control value is false the variable keeps what it holds.
-    SetUnder(u32, u32, &'f Term),
+    SetUnder(u32, u32, Term),
     /// Under a control value, sets the element at an index of an array, which has so many.
-    PutUnder(u32, Place, u32, u32, &'f Term, &'f Term),
+    PutUnder(u32, Place, u32, u32, Term, Term),
     /// What runs where a public condition is true, and where it is not.
-    Branch(&'f Term, Vec<StraightStatement<'f>>, Vec<StraightStatement<'f>>),
+    Branch(Term, Vec<StraightStatement>, Vec<StraightStatement>),
     /// What runs for each number of a counter, from the first bound up to the last before the second.
-    Repeat(u32, &'f Term, &'f Term, Vec<StraightStatement<'f>>),
+    Repeat(u32, Term, Term, Vec<StraightStatement>),
 }
 
 /// Straight code: the export without branches on secrets. Its parameters are the first variables. It is well typed, and
@@ -46,8 +46,8 @@ pub struct Straight<'f> {
     turns: &'f [u32],
     declared: &'f [FlatVariable],
     controls: u32,
-    body: Vec<StraightStatement<'f>>,
-    value: Option<&'f Term>,
+    body: Vec<StraightStatement>,
+    value: Option<Term>,
 }
 
 impl<'f> Model for Straight<'f> {
@@ -61,9 +61,9 @@ impl<'f> Model for Straight<'f> {
 
     ghost coded = { coded_straight };
 
-    ghost view = { λ s. record { profile = s.profile; parameters = s.parameters.now; returned = s.returned; nodes = s.nodes; work = s.work; turns = s.turns.now; declared = s.declared.now; controls = s.controls; body = straight_block s.body.items; value = option_map (λ term. term_tree term.now) s.value } };
+    ghost view = { λ s. record { profile = s.profile; parameters = s.parameters.now; returned = s.returned; nodes = s.nodes; work = s.work; turns = s.turns.now; declared = s.declared.now; controls = s.controls; body = straight_block s.body.items; value = option_map term_tree s.value } };
 
-    ghost invariant = { λ s. IsStraight (record { profile = s.profile; parameters = s.parameters.now; returned = s.returned; nodes = s.nodes; work = s.work; turns = s.turns.now; declared = s.declared.now; controls = s.controls; body = straight_block s.body.items; value = option_map (λ term. term_tree term.now) s.value }) };
+    ghost invariant = { λ s. IsStraight (record { profile = s.profile; parameters = s.parameters.now; returned = s.returned; nodes = s.nodes; work = s.work; turns = s.turns.now; declared = s.declared.now; controls = s.controls; body = straight_block s.body.items; value = option_map term_tree s.value }) };
 }
 
 impl<'f> Straight<'f> {
@@ -71,10 +71,11 @@ impl<'f> Straight<'f> {
     pub(crate) fn new(
         ranged: &'f Ranged<'_>,
         controls: u32,
-        body: Vec<StraightStatement<'f>>,
+        body: Vec<StraightStatement>,
+        value: Option<Term>,
     ) -> Self
-        requires { IsStraight (record { profile = ranged.now.flat.profile; parameters = ranged.now.flat.parameters; returned = ranged.now.flat.returned; nodes = ranged.now.flat.nodes; work = ranged.now.work; turns = ranged.now.turns; declared = ranged.now.flat.declared; controls = controls; body = straight_block body.items; value = ranged.now.flat.value }) }
-        ensures { result ≡ record { profile = ranged.now.flat.profile; parameters = ranged.now.flat.parameters; returned = ranged.now.flat.returned; nodes = ranged.now.flat.nodes; work = ranged.now.work; turns = ranged.now.turns; declared = ranged.now.flat.declared; controls = controls; body = straight_block body.entry.items; value = ranged.now.flat.value } }
+        requires { IsStraight (record { profile = ranged.now.flat.profile; parameters = ranged.now.flat.parameters; returned = ranged.now.flat.returned; nodes = ranged.now.flat.nodes; work = ranged.now.work; turns = ranged.now.turns; declared = ranged.now.flat.declared; controls = controls; body = straight_block body.items; value = option_map term_tree value }) }
+        ensures { result ≡ record { profile = ranged.now.flat.profile; parameters = ranged.now.flat.parameters; returned = ranged.now.flat.returned; nodes = ranged.now.flat.nodes; work = ranged.now.work; turns = ranged.now.turns; declared = ranged.now.flat.declared; controls = controls; body = straight_block body.items; value = option_map term_tree value } }
     {
         let flat = ranged.flat();
         Straight {
@@ -87,7 +88,26 @@ impl<'f> Straight<'f> {
             declared: flat.declared(),
             controls,
             body,
-            value: flat.value(),
+            value,
+        }
+    }
+
+    /// The same with another body and another result in their place.
+    pub fn with_body(&self, body: Vec<StraightStatement>, value: Option<Term>) -> Straight<'f>
+        requires { IsStraight (with_body self.now (straight_block body.items) (option_map term_tree value)) }
+        ensures { result ≡ with_body self.now (straight_block body.items) (option_map term_tree value) }
+    {
+        Straight {
+            profile: self.profile,
+            parameters: self.parameters,
+            returned: self.returned,
+            nodes: self.nodes,
+            work: self.work,
+            turns: self.turns,
+            declared: self.declared,
+            controls: self.controls,
+            body,
+            value,
         }
     }
 
@@ -148,7 +168,7 @@ impl<'f> Straight<'f> {
     }
 
     /// The statements before the result is known.
-    pub fn body(&self) -> &[StraightStatement<'f>]
+    pub fn body(&self) -> &[StraightStatement]
         ensures body { straight_block result.now ≡ self.now.body }
         ensures kept { IsStraight self.now }
     {
@@ -156,9 +176,9 @@ impl<'f> Straight<'f> {
     }
 
     /// The result, where there is one.
-    pub fn value(&self) -> Option<&'f Term>
+    pub fn value(&self) -> Option<&Term>
         ensures { option_map (λ term. term_tree term.now) result ≡ self.now.value }
     {
-        self.value
+        self.value.as_ref()
     }
 }

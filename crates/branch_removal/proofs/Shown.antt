@@ -1,0 +1,73 @@
+-- What a run of well-typed straight code shows, and its public results, are decided by what is public.
+use Rattle.std.proofs.Common.{◌≡◌, ℕ, List, Some, slice_get, refl, sym, ap, ◌∙◌, subst}
+use Rattle.arguments.specs.Agreement as arguments
+use Rattle.arguments.specs.PublicResults.{AgreeInPublic}
+use Rattle.arguments.specs.Within.{AreWithin}
+use Rattle.inline.specs.Flat.{declaration_of}
+use Rattle.inline.specs.FlatMeaning.{given, path_of_result}
+use Rattle.inline.specs.FlatTyping.{types_of, parameter_types}
+use Rattle.inline.specs.Path.{AreFine, seen}
+use Rattle.intervals.specs.Ranged.{RangedProgram}
+use Rattle.language.specs.declared.signature.Param.{Param}
+use Rattle.language.specs.declared.values.Arg.{Arg}
+use Rattle.language.specs.Results.{Results}
+use Rattle.branch_removal.specs.Removed.{IsRemoved}
+use Rattle.branch_removal.specs.Replaced.{IsReplaced}
+use Rattle.branch_removal.specs.Straight.{StraightProgram}
+use Rattle.branch_removal.specs.StraightMeaning.{start, end_of, path_along, outcome_of, path_of}
+use Rattle.branch_removal.specs.StraightTyping.{IsTypedStraight}
+use Rattle.branch_removal.proofs.Agreement.{Agree, what_is_public}
+use Rattle.branch_removal.proofs.Public.{in_step_all, same_seen_all}
+use Rattle.branch_removal.proofs.Results.{parameters_among, parameter_at, given_in_step, all_public_arrays, same_return}
+use Rattle.branch_removal.proofs.Scopes.{AreAmong}
+use Rattle.branch_removal.proofs.SeenLemmas.{both_seen}
+use Rattle.branch_removal.proofs.Values.{result_seen}
+
+module _ (p : StraightProgram) (typed : IsTypedStraight p) where
+  first_among : AreAmong (parameter_types p.profile p.parameters) (types_of p.profile p.declared)
+  first_among = parameters_among p.profile p.parameters p.declared typed.parameters
+
+  module _ (one other : List Arg) (agree : arguments.Agree p.parameters one other) where
+    first_agree : Agree what_is_public (types_of p.profile p.declared) (given p.declared one) (given p.declared other)
+    first_agree = given_in_step p.profile p.parameters p.declared one other typed.parameters agree.one_within agree.other_within agree.equal
+
+    end_agree : Agree what_is_public (types_of p.profile p.declared) (end_of p one) (end_of p other)
+    end_agree = in_step_all p.profile p.declared p.controls p.body typed.body typed.hidden (start p one) (start p other) first_agree
+
+    pub same_paths : seen p.profile (path_of p one) ≡ seen p.profile (path_of p other)
+    same_paths =
+        let s = start p one in
+        let t = start p other in
+        both_seen p.profile
+        (path_along s p.body) (path_of_result (end_of p one) p.value)
+        (path_along t p.body) (path_of_result (end_of p other) p.value)
+        (same_seen_all p.profile p.declared p.controls p.body typed.body typed.hidden s t first_agree)
+        (result_seen (types_of p.profile p.declared) _ _ end_agree p.returned p.value typed.result)
+
+    pub same_public : AgreeInPublic p.parameters p.returned (outcome_of p one) (outcome_of p other)
+    same_public = record {
+      returned_equal = λ public. same_return (types_of p.profile p.declared) _ _ end_agree p.returned p.value typed.result public;
+      arrays_equal = all_public_arrays p.parameters _ _ (λ k parameter there public.
+          end_agree k (declaration_of parameter) (first_among.at k (declaration_of parameter) (parameter_at p.parameters k parameter there)) public);
+    }
+
+module _ (ranged : RangedProgram) (before after : StraightProgram) (removed : IsRemoved ranged before) (replaced : IsReplaced before after) where
+  within : (args : List Arg) → AreWithin after.parameters args → AreWithin before.parameters args
+  within args fits = subst (λ (params : List Param). AreWithin params args) replaced.parameters fits
+
+  pub still_removed : IsRemoved ranged after
+  still_removed = record {
+    profile = replaced.profile ∙ removed.profile;
+    parameters = replaced.parameters ∙ removed.parameters;
+    returned = replaced.returned ∙ removed.returned;
+    nodes = replaced.nodes ∙ removed.nodes;
+    work = replaced.work ∙ removed.work;
+    turns = replaced.turns ∙ removed.turns;
+    declared = replaced.declared ∙ removed.declared;
+    bounded = replaced.straight.bounded;
+    typed = replaced.straight.typed;
+    outcome = λ args fits. replaced.outcome args (within args fits) ∙ removed.outcome args (within args fits);
+    fine = λ args fits. replaced.fine args (within args fits) (removed.fine args (within args fits));
+    paths = λ one other agree. same_paths after replaced.straight.typed one other agree;
+    public = λ one other agree. same_public after replaced.straight.typed one other agree;
+  }

@@ -1,0 +1,24 @@
+-- Straight code that may stand in the place of other: what a pass over straight code promises.
+use Rattle.std.specs.Prelude.{◌≡◌, List}
+use Rattle.arguments.specs.Within.{AreWithin}
+use Rattle.branch_removal.specs.Kept.{IsStraight}
+use Rattle.branch_removal.specs.Straight.{StraightProgram}
+use Rattle.branch_removal.specs.StraightMeaning.{outcome_of, path_of}
+use Rattle.inline.specs.Path.{AreFine}
+use Rattle.language.specs.declared.values.Arg.{Arg}
+
+pub record IsReplaced (before after : StraightProgram) : Type 0 where
+  -- what stays as it was
+  pub profile : after.profile ≡ before.profile
+  pub parameters : after.parameters ≡ before.parameters
+  pub returned : after.returned ≡ before.returned
+  pub nodes : after.nodes ≡ before.nodes
+  pub work : after.work ≡ before.work
+  pub turns : after.turns ≡ before.turns
+  pub declared : after.declared ≡ before.declared
+  -- it is well typed, and the limits on size are kept
+  pub straight : IsStraight after
+  -- the outcome is what it was
+  pub outcome : (args : List Arg) → AreWithin before.parameters args → outcome_of after args ≡ outcome_of before args
+  -- where no fault was met, and no loop made more turns than are counted, it is so still
+  pub fine : (args : List Arg) → AreWithin before.parameters args → AreFine before.turns (path_of before args) → AreFine after.turns (path_of after args)

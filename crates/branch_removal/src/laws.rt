@@ -1,0 +1,26 @@
+// The laws, which hold of the definitions alone.
+
+ghost use Rattle.std.specs.Prelude.{◌≡◌, List};
+ghost use Rattle.arguments.specs.Agreement.{Agree};
+ghost use Rattle.arguments.specs.PublicResults.{AgreeInPublic};
+ghost use Rattle.branch_removal.specs.Removed.{IsRemoved};
+ghost use Rattle.branch_removal.specs.Replaced.{IsReplaced};
+ghost use Rattle.branch_removal.specs.Straight.{StraightProgram};
+ghost use Rattle.branch_removal.specs.StraightMeaning.{outcome_of, path_of};
+ghost use Rattle.branch_removal.specs.StraightTyping.{IsTypedStraight};
+ghost use Rattle.inline.specs.Path.{seen};
+ghost use Rattle.intervals.specs.Ranged.{RangedProgram};
+ghost use Rattle.language.specs.declared.values.Arg.{Arg};
+
+/// What a run of well-typed straight code shows is decided by what is public, and so are its public results.
+pub fn straight_shows_what_is_public()
+    ensures paths { (p : StraightProgram) (one other : List Arg) → IsTypedStraight p → Agree p.parameters one other
+        → seen p.profile (path_of p one) ≡ seen p.profile (path_of p other) }
+    ensures public { (p : StraightProgram) (one other : List Arg) → IsTypedStraight p → Agree p.parameters one other
+        → AgreeInPublic p.parameters p.returned (outcome_of p one) (outcome_of p other) }
+{}
+
+/// What may stand in the place of a body's straight code is straight code for that body.
+pub fn replaced_is_removed()
+    ensures { (ranged : RangedProgram) (before after : StraightProgram) → IsRemoved ranged before → IsReplaced before after → IsRemoved ranged after }
+{}
