@@ -5,11 +5,11 @@ use Rattle.codegen.proofs.Language.{fill, put, take, set_under, put_under, branc
 use Rattle.codegen.proofs.Language.{first, FlatVariable, TermTree, array_as, term_nodes, terms_nodes, declared_words, Kind}
 use Rattle.codegen.proofs.Language.{element_bytes, array_words, IsTyped, AreTyped, types_but, types_of, AllSuit}
 use Rattle.codegen.proofs.Language.{HasType, Boolean, WordType, Profile}
-use Rattle.codegen.specs.private.Emitted.{put_word_code, set_code, set_under_code, within_code, element_store_code, clear_code, fill_code, test_code, count_code, statement_code, block_code, height_of_all, height_in, height_in_all, depth_in, depth_in_all}
+use Rattle.codegen.specs.private.Emitted.{assign_code, home_of_term, put_word_code, read_code, read_register, set_code, set_under_code, within_code, element_store_code, clear_code, fill_code, test_code, count_code, statement_code, block_code, height_of_all, height_in, height_in_all, depth_in, depth_in_all, unless_home, index_code, put_code, put_element_code, put_element_under_code, put_under_code, put_under_near_code}
 use Rattle.codegen.proofs.Machine.{AreNear, ArePlacedTerms, HasPlace, HavePlaces, variable_offset, control_offset}
-use Rattle.codegen.proofs.Machine.{next_offset, temporaries_offset, kind_at, height_of, Instr, slots_to, Allocation, InRegister, InSlot, into_code, Location, variable_location}
+use Rattle.codegen.proofs.Machine.{next_offset, temporaries_offset, kind_at, near_element, height_of, Instr, slots_to, Allocation, InRegister, InSlot, into_code, Location, variable_location}
 use Rattle.codegen.specs.private.Placed.{IsPlaced}
-use Rattle.codegen.proofs.Logic.{height, one_of, load_length, store_length, constant_length, address_length, into_length, move_length, ends_before_result, typed_within, typed_among}
+use Rattle.codegen.proofs.Logic.{code_length, height, one_of, load_length, store_length, constant_length, address_length, into_length, move_length, ends_before_result, typed_within, typed_among}
 use Rattle.codegen.proofs.Logic.{none-some, slice_get_within}
 
 -- Pieces.
@@ -18,8 +18,8 @@ within_length : (declared : List FlatVariable) (within : Option ℕ) → length 
 within_length declared None = omega arith
 within_length declared (Some control) = simp length-append (omega (arith, load_length 6 (control_offset declared control)))
 
-pub element_store_length : (kind : Kind) (o : ℕ) → length (element_store_code kind o) ≤ 3
-element_store_length kind o = one_of (nat_lt o 2048) _ _ 3 (omega arith) (omega arith)
+pub element_store_length : (r : ℕ) (kind : Kind) (o : ℕ) → length (element_store_code r kind o) ≤ 3
+element_store_length r kind o = one_of (nat_lt o 2048) _ _ 3 (omega arith) (omega arith)
 
 clear_length : (o words : ℕ) → length (clear_code o words) ≤ 16
 clear_length o words = simp length-append (omega (arith, constant_length 6 o, constant_length 7 (4 * words)))
@@ -27,23 +27,53 @@ clear_length o words = simp length-append (omega (arith, constant_length 6 o, co
 value_length : (declared : List FlatVariable) (allocation : Allocation) (free d place : ℕ) (e : TermTree) → length (into_code declared allocation free d place e) ≤ 16 * term_nodes e
 value_length declared allocation free d place e = omega (arith, into_length declared allocation free d place e)
 
+read_length : (declared : List FlatVariable) (allocation : Allocation) (free register place : ℕ) (e : TermTree) → length (read_code declared allocation free register place e) ≤ 16 * term_nodes e
+read_length declared allocation free register place e = by_home (home_of_term allocation e)
+  where
+    by_home : (h : Option ℕ) → length (unless_home h (into_code declared allocation free register place e)) ≤ 16 * term_nodes e
+    by_home None = value_length declared allocation free register place e
+    by_home (Some home) = omega arith
+
+pub assign_length : (declared : List FlatVariable) (allocation : Allocation) (free : ℕ) (e : TermTree) (o : ℕ) → length (assign_code declared allocation free e o) ≤ 16 * term_nodes e + 3
+assign_length declared allocation free e o =
+    simp length-append (omega (arith, read_length declared allocation free 5 0 e, store_length (read_register allocation 5 e) o))
+
+-- a value into an element, at an index or at the offset that the store holds
+put_length : (declared : List FlatVariable) (allocation : Allocation) (free x : ℕ) (index value : TermTree) → length (put_element_code declared allocation free x index value) ≤ 32 * (1 + (1 + term_nodes index) + term_nodes value)
+put_length declared allocation free x index value =
+    code_length (near_element declared allocation x index)
+    (λ o. read_code declared allocation free 5 0 value ++ element_store_code (read_register allocation 5 value) (kind_at declared x) o)
+    (index_code declared allocation free index value
+    ++ put_code (read_register allocation 5 index) (read_register allocation 6 value) (kind_at declared x) (variable_offset declared x)) _
+    (λ o. simp length-append (omega (arith, read_length declared allocation free 5 0 value, element_store_length (read_register allocation 5 value) (kind_at declared x) o)))
+    (omega (arith, length-append {A = Instr}, read_length, address_length))
+
+put_under_length : (declared : List FlatVariable) (allocation : Allocation) (free control x : ℕ) (index value : TermTree) → length (put_element_under_code declared allocation free control x index value) ≤ 32 * (1 + (1 + term_nodes index) + term_nodes value)
+put_under_length declared allocation free control x index value =
+    code_length (near_element declared allocation x index)
+    (λ o. put_under_near_code declared allocation free control (kind_at declared x) o value)
+    (index_code declared allocation free index value
+    ++ put_under_code (read_register allocation 5 index) (read_register allocation 6 value) control (kind_at declared x) (variable_offset declared x)) _
+    (λ o. omega (arith, length-append {A = Instr}, read_length declared allocation free 5 0 value, load_length 7 control, element_store_length 5 (kind_at declared x) o))
+    (omega (arith, length-append {A = Instr}, read_length, load_length, address_length))
+
 set_length : (declared : List FlatVariable) (allocation : Allocation) (free : ℕ) (l : Location) (e : TermTree) → length (set_code declared allocation free l e) ≤ 16 * term_nodes e + 3
 set_length declared allocation free (InRegister home) e = omega (arith, value_length declared allocation free home 0 e)
-set_length declared allocation free (InSlot o) e = simp length-append (omega (arith, value_length declared allocation free 5 0 e, store_length 5 o))
+set_length declared allocation free (InSlot o) e = assign_length declared allocation free e o
 
 put_word_length : (r : ℕ) (l : Location) → length (put_word_code r l) ≤ 3
 put_word_length r (InRegister home) = omega (arith, move_length home r)
 put_word_length r (InSlot o) = store_length r o
 
-set_under_length : (l : Location) (control : ℕ) → length (set_under_code l control) ≤ 12
-set_under_length (InRegister home) control = simp length-append (omega (arith, load_length 7 control))
-set_under_length (InSlot o) control = simp length-append (omega (arith, load_length 6 o, load_length 7 control, store_length 5 o))
+set_under_length : (r : ℕ) (l : Location) (control : ℕ) → length (set_under_code r l control) ≤ 12
+set_under_length r (InRegister home) control = simp length-append (omega (arith, load_length 7 control))
+set_under_length r (InSlot o) control = simp length-append (omega (arith, load_length 6 o, load_length 7 control, store_length 5 o))
 
 pub fill_length : (declared : List FlatVariable) (allocation : Allocation) (free : ℕ) (kind : Kind) (o : ℕ) (es : List TermTree) → length (fill_code declared allocation free kind o es) ≤ 32 * terms_nodes es
 fill_length declared allocation free kind o [] = omega arith
 fill_length declared allocation free kind o (e ∷ es) =
     let h = height e in
-    simp length-append (omega (arith, h, value_length declared allocation free 5 0 e, element_store_length kind o, fill_length declared allocation free kind (o + element_bytes kind) es))
+    simp length-append (omega (arith, h, read_length declared allocation free 5 0 e, element_store_length (read_register allocation 5 e) kind o, fill_length declared allocation free kind (o + element_bytes kind) es))
 
 -- Statements: at most 32 instructions a node.
 module _ (declared : List FlatVariable) (allocation : Allocation) (controls depths : ℕ) where
@@ -57,14 +87,17 @@ module _ (declared : List FlatVariable) (allocation : Allocation) (controls dept
     statement_length depth (fill x values) =
         omega (arith, fill_length declared allocation free (kind_at declared x) (variable_offset declared x) values)
     statement_length depth (branch condition accepted otherwise) =
-        omega (arith, length-append {A = Instr}, value_length, block_length depth accepted, block_length depth otherwise)
+        omega (arith, length-append {A = Instr}, read_length, block_length depth accepted, block_length depth otherwise)
     statement_length depth (set x value) = omega (arith, set_length declared allocation free (variable_location declared allocation x) value)
+    statement_length depth (put place x size index value) = omega (arith, put_length declared allocation free x index value)
+    statement_length depth (put_under control place x size index value) =
+        omega (arith, put_under_length declared allocation free (control_offset declared control) x index value)
     statement_length depth (set_under control x value) =
-        omega (arith, length-append {A = Instr}, value_length, set_under_length (variable_location declared allocation x) (control_offset declared control))
+        omega (arith, length-append {A = Instr}, read_length, set_under_length (read_register allocation 5 value) (variable_location declared allocation x) (control_offset declared control))
     statement_length depth (repeats x low high body) =
-        omega (arith, length-append {A = Instr}, value_length, load_length, store_length, put_word_length 6 (variable_location declared allocation x), block_length (depth + 1) body)
+        omega (arith, length-append {A = Instr}, assign_length, load_length, store_length, put_word_length 6 (variable_location declared allocation x), block_length (depth + 1) body)
     statement_length depth s =
-        omega (arith, length-append {A = Instr}, value_length, within_length, load_length, store_length, address_length)
+        omega (arith, length-append {A = Instr}, read_length, within_length, load_length, store_length, address_length)
 
     pub block_length : (depth : ℕ) (b : StraightBlock) → length (block_code declared allocation controls depths depth b) ≤ 32 * block_nodes b
     block_length depth nothing = omega arith

@@ -1,7 +1,7 @@
 -- Straight code within the limits has room in a frame and in an image, and the fields of its image are allowed.
 use Rattle.std.proofs.Common.{◌≡◌, ℕ, suc, ◌+◌, ◌*◌, ◌%◌, ◌^◌, ◌<◌, ◌≤◌, true, List, [], ◌∷◌, length, map, All, Option, None, Some, IfSome, refl, sym, ap, subst, ◌∙◌, arith, length-append, zero, take}
 use Rattle.codegen.proofs.Logic.{eq-eqb, le-leb, and_from, length-map, recursion_from_All, option_map, parameter_words}
-use Rattle.codegen.proofs.Logic.{height, load_length, store_length, into_length, none-some, typed_among, same_Some}
+use Rattle.codegen.proofs.Logic.{height, load_length, none-some, typed_among, same_Some}
 use Rattle.std.specs.List.{AllByRecursion}
 use Rattle.codegen.proofs.Machine.{word_of, IsImage, AreSlots, IsResultSlot, is_length, slot_end, result_end, slots_end}
 use Rattle.codegen.proofs.Machine.{Slot, ResultSlot, program_base, program_code, program_slots, result_slot, step_limit}
@@ -11,7 +11,7 @@ use Rattle.codegen.proofs.Language.{StraightProgram, most_elements, Form, Single
 use Rattle.codegen.proofs.Language.{held_words, array_words, Profile, FlatVariable, declaration_of, TermTree, HasLength}
 use Rattle.codegen.proofs.Language.{declared_words, value_nodes, IsBounded, IsTypedStraight, types_of, IsResult}
 use Rattle.inline.specs.FlatSize.{words_of}
-use Rattle.codegen.proofs.CodeLengths.{block_length, block_room, blocks_placed}
+use Rattle.codegen.proofs.CodeLengths.{assign_length, block_length, block_room, blocks_placed}
 
 -- The parameters' slots.
 
@@ -94,7 +94,7 @@ room_frame a p room =
 
 result_length : (declared : List FlatVariable) (allocation : Allocation) (free : ℕ) (value : Option TermTree) → length (result_code declared allocation free value) ≤ 32 * value_nodes value
 result_length declared allocation free None = omega arith
-result_length declared allocation free (Some value) = simp length-append (omega (arith, into_length declared allocation free 5 0 value, store_length 5 (result_offset declared)))
+result_length declared allocation free (Some value) = omega (arith, assign_length declared allocation free value (result_offset declared))
 
 entry_length : (declared : List FlatVariable) (x : ℕ) (homes : List (Option ℕ)) → length (entry_code declared x homes) ≤ 3 * home_count homes
 entry_length declared x [] = omega arith
@@ -157,7 +157,7 @@ module _ (p : StraightProgram) (typed : IsTypedStraight p) (is : IsBounded p) wh
 
   frame : p.controls + 2 * depth_in_all p.body + program_height p ≤ p.nodes
   frame =
-      omega (arith, block_room p.body, result_height_fits p.value, is.controls, is.counted)
+      omega (arith, block_room p.body, result_height_fits p.value, is.controls)
 
   pub has_room : HasRoom p
   has_room = record {

@@ -1,17 +1,17 @@
 -- The code of a loop, and of a branch on what is public.
-use Rattle.std.proofs.Common.{◌≡◌, ℕ, suc, ◌+◌, ◌-◌, ◌*◌, ◌%◌, ◌^◌, ◌<◌, ◌≤◌, Bool, true, false, nat_lt, List, [], ◌∷◌, ◌++◌, length, Option, None, Some, slice_get, slice_index, refl, sym, ap, ap₂, ◌∙◌, subst, arith, inr, append_assoc, ◌≢◌, ◌==◌, cond, eq-eqb, ne_eqb}
+use Rattle.std.proofs.Common.{◌≡◌, ℕ, suc, ◌+◌, ◌-◌, ◌*◌, ◌%◌, ◌^◌, ◌<◌, ◌≤◌, Bool, true, false, nat_lt, List, [], ◌∷◌, ◌++◌, length, Option, None, Some, slice_get, slice_index, refl, sym, ap, ap₂, ◌∙◌, subst, arith, inr, ◌≢◌, ◌==◌, cond, eq-eqb, ne_eqb}
 use Rattle.std.proofs.lemmas.Bool.Decides.{nat_tests}
 use Rattle.std.proofs.lemmas.Nat.{mul-le}
 use Rattle.codegen.proofs.Language.{TermTree, word_as, value_in, path_in, turns, path_of_turns, Path, bounded}
 use Rattle.codegen.proofs.Language.{term_nodes, types_of, HasType, counter_type, StraightBlock, repeats, branch}
 use Rattle.codegen.proofs.Language.{StraightState, counted, after, after_all, path_at, path_along, word_of, WordType}
 use Rattle.codegen.proofs.Machine.{bounds_code, test_code, count_code, loop_code, branch_code, variable_offset}
-use Rattle.codegen.proofs.Machine.{at_home, home_of, InSlot, next_offset, slots_to, store_code, value_code, variable_location, height_of, Instr, Addi, Sltu, Sw}
+use Rattle.codegen.proofs.Machine.{at_home, home_of, InSlot, next_offset, slots_to, assign_code, read_code, read_register, store_code, variable_location, height_of, Instr, Addi, Sltu, Sw}
 use Rattle.codegen.proofs.Machine.{ByteMap, number_at, with_number, sum_of}
 use Rattle.rv_code.specs.declared.instructions.Instr.TheVariants as instr
 use Rattle.rv_machine.specs.Machine as machine
 use Rattle.codegen.proofs.Logic.{lt-ltb, value_word, HeldAt, held_regs, take, put, does, moves_run, number_or_zero, Setting, setting, base_of, Known, by_bounds, none, Runs, Still, looping, along_fit, seq, quietly, weaken, gives, cheaper, as_code, beside, Kept, Ready, Wrote, wrote_kept, wrote_there, kept_number, kept_less, kept_then, ready_below, by_mark, branching_at, condition_kind, HomesKept, IsHome, homes_by, homes_moved, homes_then, kept_by, registers_after}
-use Rattle.codegen.proofs.Slots.{Shown, ready_with, ready_behind, word_before, stored, assigned, Hidden, hidden_then, hidden_less, hidden_by, hidden_wrote, hidden_beyond, hidden_number, other_number, ready_homed, ready_set, first_runs, ready_valued, ready_still, hidden_kept}
+use Rattle.codegen.proofs.Slots.{Shown, ready_with, ready_behind, word_before, stored, assigned, Hidden, hidden_then, hidden_less, hidden_by, hidden_wrote, hidden_beyond, hidden_number, other_number, ready_homed, ready_set, read_runs, read_source, ready_valued, ready_still, hidden_kept}
 
 -- So many turns are left, the next of them for this number: both of the loop's words tell it.
 pub record Counts (z : Setting) (next left i : ℕ) (s : machine.State) : Type 0 where
@@ -200,7 +200,7 @@ module _ (z : Setting) (depth : ℕ) (within : depth < z.depths) where
     homes : HomesKept z s t
 
   pushed : (e : TermTree) (o : ℕ) → HasType (types_of z.code.profile z.declared) e counter_type → base_of z + 4 * slots_to z.allocation.count (height_of e) ≤ z.size → o ≤ base_of z → o % 4 ≡ 0 → o + 4 ≤ z.size
-      → Runs z (16 * term_nodes e + 3) (λ env. path_in env.variables e) (value_code z.declared z.allocation (base_of z) e ++ store_code 5 o) (Ready z) (Pushed e o)
+      → Runs z (16 * term_nodes e + 3) (λ env. path_in env.variables e) (assign_code z.declared z.allocation (base_of z) e o) (Ready z) (Pushed e o)
   pushed e o has room below aligned inside =
       gives
       (λ env s t fine ready done.
@@ -239,11 +239,10 @@ module _ (z : Setting) (depth : ℕ) (within : depth < z.depths) where
         },
         hidden_then z depth s m t (hidden_below z depth next s m (omega arith) one.kept) (hidden_below z depth (next + 4) m t (omega arith) two.kept),
       ))
-      (as_code (append_assoc (value_code z.declared z.allocation (base_of z) low ++ store_code 5 next) (value_code z.declared z.allocation (base_of z) high) (store_code 5 (next + 4)))
       (seq
       (pushed low next has_low room_low (omega (arith, base)) (omega arith) (omega (arith, next_inside)))
       (pushed high (next + 4) has_high room_high (omega (arith, base)) (omega arith) (omega (arith, next_inside)))
-      (λ env s t ready done. ready_below z next (omega arith) env s t ready done.held done.kept done.homes)))
+      (λ env s t ready done. ready_below z next (omega arith) env s t ready done.held done.kept done.homes))
 
   module _ (x : ℕ) (low high : TermTree) (body : StraightBlock) (n : ℕ) {ys : List Instr}
       (known : slice_get z.declared x ≡ Some (word_as counter_type false))
@@ -334,7 +333,7 @@ module _ (z : Setting) (depth : ℕ) (within : depth < z.depths) where
 -- the condition is known
 record Tested (z : Setting) (condition : TermTree) (env : StraightState) (s : machine.State) : Type 0 where
   ready : Ready z env s
-  there : s.regs 5 ≡ value_in env.variables condition
+  there : s.regs (read_register z.allocation 5 condition) ≡ value_in env.variables condition
 
 module _ (z : Setting) (depth : ℕ) (condition : TermTree) (word : WordType) (accepted otherwise : StraightBlock) (m n : ℕ) {xs ys : List Instr}
     (has : HasType (types_of z.code.profile z.declared) condition word) (room : base_of z + 4 * slots_to z.allocation.count (height_of condition) ≤ z.size) (within : depth ≤ z.depths)
@@ -357,18 +356,19 @@ module _ (z : Setting) (depth : ℕ) (condition : TermTree) (word : WordType) (a
   }
 
   -- the condition, and then one of both arms
-  pub branch_runs : Runs z (16 * term_nodes condition + (2 + m + n)) (λ env. path_at env (branch condition accepted otherwise)) (value_code z.declared z.allocation (base_of z) condition ++ branch_code xs ys) (Ready z) (Shown z depth (λ env. after env (branch condition accepted otherwise)))
+  pub branch_runs : Runs z (16 * term_nodes condition + (2 + m + n)) (λ env. path_at env (branch condition accepted otherwise)) (read_code z.declared z.allocation (base_of z) 5 0 condition ++ branch_code (read_register z.allocation 5 condition) xs ys) (Ready z) (Shown z depth (λ env. after env (branch condition accepted otherwise)))
   branch_runs =
+      let source = read_source z condition 5 (omega arith) (omega arith) in
       gives
       (λ env s t fine ready done. record {
         ready = done.second.ready;
         hidden = hidden_then z depth s done.middle t (hidden_kept z depth s done.middle within done.first.kept) done.second.hidden;
       })
       (seq
-      (first_runs z has room)
+      (read_runs z has room)
       (by_mark (condition_kind z) {P = Tested z condition} value
       (λ v.
-      branching_at {z = setting z} 5 (omega arith) (λ e. omega arith) {P = Known (setting z) ℕ (λ w. Unit {0}) (Tested z condition) value v} {S = Shown z depth (λ env. after env (branch condition accepted otherwise))} value near
+      branching_at {z = setting z} (read_register z.allocation 5 condition) (omega (arith, source.high)) (λ e. omega (arith, source.low, e)) {P = Known (setting z) ℕ (λ w. Unit {0}) (Tested z condition) value v} {S = Shown z depth (λ env. after env (branch condition accepted otherwise))} value near
       (λ env s known. known.given.there)
       (λ env s t some known still. ready_still z env s t known.given.ready still)
       (λ env s t u w some known still done back. first_arm env s t u w some known.given still done back)

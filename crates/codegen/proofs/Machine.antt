@@ -3,7 +3,7 @@ pub use Rattle.codegen.specs.Anywhere.{IsFollowedIn, IsLoaded, IsPlaced, RunsBeh
 pub use Rattle.codegen.specs.Bases.{AreBases, IsInside}
 pub use Rattle.codegen.specs.Followed.{IsFollowed, IsGenerated}
 pub use Rattle.codegen.specs.Loaded.{array_in, arrays_in, code_at, loaded_at, numbers_at, results_in, with_argument, with_arguments, with_numbers, word_in}
-pub use Rattle.codegen.specs.private.Emitted.{block_code, bounds_code, clear_code, count_code, depth_in_all, element_store_code, fill_code, height_of_all, height_of_put, index_code, masks_code, merge_code, put_code, put_under_code, set_code, set_under_code, statement_code, store_by, test_code, value_code, within_code}
+pub use Rattle.codegen.specs.private.Emitted.{assign_code, block_code, bounds_code, clear_code, count_code, depth_in_all, element_store_code, fill_code, height_of_all, height_of_put, home_of_term, home_or, index_code, masks_code, merge_code, put_code, put_under_code, read_code, read_register, set_code, set_under_code, statement_code, store_by, test_code, unless_home, within_code, put_element_code, put_element_under_code, put_under_near_code}
 pub use Rattle.codegen.specs.private.Emitted.{depth_in, height_in, height_in_all}
 pub use Rattle.codegen.specs.private.Generated.{body_of, entry_code, home_count, image_of, program_base, program_code, program_height, program_slots, result_code, result_height, result_slot, step_limit}
 pub use Rattle.codegen.specs.private.Jumps.{branch_code, loop_code}
@@ -11,7 +11,7 @@ pub use Rattle.codegen.specs.private.Placed.{AreNear, ArePlacedTerms, HasPlace, 
 pub use Rattle.codegen.specs.private.Room.{HasRoom, IsFitting, frame_of}
 pub use Rattle.expression_code.specs.Layout.{Frame, control_offset, next_offset, result_offset, slots_from, temporaries_offset, variable_location, variable_offset}
 pub use Rattle.expression_code.specs.Allocation.{Allocation, at_home, home_of, plain, slots_to}
-pub use Rattle.expression_code.specs.TermCode.{IsAmong, address_code, constant_code, height_of, into_code, kind_at, load_by, load_code, lower_part, store_code}
+pub use Rattle.expression_code.specs.TermCode.{IsAmong, address_code, code_by, constant_code, height_of, into_code, kind_at, load_by, load_code, lower_part, near_element, store_code}
 pub use Rattle.expression_code.specs.declared.locations.Location.{Location}
 pub use Rattle.expression_code.specs.declared.locations.Location.TheVariants.{InRegister, InSlot}
 pub use Rattle.image_fields.specs.Fields.{AreSlots, Fields, IsImage, IsResultSlot, is_length, result_end, slot_end, slots_end, type_in}
@@ -23,7 +23,7 @@ pub use Rattle.rv_code.specs.declared.operations.ImmediateOperation.TheVariants.
 pub use Rattle.rv_code.specs.declared.operations.RegisterOperation.TheVariants.{Add, And, Sltu, Sub}
 pub use Rattle.rv_code.specs.declared.operations.StoreOperation.TheVariants.{Sw}
 pub use Rattle.rv_machine.specs.Bytes.{ByteMap, joined, number_at, with_byte, with_number, zeros}
-pub use Rattle.rv_machine.specs.Effects.{address_of, difference_of, load_size, store_size, sum_of}
+pub use Rattle.rv_machine.specs.Effects.{address_of, difference_of, load_size, sign_extended, store_size, sum_of}
 pub use Rattle.rv_machine.specs.Leakage.{Halts, Leads, stays, turns}
 pub use Rattle.rv_machine.specs.Machine.{Code, IsAt, State, Turn, executes, goes_on, word_at}
 pub use Rattle.rv_machine.specs.Registers.{with_register}

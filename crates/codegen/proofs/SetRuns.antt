@@ -5,13 +5,13 @@ use Rattle.codegen.proofs.Language.{TermTree, word_as, value_in, path_of_result,
 use Rattle.codegen.proofs.Language.{HasType, IsResult, set_under, StraightState, with_variable, with_element, holds}
 use Rattle.codegen.proofs.Language.{after, IsSet, IsAmong, Boolean, Label, WordType, bits_of, labelled}
 use Rattle.branch_removal.specs.Straight as straight
-use Rattle.codegen.proofs.Machine.{at_home, home_of, InSlot, Instr, masks_code, within_code, merge_code, set_code, set_under_code, statement_code, result_code, result_height, value_code, variable_location, with_register}
+use Rattle.codegen.proofs.Machine.{at_home, home_of, InSlot, Instr, masks_code, within_code, merge_code, set_code, set_under_code, statement_code, result_code, result_height, read_code, read_register, variable_location, with_register}
 use Rattle.codegen.proofs.Machine.{variable_offset, control_offset, result_offset, slots_to, load_code, store_code}
 use Rattle.codegen.proofs.Machine.{height_of, And, Sw, number_at, with_number, sum_of, difference_of}
 use Rattle.rv_code.specs.declared.instructions.Instr.TheVariants as instr
 use Rattle.rv_machine.specs.Machine as machine
 use Rattle.codegen.proofs.Arguments.{Left}
-use Rattle.codegen.proofs.Slots.{Shown, alone, homed_runs, ready_homed, ready_same, suits_fits, first_runs, ready_valued, ready_with, ready_result, word_before, stored, assigned, hidden_valued, Hidden, hidden_then, hidden_by, hidden_kept, hidden_wrote, cut_kind, ready_set, ready_put, ready_alone, ready_chosen, ready_taken}
+use Rattle.codegen.proofs.Slots.{Shown, alone, homed_runs, ready_homed, ready_same, suits_fits, read_runs, read_source, source_apart, ready_valued, ready_with, ready_result, word_before, stored, assigned, hidden_valued, Hidden, hidden_then, hidden_by, hidden_kept, hidden_wrote, cut_kind, ready_set, ready_put, ready_alone, ready_chosen, ready_taken}
 
 -- either of two numbers fits where both do
 pub chosen_fits : (b : Bool) (v old n : ℕ) → v < n → old < n → (if b then v else old) < n
@@ -76,7 +76,7 @@ module _ (z : Setting) where
   -- a variable is set under a control value, in its slot or in its home
   under_by : (depth c x : ℕ) (value : TermTree) → c < z.controls → IsSet z.code.profile z.declared x value → base_of z + 4 * slots_to z.allocation.count (height_of value) ≤ z.size → depth ≤ z.depths
       → (h : Option ℕ) → home_of z.allocation.homes x ≡ h
-      → Runs z (32 * (1 + term_nodes value)) (steps_of value) (value_code z.declared z.allocation (base_of z) value ++ set_under_code (at_home h (InSlot (variable_offset z.declared x))) (control_offset z.declared c)) (Ready z) (Shown z depth (λ env. after env (set_under c x value)))
+      → Runs z (32 * (1 + term_nodes value)) (steps_of value) (read_code z.declared z.allocation (base_of z) 5 0 value ++ set_under_code (read_register z.allocation 5 value) (at_home h (InSlot (variable_offset z.declared x))) (control_offset z.declared c)) (Ready z) (Shown z depth (λ env. after env (set_under c x value)))
   under_by depth c x value among typed room within None away =
       let o = variable_offset z.declared x in
       let k = control_offset z.declared c in
@@ -84,7 +84,14 @@ module _ (z : Setting) where
       let before = word_before z x typed.word typed.mutable typed.known in
       let space = z.room in
       let first : place_of z.declared x d 0 ≡ o = omega arith in
-      as_code (sym (behind_one (value_code z.declared z.allocation (base_of z) value) (load_code 6 o) (load_code 7 k) (merge_code 5 5 6 7) (store_code 5 o)))
+      let r = read_register z.allocation 5 value in
+      let source = read_source z value 5 (omega arith) (omega arith) in
+      let few : nat_lt r 32 ≡ true = lt-ltb r 32 (omega (arith, source.high)) in
+      let r0 : (r == 0) ≡ false = ne_eqb r 0 (λ e. omega (arith, source.low, e)) in
+      let r6 : (r == 6) ≡ false = ne_eqb r 6 (source_apart z source 6 (omega arith) (λ e. omega (arith, e))) in
+      let r7 : (r == 7) ≡ false = ne_eqb r 7 (source_apart z source 7 (omega arith) (λ e. omega (arith, e))) in
+      let merges = merge_code 5 5 r 6 7 in
+      as_code (sym (behind_one (read_code z.declared z.allocation (base_of z) 5 0 value) (load_code 6 o) (load_code 7 k) merges (store_code 5 o)))
       (cheaper (omega arith)
       (gives
       (λ env s t fine ready done.
@@ -103,21 +110,24 @@ module _ (z : Setting) where
       let old_fits = (ready.fits x d typed.known).within 0 0 (omega (arith, one_long)) in
       let w_fits = chosen_fits b v old (2 ^ bits_of typed.word.kind) fits old_fits in
       let small = cut_kind typed.word.kind w w_fits in
-      let made : merged (number_or_zero (number_at m.bytes 4 (z.frame + k))) (number_or_zero (number_at m.bytes 4 (z.frame + o))) (m.regs 5) ≡ w =
-      ap₂ (λ p q. merged p q (m.regs 5)) mask was ∙ (ap (λ q. merged (mask_of b) old q) one.there ∙ merge b old v (cut_kind typed.word.kind old old_fits) (cut_kind typed.word.kind v fits)) in
+      let found = number_or_zero (number_at m.bytes 4 (z.frame + o)) in
+      let masked = number_or_zero (number_at m.bytes 4 (z.frame + k)) in
+      let mixed : registers_after merges (with_register (with_register m.regs 6 found) 7 masked) 5 ≡ merged masked found (m.regs r) = simp (r0, r6, r7) in
+      let made : registers_after merges (with_register (with_register m.regs 6 found) 7 masked) 5 ≡ w =
+      mixed ∙ (ap₂ (λ p q. merged p q (m.regs r)) mask was ∙ (ap (λ q. merged (mask_of b) old q) one.there ∙ merge b old v (cut_kind typed.word.kind old old_fits) (cut_kind typed.word.kind v fits))) in
       let wrote : Wrote z 4 o w m t = record {
         held = two.held;
         written = two.bytes ∙ ap (λ q. with_number m.bytes 4 (z.frame + o) q) made;
-        homes = homes_moved z (take 6 o ∷ take 7 k ∷ does (merge_code 5 5 6 7) ∷ put Sw 5 o ∷ []) env m t refl two;
+        homes = homes_moved z (take 6 o ∷ take 7 k ∷ does merges ∷ put Sw 5 o ∷ []) env m t (simp few) two;
       } in
       let ready2 = ready_put z x 0 w w d typed.known away (omega arith) w_fits env m t ready1 (subst (λ a. Wrote z 4 a w m t) (sym first) wrote) (omega (arith, small)) in
       record {
         ready = under_alone b x v env t one_long (ready_chosen z b x 0 v env t ready2);
         hidden = hidden_valued z depth within value env 4 o w s m t (omega (arith, before)) one wrote;
       })
-      (then_moves z (take 6 o ∷ take 7 k ∷ does (merge_code 5 5 6 7) ∷ put Sw 5 o ∷ []) refl
+      (then_moves z (take 6 o ∷ take 7 k ∷ does merges ∷ put Sw 5 o ∷ []) (simp few)
       ((omega arith, omega (arith, before, space)), ((omega arith, omega (arith, among, space)), (tt, ((omega arith, omega (arith, before, space)), tt))))
-      (first_runs z typed.suits.has_type room)
+      (read_runs z typed.suits.has_type room)
       (λ env s t ready valued. valued.held))))
   under_by depth c x value among typed room within (Some home) at =
       let k = control_offset z.declared c in
@@ -132,8 +142,13 @@ module _ (z : Setting) where
       let h5 : (home == 5) ≡ false = ne_eqb home 5 (λ e. omega (arith, low, e)) in
       let h7 : (home == 7) ≡ false = ne_eqb home 7 (λ e. omega (arith, low, e)) in
       let hh : (home == home) ≡ true = eq-eqb home home refl in
-      let ms = take 7 k ∷ does (merge_code home 5 home 7) ∷ [] in
-      as_code (sym (append_assoc (value_code z.declared z.allocation (base_of z) value) (load_code 7 k) (merge_code home 5 home 7)))
+      let r = read_register z.allocation 5 value in
+      let source = read_source z value 5 (omega arith) (omega arith) in
+      let small : nat_lt r 32 ≡ true = lt-ltb r 32 (omega (arith, source.high)) in
+      let v0 : (r == 0) ≡ false = ne_eqb r 0 (λ e. omega (arith, source.low, e)) in
+      let v7 : (r == 7) ≡ false = ne_eqb r 7 (source_apart z source 7 (omega arith) (λ e. omega (arith, e))) in
+      let ms = take 7 k ∷ does (merge_code home 5 r home 7) ∷ [] in
+      as_code (sym (append_assoc (read_code z.declared z.allocation (base_of z) 5 0 value) (load_code 7 k) (merge_code home 5 r home 7)))
       (cheaper (omega arith)
       (gives
       (λ env s t fine ready done.
@@ -151,25 +166,25 @@ module _ (z : Setting) where
       let one_long = (ready.fits x d typed.known).count in
       let old_fits = (ready.fits x d typed.known).within 0 0 (omega (arith, one_long)) in
       let w_fits = chosen_fits b v old (2 ^ bits_of typed.word.kind) fits old_fits in
-      let merges : registers_after (merge_code home 5 home 7) (with_register m.regs 7 (number_or_zero (number_at m.bytes 4 (z.frame + k)))) home ≡ merged (number_or_zero (number_at m.bytes 4 (z.frame + k))) (m.regs home) (m.regs 5) = simp (hh, h0, h5, h7) in
+      let merges : registers_after (merge_code home 5 r home 7) (with_register m.regs 7 (number_or_zero (number_at m.bytes 4 (z.frame + k)))) home ≡ merged (number_or_zero (number_at m.bytes 4 (z.frame + k))) (m.regs home) (m.regs r) = simp (hh, h0, h5, h7, v0, v7) in
       let made : t.regs home ≡ w =
       ap (λ (regs : ℕ → ℕ). regs home) two.regs
-      ∙ (merges ∙ (ap₂ (λ p q. merged p q (m.regs 5)) mask was ∙ (ap (λ q. merged (mask_of b) old q) one.there ∙ merge b old v (cut_kind typed.word.kind old old_fits) (cut_kind typed.word.kind v fits)))) in
-      let others = λ (r : ℕ) (other : IsHome z.allocation.count r) (apart : r ≢ home).
-      let r0 : (r == 0) ≡ false = ne_eqb r 0 (λ e. omega (arith, some, other.0, e)) in
-      let r5 : (r == 5) ≡ false = ne_eqb r 5 (λ e. omega (arith, some, other.0, e)) in
-      let r7 : (r == 7) ≡ false = ne_eqb r 7 (λ e. omega (arith, some, other.0, e)) in
-      let stays : registers_after (merge_code home 5 home 7) (with_register m.regs 7 (number_or_zero (number_at m.bytes 4 (z.frame + k)))) r ≡ m.regs r = simp (r0, r5, r7, ne_eqb r home apart) in
-      ap (λ (regs : ℕ → ℕ). regs r) two.regs ∙ stays in
+      ∙ (merges ∙ (ap₂ (λ p q. merged p q (m.regs r)) mask was ∙ (ap (λ q. merged (mask_of b) old q) one.there ∙ merge b old v (cut_kind typed.word.kind old old_fits) (cut_kind typed.word.kind v fits)))) in
+      let others = λ (q : ℕ) (other : IsHome z.allocation.count q) (apart : q ≢ home).
+      let q0 : (q == 0) ≡ false = ne_eqb q 0 (λ e. omega (arith, some, other.0, e)) in
+      let q5 : (q == 5) ≡ false = ne_eqb q 5 (λ e. omega (arith, some, other.0, e)) in
+      let q7 : (q == 7) ≡ false = ne_eqb q 7 (λ e. omega (arith, some, other.0, e)) in
+      let stays : registers_after (merge_code home 5 r home 7) (with_register m.regs 7 (number_or_zero (number_at m.bytes 4 (z.frame + k)))) q ≡ m.regs q = simp (q0, q5, q7, ne_eqb q home apart) in
+      ap (λ (regs : ℕ → ℕ). regs q) two.regs ∙ stays in
       record {
         ready =
             under_word b x v env t one_long
             (ready_homed z x home w typed.word typed.mutable typed.known at w_fits env m t ready1 two.held (kept_by z (base_of z) m t two.bytes) made others);
         hidden = hidden_then z depth s m t (hidden_kept z depth s m within one.kept) (hidden_by z depth m t two.bytes);
       })
-      (then_moves z ms (simp (free, few))
+      (then_moves z ms (simp (free, few, small))
       ((omega arith, omega (arith, among, space)), (tt, tt))
-      (first_runs z typed.suits.has_type room)
+      (read_runs z typed.suits.has_type room)
       (λ env s t ready valued. valued.held))))
 
   pub set_under_runs : (depth c x : ℕ) (value : TermTree) → c < z.controls → IsSet z.code.profile z.declared x value → base_of z + 4 * slots_to z.allocation.count (height_of value) ≤ z.size → depth ≤ z.depths
@@ -185,6 +200,12 @@ module _ (z : Setting) where
     abbrev g : StraightState → Bool
     g env = value_in env.variables condition == 0
 
+    abbrev r : ℕ
+    r = read_register z.allocation 5 condition
+
+    abbrev tested : List Instr
+    tested = read_code z.declared z.allocation (base_of z) 5 0 condition
+
     -- the masks of both are in their registers, and nothing is written but temporaries
     record Masked (enclosing : Option ℕ) (env : StraightState) (s t : machine.State) : Type 0 where
       ready : Ready z env t
@@ -192,29 +213,35 @@ module _ (z : Setting) where
       seven : t.regs 7 ≡ mask_of (holds env enclosing && f env)
       five : t.regs 5 ≡ mask_of (holds env enclosing && g env)
 
-    masks_run : Runs z (16 * term_nodes condition + 2) (steps_of condition) (value_code z.declared z.allocation (base_of z) condition ++ masks_code) (Ready z) (Masked None)
+    masks_run : Runs z (16 * term_nodes condition + 2) (steps_of condition) (tested ++ masks_code r) (Ready z) (Masked None)
     masks_run =
+        let source = read_source z condition 5 (omega arith) (omega arith) in
+        let few : nat_lt r 32 ≡ true = lt-ltb r 32 (omega (arith, source.high)) in
+        let r0 : (r == 0) ≡ false = ne_eqb r 0 (λ e. omega (arith, source.low, e)) in
+        let r7 : (r == 7) ≡ false = ne_eqb r 7 (source_apart z source 7 (omega arith) (λ e. omega (arith, e))) in
         gives
         (λ env s t fine ready done.
         let m = done.middle in
         let v = value_in env.variables condition in
         let truth = value_fits (types_of z.code.profile z.declared) env.variables ready.fits has in
+        let negated : registers_after (masks_code r) m.regs 7 ≡ difference_of 0 (m.regs r) = simp r0 in
+        let lessened : registers_after (masks_code r) m.regs 5 ≡ sum_of (m.regs r) 4294967295 = simp (r0, r7) in
         record {
-          ready = ready_with z env m t (ready_valued z condition env s m ready done.first) done.second.held done.second.bytes (homes_moved z (does masks_code ∷ []) env m t refl done.second);
+          ready = ready_with z env m t (ready_valued z condition env s m ready done.first) done.second.held done.second.bytes (homes_moved z (does (masks_code r) ∷ []) env m t (simp few) done.second);
           hidden = hidden_then z depth s m t (hidden_kept z depth s m inside done.first.kept) (hidden_by z depth m t done.second.bytes);
-          seven = ap (λ (regs : ℕ → ℕ). regs 7) done.second.regs ∙ (ap (λ x. difference_of 0 x) done.first.there ∙ mask_when v truth);
-          five = ap (λ (regs : ℕ → ℕ). regs 5) done.second.regs ∙ (ap (λ x. sum_of x 4294967295) done.first.there ∙ mask_otherwise v truth);
+          seven = ap (λ (regs : ℕ → ℕ). regs 7) done.second.regs ∙ (negated ∙ (ap (λ x. difference_of 0 x) done.first.there ∙ mask_when v truth));
+          five = ap (λ (regs : ℕ → ℕ). regs 5) done.second.regs ∙ (lessened ∙ (ap (λ x. sum_of x 4294967295) done.first.there ∙ mask_otherwise v truth));
         })
-        (then_moves z (does masks_code ∷ []) refl (tt, tt) (first_runs z has room) (λ env s t ready valued. valued.held))
+        (then_moves z (does (masks_code r) ∷ []) (simp few) (tt, tt) (read_runs z has room) (λ env s t ready valued. valued.held))
 
     masked_runs : (enclosing : Option ℕ) → IsAmong z.controls enclosing
-        → Runs z (16 * term_nodes condition + 7) (steps_of condition) (value_code z.declared z.allocation (base_of z) condition ++ masks_code ++ within_code z.declared enclosing) (Ready z) (Masked enclosing)
-    masked_runs None among = as_code (append-nil (value_code z.declared z.allocation (base_of z) condition ++ masks_code)) (cheaper (omega arith) masks_run)
+        → Runs z (16 * term_nodes condition + 7) (steps_of condition) (tested ++ masks_code r ++ within_code z.declared enclosing) (Ready z) (Masked enclosing)
+    masked_runs None among = as_code (append-nil (tested ++ masks_code r)) (cheaper (omega arith) masks_run)
     masked_runs (Some d) among =
         let k = control_offset z.declared d in
         let space = z.room in
         let joins = instr.Register And 7 7 6 ∷ instr.Register And 5 5 6 ∷ [] in
-        as_code (sym (append_assoc (value_code z.declared z.allocation (base_of z) condition ++ masks_code) (load_code 6 k) joins))
+        as_code (sym (append_assoc (tested ++ masks_code r) (load_code 6 k) joins))
         (cheaper (omega arith)
         (gives
         (λ env s t fine ready done.

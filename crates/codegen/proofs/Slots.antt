@@ -1,15 +1,18 @@
 -- What is shown once a number of a variable, or a control value, is written, and what is shown after a piece of a statement's code.
-use Rattle.std.proofs.Common.{◌≡◌, ℕ, ◌+◌, ◌*◌, ◌%◌, ◌^◌, ◌<◌, ◌≤◌, ◌==◌, ◌≢◌, ◌-◌, Bool, true, false, cond, if◌then◌else◌, nat_lt, List, [], ◌∷◌, length, None, Some, slice_get, slice_index, refl, sym, ap, ◌∙◌, subst, arith, inl, inr, ◌⊎◌, ◌&&◌, not, ◌++◌}
+use Rattle.std.proofs.Common.{◌≡◌, ℕ, ◌+◌, ◌*◌, ◌%◌, ◌^◌, ◌<◌, ◌≤◌, ◌==◌, ◌≢◌, ◌-◌, Bool, true, false, cond, if◌then◌else◌, nat_lt, List, [], ◌∷◌, length, None, Some, slice_get, slice_index, refl, sym, ap, ◌∙◌, subst, arith, inl, inr, ◌⊎◌, ◌&&◌, not, ne_eqb, Option, ◌++◌}
 use Rattle.std.specs.Prelude.{slice_set}
 use Rattle.codegen.proofs.Machine.{variable_offset, control_offset, next_offset, result_offset, ByteMap, number_at}
-use Rattle.codegen.proofs.Machine.{with_number, slots_to, height_of, home_of, into_code, value_code, store_code, Instr, Sw}
+use Rattle.codegen.proofs.Machine.{assign_code, home_of_term, home_or, read_code, read_register, unless_home}
+use Rattle.codegen.proofs.Machine.{with_number, slots_to, height_of, home_of, into_code, store_code, Instr, Sw}
 use Rattle.codegen.proofs.Language.{StraightState, with_variable, with_element, with_controls, FlatVariable, numbers_in}
 use Rattle.codegen.proofs.Language.{IsWithinKind, word_as, TermTree, term_nodes, Boolean, WordType, value_in, types_of}
 use Rattle.codegen.proofs.Language.{IsHeld, Fits, Kind, Uint32, bits_of, Values, HasType, Suits, Profile}
 use Rattle.codegen.proofs.Logic.{length-set, get_or-set_same, get_or-set_other, set-get_or, All-set}
 use Rattle.codegen.proofs.Logic.{none-some, same_Some, eqb-true, eqb-false, fits_assigned, one_held}
+use Rattle.inline.specs.Flat.{variable}
 use Rattle.inline.specs.FlatSize.{words_of}
-use Rattle.codegen.proofs.Logic.{number_at_apart, number_at-with_number, with_number_above, HeldAt, mask_of, mask_fits, bytes_by, bytes_of, place_of, place_within, ends_before_result, apart, apart_from, elements_apart, Setting, base_of, Kept, Ready, Wrote, wrote_kept, wrote_there, number_same, variables_kept, Before, After, Steps, Then, Still, steps_of, into_runs, held_regs, HomesKept, IsHome, ValuedIn, home_beside, home_target, homes_by, homes_moved, homes_then, kept_number, place_before, place_target, variables_home, is_free, put, then_moves, setting, Runs, gives, cheaper, kept_less, kept_by, ready_below, ready_after, kept_then, value_fits}
+use Rattle.inline.specs.FlatTyping.{of_variable}
+use Rattle.codegen.proofs.Logic.{number_at_apart, number_at-with_number, with_number_above, HeldAt, mask_of, mask_fits, bytes_by, bytes_of, place_of, place_within, ends_before_result, apart, apart_from, elements_apart, Setting, base_of, Kept, Ready, Wrote, wrote_kept, wrote_there, number_same, variables_kept, Before, After, Steps, Then, Still, steps_of, into_runs, held_regs, HomesKept, IsHome, ValuedIn, home_beside, home_target, homes_by, homes_moved, homes_then, kept_number, place_before, place_target, variables_home, is_free, idle, lt-ltb, works_at, IsTarget, Leaves, put, then_moves, setting, Runs, gives, cheaper, kept_less, kept_by, ready_below, ready_after, kept_then, value_fits}
 use Rattle.rv_machine.specs.Machine as machine
 
 -- the words of the loops that are around are as they were
@@ -244,33 +247,102 @@ pub record Shown (z : Setting) (depth : ℕ) (change : StraightState → Straigh
   pub ready : Ready z (change env) t
   pub hidden : Hidden z depth s t
 
--- the value's register has what an expression means, and only temporaries are written
-pub record Evaluated (z : Setting) (e : TermTree) (env : StraightState) (s t : machine.State) : Type 0 where
+-- a register has what an expression means, and only temporaries are written
+pub record Evaluated (z : Setting) (e : TermTree) (r : ℕ) (env : StraightState) (s t : machine.State) : Type 0 where
   pub held : HeldAt z t
-  pub there : t.regs 5 ≡ value_in env.variables e
+  pub there : t.regs r ≡ value_in env.variables e
   pub kept : Kept z (base_of z) s t
   pub homes : HomesKept z s t
+
+-- An expression that is read where it is.
+
+-- a register that is read or put: the one that was asked for, or a home
+pub record IsSource (z : Setting) (asked r : ℕ) : Type 0 where
+  pub low : 4 < r
+  pub high : r < 28
+  pub is : (r ≡ asked) ⊎ IsHome z.allocation.count r
+
+home_source : (z : Setting) (asked home x : ℕ) → home_of z.allocation.homes x ≡ Some home → IsSource z asked home
+home_source z asked home x at =
+    let allowed = z.allocated.allowed x home at in
+    record { low = omega (arith, allowed.0); high = allowed.1; is = inr allowed }
+
+pub read_source : (z : Setting) (e : TermTree) (asked : ℕ) → 4 < asked → asked < 28 → IsSource z asked (read_register z.allocation asked e)
+read_source z (variable x) asked low high = by_home (home_of z.allocation.homes x) refl
+  where
+    by_home : (h : Option ℕ) → home_of z.allocation.homes x ≡ h → IsSource z asked (home_or h asked)
+    by_home None at = record { low = low; high = high; is = inl refl }
+    by_home (Some home) at = home_source z asked home x at
+read_source z e asked low high = record { low = low; high = high; is = inl refl }
+
+-- none of the first three temporaries but the one that was asked for
+pub source_apart : (z : Setting) {asked r : ℕ} → IsSource z asked r → (q : ℕ) → q < 8 → asked ≢ q → r ≢ q
+source_apart z {asked = asked} {r = r} source q low other e = by_source source.is
+  where
+    by_source : (r ≡ asked) ⊎ IsHome z.allocation.count r → ⊥
+    by_source (inl is) = other (sym is ∙ e)
+    by_source (inr home) = let some = z.allocated.some in omega (arith, some, home.0, e, low)
+
+-- it can be put into the frame
+pub puts : (z : Setting) {asked r : ℕ} → IsSource z asked r → (is_free r && (nat_lt r 32 && not (r == 28))) ≡ true
+puts z {asked = asked} {r = r} source =
+    let free : is_free r ≡ true = lt-ltb 4 r source.low in
+    let few : nat_lt r 32 ≡ true = lt-ltb r 32 (omega (arith, source.high)) in
+    let beside : (r == 28) ≡ false = ne_eqb r 28 (λ e. omega (arith, source.high, e)) in
+    simp (free, few, beside)
 
 -- a value that suits a type is within the type's kind
 pub suits_fits : (profile : Profile) (declared : List FlatVariable) (word : WordType) (e : TermTree) (m : Values) → Fits (types_of profile declared) m → Suits (types_of profile declared) word e → value_in m e < 2 ^ bits_of word.kind
 suits_fits profile declared word e m fits suits = subst (λ (kind : Kind). value_in m e < 2 ^ bits_of kind) suits.kind (value_fits (types_of profile declared) m fits suits.has_type)
 
 module _ (z : Setting) where
-  -- The code of an expression that no temporary lives beside.
+  -- A register has an expression's value, with the temporaries from a place on, and only these are written.
+  pub record ReadIn (e : TermTree) (r place : ℕ) (env : StraightState) (s t : machine.State) : Type 0 where
+    pub held : HeldAt z t
+    pub there : t.regs (read_register z.allocation r e) ≡ value_in env.variables e
+    pub kept : Kept z (base_of z) s t
+    pub lower : Leaves (works_at z.allocation.count place r) s t
 
-  pub first_runs : {e : TermTree} {word : WordType} → HasType (types_of z.code.profile z.declared) e word → base_of z + 4 * slots_to z.allocation.count (height_of e) ≤ z.size → Runs z (16 * term_nodes e) (steps_of e) (value_code z.declared z.allocation (base_of z) e) (Ready z) (Evaluated z e)
-  first_runs has room =
-      let some = z.allocated.some in
+  abbrev Reads : (e : TermTree) (r place : ℕ) → Option ℕ → Type 0
+  Reads e r place h = Runs z (16 * term_nodes e) (steps_of e) (unless_home h (into_code z.declared z.allocation (base_of z) r place e)) (Ready z) (λ env s t. HeldAt z t × (t.regs (home_or h r) ≡ value_in env.variables e) × Kept z (base_of z) s t × Leaves (works_at z.allocation.count place r) s t)
+
+  reads_into : {e : TermTree} {word : WordType} (r place : ℕ) → IsTarget z.allocation.count place r → HasType (types_of z.code.profile z.declared) e word → base_of z + 4 * slots_to z.allocation.count (height_of e + place) ≤ z.size → Reads e r place None
+  reads_into r place target has room =
       let count = z.allocation.count in
       cheaper (omega arith)
       (gives {P = Ready z}
+      (λ env s t fine ready done. (done.held, done.there, kept_less z (base_of z) (base_of z + 4 * (place - count)) s t (omega arith) done.kept, done.lower))
+      (into_runs z (base_of z) (omega arith) (omega arith) has place r target room))
+
+  reads_at : {e : TermTree} {word : WordType} (r place : ℕ) → IsTarget z.allocation.count place r → HasType (types_of z.code.profile z.declared) e word → base_of z + 4 * slots_to z.allocation.count (height_of e + place) ≤ z.size → Reads e r place (home_of_term z.allocation e)
+  reads_at r place target (of_variable {x = x} {word = word} {mutable = mutable} known) room = by_home (home_of z.allocation.homes x) refl
+    where
+      by_home : (h : Option ℕ) → home_of z.allocation.homes x ≡ h → Reads (variable x) r place h
+      by_home None at = reads_into r place target (of_variable {word = word} {mutable = mutable} known) room
+      by_home (Some home) at =
+          cheaper {m = 0} (omega arith)
+          (idle (λ env s ready. (ready.held, ready.homes_there x home (word_as word mutable) known at, λ o below. refl, λ q h. refl)))
+  reads_at r place target has room = reads_into r place target has room
+
+  pub reads : {e : TermTree} {word : WordType} (r place : ℕ) → IsTarget z.allocation.count place r → HasType (types_of z.code.profile z.declared) e word → base_of z + 4 * slots_to z.allocation.count (height_of e + place) ≤ z.size
+      → Runs z (16 * term_nodes e) (steps_of e) (read_code z.declared z.allocation (base_of z) r place e) (Ready z) (ReadIn e r place)
+  reads r place target has room =
+      gives (λ env s t fine ready done. record { held = done.0; there = done.1; kept = done.2; lower = done.3 }) (reads_at r place target has room)
+
+  -- that of an expression that no temporary lives beside
+  pub read_runs : {e : TermTree} {word : WordType} → HasType (types_of z.code.profile z.declared) e word → base_of z + 4 * slots_to z.allocation.count (height_of e) ≤ z.size
+      → Runs z (16 * term_nodes e) (steps_of e) (read_code z.declared z.allocation (base_of z) 5 0 e) (Ready z) (Evaluated z e (read_register z.allocation 5 e))
+  read_runs has room =
+      let some = z.allocated.some in
+      let count = z.allocation.count in
+      gives
       (λ env s t fine ready done. record {
         held = done.held;
         there = done.there;
-        kept = kept_less z (base_of z) (base_of z + 4 * (0 - count)) s t (omega arith) done.kept;
+        kept = done.kept;
         homes = λ r home. done.lower r (home_beside count 0 5 r home.0 home.1 (λ e. omega (arith, some, home.0, e)));
       })
-      (into_runs z (base_of z) (omega arith) (omega arith) has 0 5 (place_target count 0 z.allocated.few (omega (arith, some))) (omega (arith, room))))
+      (reads 5 0 (place_target count 0 z.allocated.few (omega (arith, some))) has (omega (arith, room)))
 
   -- An expression into a home.
   pub homed_runs : {e : TermTree} {word : WordType} (home : ℕ) → IsHome z.allocation.count home → HasType (types_of z.code.profile z.declared) e word → base_of z + 4 * slots_to z.allocation.count (height_of e) ≤ z.size
@@ -280,7 +352,7 @@ module _ (z : Setting) where
       (into_runs z (base_of z) (omega arith) (omega arith) has 0 home (home_target z.allocation.count 0 home z.allocated.few is) (omega (arith, room)))
 
   -- the state is shown after an expression as before it
-  pub ready_valued : (e : TermTree) (env : StraightState) (s t : machine.State) → Ready z env s → Evaluated z e env s t → Ready z env t
+  pub ready_valued : (e : TermTree) {r : ℕ} (env : StraightState) (s t : machine.State) → Ready z env s → Evaluated z e r env s t → Ready z env t
   ready_valued e env s t ready valued = ready_after z env s t ready valued.held valued.kept valued.homes
 
   -- as long as nothing is written
@@ -332,12 +404,12 @@ module _ (z : Setting) where
 
   -- an expression's value
   pub assigned : {e : TermTree} {word : WordType} (o : ℕ) → HasType (types_of z.code.profile z.declared) e word → base_of z + 4 * slots_to z.allocation.count (height_of e) ≤ z.size → o % 4 ≡ 0 → o + 4 ≤ z.size
-      → Runs z (16 * term_nodes e + 3) (steps_of e) (value_code z.declared z.allocation (base_of z) e ++ store_code 5 o) (Ready z) (Then (setting z) (Evaluated z e) (λ env s t. Wrote z 4 o (value_in env.variables e) s t))
+      → Runs z (16 * term_nodes e + 3) (steps_of e) (assign_code z.declared z.allocation (base_of z) e o) (Ready z) (Then (setting z) (Evaluated z e (read_register z.allocation 5 e)) (λ env s t. Wrote z 4 o (value_in env.variables e) s t))
   assigned {e = e} o has room even inside =
-      stored 5 o (λ env. value_in env.variables e) refl even inside (first_runs has room) (λ env s t ready valued. (valued.held, valued.there))
+      stored (read_register z.allocation 5 e) o (λ env. value_in env.variables e) (puts z (read_source z e 5 (omega arith) (omega arith))) even inside (read_runs has room) (λ env s t ready valued. (valued.held, valued.there))
 
   -- the loops' words are as they were once a value is written before them
-  pub hidden_valued : (depth : ℕ) → depth ≤ z.depths → (e : TermTree) (env : StraightState) (n o w : ℕ) (s m t : machine.State) → o + n ≤ next_offset z.declared z.controls 0
-      → Evaluated z e env s m → Wrote z n o w m t → Hidden z depth s t
+  pub hidden_valued : (depth : ℕ) → depth ≤ z.depths → (e : TermTree) {r : ℕ} (env : StraightState) (n o w : ℕ) (s m t : machine.State) → o + n ≤ next_offset z.declared z.controls 0
+      → Evaluated z e r env s m → Wrote z n o w m t → Hidden z depth s t
   hidden_valued depth within e env n o w s m t before valued wrote =
       hidden_then z depth s m t (hidden_kept z depth s m within valued.kept) (hidden_wrote z depth n o w m t before wrote)

@@ -5,4 +5,5 @@ pub mod Emitted
 pub mod Placed
 pub mod Generated
 pub mod Room
+pub mod Uses
 pub mod Homes

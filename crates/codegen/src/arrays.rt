@@ -1,7 +1,7 @@
 // Instructions for arrays and their elements.
 
-ghost use Rattle.std.specs.Prelude.{◌≡◌, ◌≤◌, ◌+◌, ◌*◌, ◌++◌, ◌∷◌, [], map, length, OnOk};
-ghost use Rattle.codegen.specs.private.Emitted.{store_by, element_store_code, clear_code, fill_code, index_code, put_code, put_under_code};
+ghost use Rattle.std.specs.Prelude.{◌≡◌, ◌≤◌, ◌<◌, ◌+◌, ◌*◌, ◌++◌, ◌∷◌, [], map, length, IfOk, OnOk};
+ghost use Rattle.codegen.specs.private.Emitted.{store_by, element_store_code, clear_code, fill_code, index_code, put_code, put_element_code, put_under_code, put_under_near_code, put_element_under_code, read_register};
 ghost use Rattle.codegen.specs.private.Jumps.{loop_code};
 ghost use Rattle.expression_code.specs.Layout.{temporaries_offset};
 ghost use Rattle.expression_code.specs.Registers.{zero_register, value_register, second_register, third_register};
@@ -14,8 +14,9 @@ ghost use Rattle.inline.specs.Flat.{term_tree};
 
 use crate::jumping::repeat;
 use crate::masking;
-use expression_code::emit::{self, address, load_by};
-use expression_code::{Layout, into};
+use crate::reading::read;
+use expression_code::Layout;
+use expression_code::emit::{self, address, load_by, near};
 use inline::Term;
 use language::Kind;
 use rv_code::{
@@ -34,20 +35,25 @@ fn store_by(kind: Kind) -> StoreOperation
     }
 }
 
-/// The value into an element of a fixed place.
-fn store_element(code: &mut Vec<Instr>, kind: Kind, offset: u32) -> Result<(), AllocError>
-    ensures { OnOk result (code.new.items ≡ code.old.items ++ element_store_code kind offset) }
+/// A register into an element of a fixed place.
+fn store_element(
+    code: &mut Vec<Instr>,
+    value: Reg,
+    kind: Kind,
+    offset: u32,
+) -> Result<(), AllocError>
+    ensures { OnOk result (code.new.items ≡ code.old.items ++ element_store_code value kind offset) }
 {
     let low = emit::lower_part(offset);
     let operation = store_by(kind);
     if offset < emit::NEAR {
-        code.push(Instr::Store(operation, Reg::X5, Reg::X2, low))?;
+        code.push(Instr::Store(operation, value, Reg::X2, low))?;
         return Ok(());
     }
     let upper = emit::upper_part(offset);
     code.push(Instr::Upper(UpperOperation::Lui, Reg::X28, upper))?;
     code.push(Instr::Register(RegisterOperation::Add, Reg::X28, Reg::X28, Reg::X2))?;
-    code.push(Instr::Store(operation, Reg::X5, Reg::X28, low))?;
+    code.push(Instr::Store(operation, value, Reg::X28, low))?;
     Ok(())
 }
 
@@ -96,52 +102,128 @@ pub fn fill(
 {
     let mut place = offset;
     for value in values {
-        into(code, layout, Reg::X5, 0, value)?;
-        store_element(code, kind, place)?;
+        let value = read(code, layout, Reg::X5, 0, value)?;
+        store_element(code, value, kind, place)?;
         place += u32::from(kind.element_bytes());
     }
     Ok(())
 }
 
-/// An index and a value, into the registers of the first two temporaries.
-pub fn index(
+/// An index and a value, in the registers of the first two temporaries where they are not at home.
+fn index(
     code: &mut Vec<Instr>,
     layout: &Layout<'_>,
     index: &Term,
     value: &Term,
-) -> Result<(), AllocError>
+) -> Result<(Reg, Reg), AllocError>
     requires index { IsPlaced (length layout.now.declared) layout.now.allocation.count (temporaries_offset layout.now.declared layout.now.controls layout.now.depths) 0 (term_tree index.now) }
     requires value { IsPlaced (length layout.now.declared) layout.now.allocation.count (temporaries_offset layout.now.declared layout.now.controls layout.now.depths) 1 (term_tree value.now) }
-    ensures { OnOk result (code.new.items ≡ code.old.items ++ index_code layout.now.declared layout.now.allocation (temporaries_offset layout.now.declared layout.now.controls layout.now.depths) (term_tree index.now) (term_tree value.now)) }
+    ensures code { OnOk result (code.new.items ≡ code.old.items ++ index_code layout.now.declared layout.now.allocation (temporaries_offset layout.now.declared layout.now.controls layout.now.depths) (term_tree index.now) (term_tree value.now)) }
+    ensures index { IfOk result (λ registers. registers.0 ≡ read_register layout.now.allocation value_register (term_tree index.now)) }
+    ensures value { IfOk result (λ registers. registers.1 ≡ read_register layout.now.allocation second_register (term_tree value.now)) }
 {
-    into(code, layout, Reg::X5, 0, index)?;
-    into(code, layout, Reg::X6, 1, value)
+    let index = read(code, layout, Reg::X5, 0, index)?;
+    let value = read(code, layout, Reg::X6, 1, value)?;
+    Ok((index, value))
 }
 
-/// The second temporary into the element at the index that is the first, of an array at an offset.
-pub fn put(code: &mut Vec<Instr>, kind: Kind, offset: u32) -> Result<(), AllocError>
-    ensures { OnOk result (code.new.items ≡ code.old.items ++ put_code kind offset) }
+/// A register's value into the element at the index in another, of an array at an offset.
+fn put_at(
+    code: &mut Vec<Instr>,
+    index: Reg,
+    value: Reg,
+    kind: Kind,
+    offset: u32,
+) -> Result<(), AllocError>
+    ensures { OnOk result (code.new.items ≡ code.old.items ++ put_code index value kind offset) }
 {
-    address(code, Reg::X5, Reg::X5, kind, offset)?;
+    address(code, Reg::X5, index, kind, offset)?;
     let low = emit::lower_part(offset);
-    code.push(Instr::Store(store_by(kind), Reg::X6, Reg::X5, low))?;
+    code.push(Instr::Store(store_by(kind), value, Reg::X5, low))?;
     Ok(())
 }
 
-/// The second temporary into that element where the control value in a slot is true, and else what it holds.
-pub fn put_under(
+/// A value into an element of an array. Where the index is a number and the store holds the element's offset, no address
+/// is computed.
+pub fn put(
     code: &mut Vec<Instr>,
+    layout: &Layout<'_>,
+    array: u32,
+    place: &Term,
+    value: &Term,
+) -> Result<(), AllocError>
+    requires array { array < length layout.now.declared }
+    requires index { IsPlaced (length layout.now.declared) layout.now.allocation.count (temporaries_offset layout.now.declared layout.now.controls layout.now.depths) 0 (term_tree place.now) }
+    requires value { IsPlaced (length layout.now.declared) layout.now.allocation.count (temporaries_offset layout.now.declared layout.now.controls layout.now.depths) 1 (term_tree value.now) }
+    ensures { OnOk result (code.new.items ≡ code.old.items ++ put_element_code layout.now.declared layout.now.allocation (temporaries_offset layout.now.declared layout.now.controls layout.now.depths) array (term_tree place.now) (term_tree value.now)) }
+{
+    let kind = layout.kind(array);
+    if let Some(offset) = layout.near_element(array, place) {
+        let value = read(code, layout, Reg::X5, 0, value)?;
+        return store_element(code, value, kind, offset);
+    }
+    let (index, value) = index(code, layout, place, value)?;
+    put_at(code, index, value, kind, layout.variable(array))
+}
+
+/// The same where the control value in a slot is true, and else what the element holds.
+fn put_under_at(
+    code: &mut Vec<Instr>,
+    index: Reg,
+    value: Reg,
     control: u32,
     kind: Kind,
     offset: u32,
 ) -> Result<(), AllocError>
-    ensures { OnOk result (code.new.items ≡ code.old.items ++ put_under_code control kind offset) }
+    ensures { OnOk result (code.new.items ≡ code.old.items ++ put_under_code index value control kind offset) }
 {
-    address(code, Reg::X5, Reg::X5, kind, offset)?;
+    address(code, Reg::X5, index, kind, offset)?;
     let low = emit::lower_part(offset);
     code.push(Instr::Load(load_by(kind), Reg::X7, Reg::X5, low))?;
     emit::load(code, Reg::X29, control)?;
-    masking::merge(code, Reg::X6, Reg::X6, Reg::X7, Reg::X29)?;
+    masking::merge(code, Reg::X6, Reg::X6, value, Reg::X7, Reg::X29)?;
     code.push(Instr::Store(store_by(kind), Reg::X6, Reg::X5, low))?;
     Ok(())
+}
+
+/// A value into the element at an offset that is near, where the control value in a slot is true, and else what it holds.
+fn put_under_near(
+    code: &mut Vec<Instr>,
+    layout: &Layout<'_>,
+    control: u32,
+    kind: Kind,
+    offset: u32,
+    value: &Term,
+) -> Result<(), AllocError>
+    requires value { IsPlaced (length layout.now.declared) layout.now.allocation.count (temporaries_offset layout.now.declared layout.now.controls layout.now.depths) 0 (term_tree value.now) }
+    requires near { offset < 2048 }
+    ensures { OnOk result (code.new.items ≡ code.old.items ++ put_under_near_code layout.now.declared layout.now.allocation (temporaries_offset layout.now.declared layout.now.controls layout.now.depths) control kind offset (term_tree value.now)) }
+{
+    let value = read(code, layout, Reg::X5, 0, value)?;
+    near(code, Reg::X6, kind, offset)?;
+    emit::load(code, Reg::X7, control)?;
+    masking::merge(code, Reg::X5, Reg::X5, value, Reg::X6, Reg::X7)?;
+    store_element(code, Reg::X5, kind, offset)
+}
+
+/// A value into an element of an array where the control value in a slot is true: the element is written in any case.
+pub fn put_under(
+    code: &mut Vec<Instr>,
+    layout: &Layout<'_>,
+    control: u32,
+    array: u32,
+    place: &Term,
+    value: &Term,
+) -> Result<(), AllocError>
+    requires array { array < length layout.now.declared }
+    requires index { IsPlaced (length layout.now.declared) layout.now.allocation.count (temporaries_offset layout.now.declared layout.now.controls layout.now.depths) 0 (term_tree place.now) }
+    requires value { IsPlaced (length layout.now.declared) layout.now.allocation.count (temporaries_offset layout.now.declared layout.now.controls layout.now.depths) 1 (term_tree value.now) }
+    ensures { OnOk result (code.new.items ≡ code.old.items ++ put_element_under_code layout.now.declared layout.now.allocation (temporaries_offset layout.now.declared layout.now.controls layout.now.depths) control array (term_tree place.now) (term_tree value.now)) }
+{
+    let kind = layout.kind(array);
+    if let Some(offset) = layout.near_element(array, place) {
+        return put_under_near(code, layout, control, kind, offset, value);
+    }
+    let (index, value) = index(code, layout, place, value)?;
+    put_under_at(code, index, value, control, kind, layout.variable(array))
 }

@@ -3,7 +3,6 @@ ghost use Rattle.std.specs.Option.{option_map};
 ghost use Rattle.codegen.specs.Exact.{fields_of, optimised_fields_of};
 ghost use Rattle.codegen.specs.Followed.{IsGenerated};
 ghost use Rattle.codegen.specs.private.Generated.{entry_code, program_code, program_slots, result_slot, step_limit, image_of};
-ghost use Rattle.codegen.specs.private.Homes.{gets_home, home_after, home_at, homes_from};
 ghost use Rattle.codegen.specs.private.Room.{HasRoom, IsFitting, frame_of};
 ghost use Rattle.image_fields.specs.Fields.{IsImage};
 ghost use Rattle.intervals.specs.Limits.{most_work};
@@ -12,73 +11,20 @@ ghost use Rattle.rv_code.specs.Words.{word_of};
 
 use crate::Code;
 use crate::heights::{greatest_depth, greatest_height};
+use crate::homes::word_homes;
+use crate::reading::assign;
 use crate::statements::statements;
 use branch_removal::Straight;
 use expression_code::{
-    Allocation, Layout, REGISTER_COUNT, WORD_BYTES, emit, height, into, offsets, slots,
+    Allocation, Layout, REGISTER_COUNT, WORD_BYTES, emit, height, offsets, slots,
 };
 use image_fields::{ImageFields, ResultSlot};
-use inline::FlatVariable;
 use language::Refusal;
-use rv_code::{Instr, Reg, encode};
+use rv_code::{Instr, encode};
 use std::alloc::{AllocError, Global};
 
 /// How many temporaries have registers where words live in registers.
 const OPTIMISED_COUNT: u32 = 8;
-
-/// The first register that is a home, behind those of temporaries.
-const FIRST_HOME: u32 = 13;
-
-/// The register behind the homes, which is for addresses.
-const HOMES_END: u32 = 28;
-
-/// Whether a variable gets a home, where this register is the next one.
-fn gets_home(variable: &FlatVariable, next: u32) -> bool
-    ensures { result ≡ gets_home next variable.now }
-{
-    match variable.elements {
-        None => next < HOMES_END,
-        Some(_) => false,
-    }
-}
-
-/// The home of a variable, where it gets this register if it gets one.
-fn home_at(variable: &FlatVariable, next: u32) -> Option<Reg>
-    requires { next ≤ 28 }
-    ensures { result ≡ home_at next variable.now }
-{
-    if gets_home(variable, next) {
-        Some(Reg::from_bits(next))
-    } else {
-        None
-    }
-}
-
-/// The next register behind it.
-fn home_after(variable: &FlatVariable, next: u32) -> u32
-    requires { next ≤ 28 }
-    ensures value { result ≡ home_after next variable.now }
-    ensures few { result ≤ 28 }
-{
-    if gets_home(variable, next) {
-        next + 1
-    } else {
-        next
-    }
-}
-
-/// The homes of variables, by their numbers: the first that are words get one each, as long as there are any.
-fn word_homes(alloc: Global, declared: &[FlatVariable]) -> Result<Vec<Option<Reg>>, AllocError>
-    ensures { IfOk result (λ homes. homes.items ≡ homes_from 13 declared.now) }
-{
-    let mut homes = Vec::with_capacity(alloc, declared.len())?;
-    let mut next = FIRST_HOME;
-    for variable in declared {
-        homes.push(home_at(variable, next))?;
-        next = home_after(variable, next);
-    }
-    Ok(homes)
-}
 
 /// The words of instructions.
 fn words(alloc: Global, code: &[Instr]) -> Result<Vec<u32>, AllocError>
@@ -120,8 +66,7 @@ fn program_code(
     enter(&mut code, layout)?;
     statements(alloc, &mut code, layout, 0, straight.body())?;
     if let Some(value) = straight.value() {
-        into(&mut code, layout, Reg::X5, 0, value)?;
-        emit::store(&mut code, Reg::X5, layout.result())?;
+        assign(&mut code, layout, value, layout.result())?;
     }
     code.push(Instr::Ecall)?;
     Ok(code)
@@ -226,17 +171,18 @@ pub fn generate(alloc: Global, straight: &Straight<'_>) -> Result<Code, Refusal>
     )
 }
 
-/// The same with words in registers: the first variables that are words live in one each, for the whole run.
+/// The same with words in registers and numbers in instructions: the variables that are used most live in a register each,
+/// for the whole run, and a number gets none where an instruction holds it.
 pub fn generate_optimised(alloc: Global, straight: &Straight<'_>) -> Result<Code, Refusal>
     ensures generated { IfOk result (IsGenerated straight.now) }
     ensures exact { IfOk result (λ code. code ≡ optimised_fields_of straight.now) }
     ensures allowed { IfOk result IsImage }
     ensures memory { IfErr result (λ refusal. IsWantOfMemory refusal.rule refusal.place) }
 {
-    let homes = word_homes(alloc, straight.declared())?;
+    let homes = word_homes(alloc, straight)?;
     generate_with(
         alloc,
         straight,
-        Allocation::new(OPTIMISED_COUNT, homes.as_slice()),
+        Allocation::new(OPTIMISED_COUNT, homes.as_slice()).with_immediates(),
     )
 }

@@ -23,7 +23,7 @@ fn height_of_all(values: &[Term]) -> u32
 
 /// How many temporaries a statement has at once at most, beside the first.
 #[cycle(heights)]
-fn height_in(statement: &StraightStatement<'_>) -> u32
+fn height_in(statement: &StraightStatement) -> u32
     requires { height_in (straight_tree statement.now) ≤ 6000 }
     ensures { result ≡ height_in (straight_tree statement.now) }
 {
@@ -49,7 +49,7 @@ fn height_in(statement: &StraightStatement<'_>) -> u32
 
 /// How many temporaries statements have at once at most, beside the first.
 #[cycle(heights)]
-pub fn greatest_height(statements: &[StraightStatement<'_>]) -> u32
+pub fn greatest_height(statements: &[StraightStatement]) -> u32
     requires { height_in_all (straight_block statements.now) ≤ 6000 }
     ensures { result ≡ height_in_all (straight_block statements.now) }
 {
@@ -62,7 +62,7 @@ pub fn greatest_height(statements: &[StraightStatement<'_>]) -> u32
 
 /// How many loops stand in one another at most in a statement.
 #[cycle(depths)]
-fn depth_in(statement: &StraightStatement<'_>) -> u32
+fn depth_in(statement: &StraightStatement) -> u32
     requires { depth_in (straight_tree statement.now) ≤ 6000 }
     ensures { result ≡ depth_in (straight_tree statement.now) }
 {
@@ -77,7 +77,7 @@ fn depth_in(statement: &StraightStatement<'_>) -> u32
 
 /// How many loops stand in one another at most in statements.
 #[cycle(depths)]
-pub fn greatest_depth(statements: &[StraightStatement<'_>]) -> u32
+pub fn greatest_depth(statements: &[StraightStatement]) -> u32
     requires { depth_in_all (straight_block statements.now) ≤ 6000 }
     ensures { result ≡ depth_in_all (straight_block statements.now) }
 {

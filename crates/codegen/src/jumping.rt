@@ -9,13 +9,13 @@ use std::alloc::AllocError;
 /// The values that a jump's offset may have, in halves.
 const JUMP_HALVES: u32 = 1 << 20;
 
-/// Over the next instruction, where the value is not 0.
-fn skip() -> Instr
-    ensures { result ≡ skip }
+/// Over the next instruction, where a register is not 0.
+fn skip(register: Reg) -> Instr
+    ensures { result ≡ skip register }
 {
     Instr::Branch(
         BranchTest::Bne,
-        Reg::X5,
+        register,
         Reg::X0,
         BranchOffset::from_halves(4),
     )
@@ -41,16 +41,17 @@ fn back(count: usize) -> Instr
     )
 }
 
-/// The first instructions where the value is not 0, and else the second.
+/// The first instructions where a register is not 0, and else the second.
 pub fn branch(
     code: &mut Vec<Instr>,
+    register: Reg,
     accepted: &[Instr],
     otherwise: &[Instr],
 ) -> Result<(), AllocError>
     requires { 2 * (length accepted.now + length otherwise.now) + 8 < 2 ^ 19 }
-    ensures { OnOk result (code.new.items ≡ code.old.items ++ branch_code accepted.now otherwise.now) }
+    ensures { OnOk result (code.new.items ≡ code.old.items ++ branch_code register accepted.now otherwise.now) }
 {
-    code.push(skip())?;
+    code.push(skip(register))?;
     code.push(over(accepted.len() + 1))?;
     code.extend_from_slice(accepted)?;
     code.push(over(otherwise.len()))?;
@@ -64,7 +65,7 @@ pub fn repeat(code: &mut Vec<Instr>, test: &[Instr], body: &[Instr]) -> Result<(
     ensures { OnOk result (code.new.items ≡ code.old.items ++ loop_code test.now body.now) }
 {
     code.extend_from_slice(test)?;
-    code.push(skip())?;
+    code.push(skip(Reg::X5))?;
     code.push(over(body.len() + 1))?;
     code.extend_from_slice(body)?;
     code.push(back(test.len() + 2 + body.len()))?;

@@ -7,9 +7,12 @@ mod arrays;
 mod code;
 mod generator;
 mod heights;
+mod homes;
 mod jumping;
 mod masking;
+mod reading;
 mod statements;
+mod uses;
 
 pub use code::Code;
 pub use generator::{generate, generate_optimised};

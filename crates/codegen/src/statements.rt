@@ -10,6 +10,7 @@ ghost use Rattle.expression_code.specs.TermCode.{height_of};
 ghost use Rattle.inline.specs.Flat.{term_tree};
 ghost use Rattle.language.specs.Size.{array_words};
 
+use crate::reading::{assign, read};
 use crate::{arrays, jumping, masking};
 use branch_removal::StraightStatement;
 use expression_code::{Layout, Location, emit, into, move_register};
@@ -38,10 +39,7 @@ fn set(
 {
     match layout.variable_location(variable) {
         Location::InRegister(home) => into(code, layout, home, 0, value),
-        Location::InSlot(offset) => {
-            into(code, layout, Reg::X5, 0, value)?;
-            emit::store(code, Reg::X5, offset)
-        }
+        Location::InSlot(offset) => assign(code, layout, value, offset),
     }
 }
 
@@ -56,8 +54,8 @@ fn take(
     requires { HasPlace layout.now.declared layout.now.allocation layout.now.controls layout.now.depths 0 (straight.take control within (term_tree condition.now)) }
     ensures { OnOk result (code.new.items ≡ code.old.items ++ statement_code layout.now.declared layout.now.allocation layout.now.controls layout.now.depths 0 (straight.take control within (term_tree condition.now))) }
 {
-    into(code, layout, Reg::X5, 0, condition)?;
-    masking::masks(code)?;
+    let condition = read(code, layout, Reg::X5, 0, condition)?;
+    masking::masks(code, condition)?;
     if let Some(enclosing) = within {
         masking::join(code, layout.control(enclosing))?;
     }
@@ -76,17 +74,17 @@ fn set_under(
     requires { HasPlace layout.now.declared layout.now.allocation layout.now.controls layout.now.depths 0 (straight.set_under control variable (term_tree value.now)) }
     ensures { OnOk result (code.new.items ≡ code.old.items ++ statement_code layout.now.declared layout.now.allocation layout.now.controls layout.now.depths 0 (straight.set_under control variable (term_tree value.now))) }
 {
-    into(code, layout, Reg::X5, 0, value)?;
+    let value = read(code, layout, Reg::X5, 0, value)?;
     let mask = layout.control(control);
     match layout.variable_location(variable) {
         Location::InRegister(home) => {
             emit::load(code, Reg::X7, mask)?;
-            masking::merge(code, home, Reg::X5, home, Reg::X7)
+            masking::merge(code, home, Reg::X5, value, home, Reg::X7)
         }
         Location::InSlot(offset) => {
             emit::load(code, Reg::X6, offset)?;
             emit::load(code, Reg::X7, mask)?;
-            masking::merge(code, Reg::X5, Reg::X5, Reg::X6, Reg::X7)?;
+            masking::merge(code, Reg::X5, Reg::X5, value, Reg::X6, Reg::X7)?;
             emit::store(code, Reg::X5, offset)
         }
     }
@@ -105,10 +103,8 @@ fn bounds(
     requires next { next ≤ 65536 }
     ensures { OnOk result (code.new.items ≡ code.old.items ++ bounds_code layout.now.declared layout.now.allocation next (temporaries_offset layout.now.declared layout.now.controls layout.now.depths) (term_tree low.now) (term_tree high.now)) }
 {
-    into(code, layout, Reg::X5, 0, low)?;
-    emit::store(code, Reg::X5, next)?;
-    into(code, layout, Reg::X5, 0, high)?;
-    emit::store(code, Reg::X5, next + 4)
+    assign(code, layout, low, next)?;
+    assign(code, layout, high, next + 4)
 }
 
 /// Whether the next number of a loop is below its bound.
@@ -143,7 +139,7 @@ fn statement(
     code: &mut Vec<Instr>,
     layout: &Layout<'_>,
     depth: u32,
-    statement: &StraightStatement<'_>,
+    statement: &StraightStatement,
 ) -> Result<(), AllocError>
     requires placed { HasPlace layout.now.declared layout.now.allocation layout.now.controls layout.now.depths depth (straight_tree statement.now) }
     ensures { OnOk result (code.new.items ≡ code.old.items ++ statement_code layout.now.declared layout.now.allocation layout.now.controls layout.now.depths depth (straight_tree statement.now)) }
@@ -159,8 +155,7 @@ fn statement(
             arrays::fill(code, layout, layout.kind(*array), offset, values)
         }
         StraightStatement::Put(_, array, _, index, value) => {
-            arrays::index(code, layout, index, value)?;
-            arrays::put(code, layout.kind(*array), layout.variable(*array))
+            arrays::put(code, layout, *array, index, value)
         }
         StraightStatement::Take(control, within, condition) => {
             take(code, layout, *control, *within, condition)
@@ -169,17 +164,16 @@ fn statement(
             set_under(code, layout, *control, *variable, value)
         }
         StraightStatement::PutUnder(control, _, array, _, index, value) => {
-            arrays::index(code, layout, index, value)?;
             let control = layout.control(*control);
-            arrays::put_under(code, control, layout.kind(*array), layout.variable(*array))
+            arrays::put_under(code, layout, control, *array, index, value)
         }
         StraightStatement::Branch(condition, accepted, otherwise) => {
             let mut one = Vec::new(alloc);
             statements(alloc, &mut one, layout, depth, accepted)?;
             let mut other = Vec::new(alloc);
             statements(alloc, &mut other, layout, depth, otherwise)?;
-            into(code, layout, Reg::X5, 0, condition)?;
-            jumping::branch(code, one.as_slice(), other.as_slice())?;
+            let register = read(code, layout, Reg::X5, 0, condition)?;
+            jumping::branch(code, register, one.as_slice(), other.as_slice())?;
             Ok(())
         }
         StraightStatement::Repeat(counter, low, high, body) => {
@@ -203,7 +197,7 @@ pub fn statements(
     code: &mut Vec<Instr>,
     layout: &Layout<'_>,
     depth: u32,
-    statements: &[StraightStatement<'_>],
+    statements: &[StraightStatement],
 ) -> Result<(), AllocError>
     requires placed { HavePlaces layout.now.declared layout.now.allocation layout.now.controls layout.now.depths depth (straight_block statements.now) }
     ensures { OnOk result (code.new.items ≡ code.old.items ++ block_code layout.now.declared layout.now.allocation layout.now.controls layout.now.depths depth (straight_block statements.now)) }

@@ -7,7 +7,11 @@ pub use Rattle.expression_code.specs.Computed.{IsComputed, IsSiteOf, Site, word_
 pub use Rattle.expression_code.specs.Inside.{IsInside}
 pub use Rattle.expression_code.specs.Layout.{control_offset, next_offset, result_offset, temporaries_offset, variable_location, variable_offset}
 pub use Rattle.expression_code.specs.Layout.{offsets_from, slots_from}
-pub use Rattle.expression_code.specs.TermCode.{address_code, around_code, between, choice_code, constant_code, convert_code, copy_code, cut_code, element_code, expr_code, fetch_code, Finish, finish_code, height_of, into_code, IsAmong, is_at_home, keep_code, load_by, load_code, lower_part, move_code, narrow_code, narrowed, narrowed_in, operand, operator_code, placed_code, prefix_code, raise_code, rotate_code, row_of, scale_code, Step, store_code, turned, upper_part}
+pub use Rattle.expression_code.specs.NumberRows.{held, is_short, known_row, left_row, number_of, number_row, right_row, turned_operator}
+pub use Rattle.expression_code.specs.declared.numbers.Finish.{Finish}
+pub use Rattle.expression_code.specs.declared.numbers.NumberRow.{NumberRow}
+pub use Rattle.expression_code.specs.declared.numbers.NumberStep.{NumberStep}
+pub use Rattle.expression_code.specs.TermCode.{address_code, around_code, between, choice_code, code_by, constant_code, convert_code, copy_code, cut_code, element_code, expr_code, fetch_code, finish_code, height_of, into_code, IsAmong, is_at_home, keep_code, load_by, load_code, lower_part, move_code, narrow_code, narrowed_in, near_code, near_element, near_offset, number_code, of_truths, operand, operator_code, placed_code, prefix_code, raise_code, rotate_code, row_of, scale_code, Step, step_code, store_code, turned, upper_part}
 pub use Rattle.expression_code.specs.TermCode.{kind_at}
 pub use Rattle.expression_code.specs.declared.locations.Location.{Location}
 pub use Rattle.expression_code.specs.declared.locations.Location.TheVariants.{InRegister, InSlot}

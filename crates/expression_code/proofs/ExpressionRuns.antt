@@ -1,17 +1,18 @@
--- The code of an expression puts the expression's value where it is found, which is the law of expressions.
-use Rattle.std.proofs.Common.{◌≡◌, ℕ, zero, suc, ◌+◌, ◌-◌, ◌*◌, ◌%◌, ◌^◌, ◌<◌, ◌≤◌, true, List, [], ◌++◌, length, Option, None, Some, below_more, is_some, slice_get, slice_index, refl, sym, ap, ◌∙◌, arith, Bool, append-nil, false, cond, nat_lt, subst, All}
-use Rattle.expression_code.proofs.Below.{along, at_home, array_as, as_code, byte_count, ByteMap, cheaper, choice_code, constant_code, convert_code, converted, copy_code, element, element_code, expr_code, fetch_code, gives, HasType, height_of, home_of, idle, InRegister, InSlot, Instr, into_code, IsComputed, IsInside, IsSiteOf, keep_code, Known, Leads, load_by, load_size, Location, lower_part, lt-ltb, ltb-false, ltb-true, move_code, none, number_at, number_or_zero, Observation, of_binary, of_conversion, of_element, of_number, of_prefix, of_rotation, of_selection, of_truth, of_variable, only_computes, operand, Path, path_in, Place, prefix_code, prefix_value, quiet, register_of, registers_after, rotate_code, rotated_left, select, seq, Site, slot_of, slots_to, State, StraightState, temporary, term_nodes, TermTree, types_of, value_fits, value_in, Values, variable, variable_offset, weaken, width_of, word_as, word_in, word_of, WordType, working_register, ends_on}
+-- The code of an expression puts the expression's value where it is found.
+use Rattle.std.proofs.Common.{◌≡◌, ℕ, zero, suc, ◌+◌, ◌-◌, ◌*◌, ◌%◌, ◌^◌, ◌<◌, ◌≤◌, true, List, [], ◌++◌, length, Option, None, Some, below_more, is_some, slice_get, slice_index, refl, sym, ap, ap₂, ◌∙◌, arith, Bool, eq-eqb, ◌==◌, ◌∷◌, append-nil, false, cond}
+use Rattle.expression_code.proofs.Below.{along, at_home, array_as, as_code, binary, BinaryOperator, byte_count, ByteMap, cheaper, choice_code, code_by, constant_code, convert_code, converted, copy_code, element, element_bytes, element_code, eqb-true, expr_code, fetch_code, gives, HasType, height_of, home_of, idle, indexed, InSlot, Instr, into_code, keep_code, kind_at, Known, left_row, load_by, load_size, Location, lower_part, lt-ltb, move_code, near_code, near_element, never, none, number_at, number_code, number_or_zero, number_row, NumberRow, of_binary, of_conversion, of_element, of_number, of_prefix, of_rotation, of_selection, of_truth, of_variable, only_computes, operand, operated, Path, path_in, Place, prefix_code, prefix_value, quiet, register_of, registers_after, right_row, rotate_code, rotated_left, select, seq, sign_extended, slot_of, slots_to, State, StraightState, sum_of, temporary, term_nodes, TermTree, true≢false, types_of, value_fits, value_in, Values, variable, variable_offset, weaken, Width, width_of, word_as, word_of, WordType, working_register}
 use Rattle.expression_code.proofs.Elements.{address_runs, load_bytes, load_plain}
 use Rattle.expression_code.proofs.Events.{by_index}
-use Rattle.expression_code.proofs.Frame.{Setting, base_of, Steps, Before, Runs, setting, HeldAt, Held, seen_by}
-use Rattle.expression_code.proofs.WorkRegisters.{IsFree, ArePair, IsOperand, IsTarget, free_from, working_free, working_apart, operand_free, operand_apart, operand_not, own_target, is_operand, works_in, works_at, low_at, higher_stays, beside_stays, own_stays, target_works, own_works, next_works, spare_works, lower_stays, not_written}
-use Rattle.expression_code.proofs.Arithmetic.{lower_fits, chosen, choice}
+use Rattle.expression_code.proofs.Frame.{Setting, base_of, Steps, Before, Runs, setting, HeldAt, Held}
+use Rattle.expression_code.proofs.WorkRegisters.{IsFree, ArePair, IsOperand, IsTarget, free_from, working_free, working_apart, operand_free, operand_apart, operand_not, own_target, is_operand, works_in, works_at, low_at, higher_stays, beside_stays, own_stays, target_works, own_works, next_works, spare_works, not_written}
+use Rattle.expression_code.proofs.Arithmetic.{lower_fits, near_address, chosen, choice}
 use Rattle.expression_code.proofs.Moves.{take, move_runs, written, unwritten, loading}
+use Rattle.expression_code.proofs.NumberCode.{known, known_word, left_known, NearElement, near_known, number_means, Numbered, right_known, row_quiet, Turned, turned_quiet, turned_same}
 use Rattle.expression_code.proofs.Operands.{Outcome, took, fetch_runs, operand_room, keep_runs, worked, operator_runs}
 use Rattle.expression_code.proofs.OperatorCode.{constant_plain, constant_after, move_plain, move_made, convert_plain, convert_made, prefix_plain, prefix_made, rotate_plain, rotate_made, choice_plain, choice_made, truth_fits}
 use Rattle.expression_code.proofs.Places.{place_of, place_even, kind_known}
-use Rattle.expression_code.proofs.TermLengths.{height, constant_length, move_length, convert_length, prefix_length, rotate_length}
-use Rattle.expression_code.proofs.Values.{Ready, Valued, ValuedIn, Kept, Leaves, Holds, kind_fits, value_word, kept_less, kept_by, kept_then, leaves_then, leaves_spare, holds_lower, holds_still, homes_left, place_ends, ready_after, kept_number}
+use Rattle.expression_code.proofs.TermLengths.{height, both_code, constant_length, move_length, convert_length, number_length, one_code, picked_code, prefix_length, rotate_length}
+use Rattle.expression_code.proofs.Values.{Ready, Valued, ValuedIn, Kept, Leaves, Holds, kind_fits, value_word, kept_less, kept_by, kept_then, leaves_then, leaves_spare, holds_lower, holds_still, homes_left, place_ends, ready_after}
 
 -- what an expression puts on the path
 abbrev pub steps_of : TermTree → Steps
@@ -273,6 +274,94 @@ module _ (z : Setting) (free : ℕ) (aligned : free % 4 ≡ 0) (above : base_of 
         (λ env s given. (given.0, value s.regs (omega (arith, given.1, given.2)) ∙ (ap f given.1 ∙ same env.variables))))
         (λ env s t ready done. (done.held, done.fetched 0 (omega arith), value_word z.code.profile z.declared e one env.variables ready.fits has))))
 
+    -- A value, and then an operator between it and a number.
+    with_number : {e whole : TermTree} {one : WordType} (operator : BinaryOperator) (w : Width) (n : ℕ) → n < 2 ^ 32 → (row : NumberRow) → number_row operator n ≡ Some row
+        → ((m : Values) → (operated operator w (value_in m e) n ≡ value_in m whole) × (path_in m whole ≡ path_in m e))
+        → Typed e one → HasSlot place → Runs z (16 * term_nodes e) (steps_of e) (expr_code z.declared z.allocation free place e) (Ready z) (Valued z e free place)
+        → Runs z (16 * term_nodes e + 6) (steps_of whole) (one_code z.declared z.allocation free d place e w row) (Ready z) (ValuedIn z whole free d place)
+    with_number {e = e} operator w n fits row is same has room runs =
+        let r = found place e 29 in
+        let means = number_means spare works own spare_own (found_free place e 29 (omega arith) (omega arith)) operator n fits row is in
+        along (λ env. (same env.variables).1)
+        (cheaper (omega (arith, number_length d r w row))
+        (applied has room (number_code d r w row) (means.plain w) (λ v. operated operator w v n) (means.value w) (λ m. (same m).0) runs))
+
+    -- An operator between two operands, where either may be in its instruction.
+    module _ (source : Place) (operator : BinaryOperator) (width : Width) {left right : TermTree} {one other : WordType} (has : Typed left one) (more : Typed right other) (room : HasSlot place) where
+      abbrev whole : TermTree
+      whole = binary source operator width left right
+
+      -- a number on the right
+      on_right : (row : NumberRow) → Numbered operator right row → Runs z (16 * term_nodes left) (steps_of left) (expr_code z.declared z.allocation free place left) (Ready z) (Valued z left free place)
+          → Runs z (16 * term_nodes left + 6) (steps_of whole) (one_code z.declared z.allocation free d place left width row) (Ready z) (ValuedIn z whole free d place)
+      on_right row numbered runs =
+          with_number operator width numbered.n (known_word more numbered.n numbered.is) row numbered.row_is
+          (λ m.
+          let k = known right numbered.n numbered.is m in (
+            ap (operated operator width (value_in m left)) (sym k.0),
+            ap₂ (λ (p q : Path). path_in m left ++ p ++ q) k.1 (row_quiet source (value_in m left) (value_in m right) operator numbered.n row numbered.row_is) ∙ (append-nil (path_in m left ++ []) ∙ append-nil (path_in m left)),
+          ))
+          has room runs
+
+      -- and on the left
+      on_left : (row : NumberRow) → Turned operator left row → Runs z (16 * term_nodes right) (steps_of right) (expr_code z.declared z.allocation free place right) (Ready z) (Valued z right free place)
+          → Runs z (16 * term_nodes right + 6) (steps_of whole) (one_code z.declared z.allocation free d place right width row) (Ready z) (ValuedIn z whole free d place)
+      on_left row turned runs =
+          let numbered = turned.numbered in
+          with_number turned.other width numbered.n (known_word has numbered.n numbered.is) row numbered.row_is
+          (λ m.
+          let k = known left numbered.n numbered.is m in (
+            ap (operated turned.other width (value_in m right)) (sym k.0) ∙ turned_same width (value_in m left) (value_in m right) operator turned.other turned.is,
+            ap₂ (λ (p q : Path). p ++ path_in m right ++ q) k.1 (turned_quiet source (value_in m left) (value_in m right) operator turned.other turned.is) ∙ append-nil (path_in m right),
+          ))
+          more room runs
+
+      by_operands : Runs z (16 * term_nodes left) (steps_of left) (expr_code z.declared z.allocation free place left) (Ready z) (Valued z left free place)
+          → Runs z (16 * term_nodes right) (steps_of right) (expr_code z.declared z.allocation free place right) (Ready z) (Valued z right free place)
+          → Runs z (16 * term_nodes whole - 3) (steps_of whole) (both_code z.declared z.allocation free d place left right operator width) (Ready z) (ValuedIn z whole free d place)
+          → Runs z (16 * term_nodes whole - 3) (steps_of whole) (into_code z.declared z.allocation free d place whole) (Ready z) (ValuedIn z whole free d place)
+      by_operands first second both = by_right (right_row z.allocation operator right) refl (left_row z.allocation operator left) refl
+        where
+          by_right : (a : Option NumberRow) → right_row z.allocation operator right ≡ a → (b : Option NumberRow) → left_row z.allocation operator left ≡ b
+              → Runs z (16 * term_nodes whole - 3) (steps_of whole)
+              (code_by a (one_code z.declared z.allocation free d place left width) (code_by b (one_code z.declared z.allocation free d place right width) (both_code z.declared z.allocation free d place left right operator width)))
+              (Ready z) (ValuedIn z whole free d place)
+          by_right (Some row) is b e = cheaper (omega arith) (on_right row (right_known z.allocation operator right row is) first)
+          by_right None is (Some row) e = cheaper (omega arith) (on_left row (left_known z.allocation operator left row e) second)
+          by_right None is None e = both
+
+    -- The element at an index that is a number, where its access holds its offset.
+    near_picked : (source : Place) (x size : ℕ) (word : WordType) (mutable : Bool) (i o : ℕ) (index : TermTree) → slice_get z.declared x ≡ Some (array_as word mutable size) → i < size
+        → place_of z.declared x (array_as word mutable size) i ≡ o → o < 2048
+        → Runs z 1 none (near_code d word.kind o) (Known (setting z) ℕ (λ j. j < size) (λ env s. Ready z env s) (λ env. value_in env.variables index) i)
+        (λ env s t. Outcome z works d (value_in env.variables (element source x size index)) s t)
+    near_picked source x size word mutable i o index known below at near =
+        let array = array_as word mutable size in
+        let load = load_by word.kind in
+        let bytes = load_bytes word.kind in
+        let h = place_ends z x array i known below in
+        let ends = z.ends in
+        let away = z.allocated.words x array size known refl in
+        gives
+        (λ env s t fine given two.
+        let ready = given.given in
+        record {
+          held = two.0;
+          there =
+              ap (λ (regs : ℕ → ℕ). regs d) two.1
+              ∙ (written s.regs d _ target.free.nonzero
+              ∙ (load_plain word.kind _
+              ∙ (ap₂ (λ (n a : ℕ). number_or_zero (number_at s.bytes n (z.frame + a))) bytes (sym at)
+              ∙ (ap number_or_zero (ready.variables_there x array i known away below) ∙ ap (slice_index (env.variables x)) (sym given.is)))));
+          others = λ q other. ap (λ (regs : ℕ → ℕ). regs q) two.1 ∙ unwritten s.regs d _ q (not_written works q d other own);
+          same = two.2;
+        })
+        (weaken
+        (λ env s fine given. (given.given.held, ap (λ b. sum_of b (sign_extended 12 o)) given.given.held.base ∙ near_address z.frame o near (omega (arith, h, ends, at))))
+        (λ env s t fine given done. done)
+        (loading z 2 o o (omega arith) (omega (arith, near)) load d target.free.low target.free.small
+        (ap₂ (λ a n. a % n) (sym at) bytes ∙ place_even z.declared x array i) (omega (arith, h, bytes, at))))
+
     -- The element at an index that is in a register.
     picked : (r : ℕ) → IsFree r → (source : Place) (x size : ℕ) (word : WordType) (mutable : Bool) (i : ℕ) (index : TermTree) → slice_get z.declared x ≡ Some (array_as word mutable size) → i < size
         → Runs z 5 none (element_code d r word.kind (variable_offset z.declared x))
@@ -313,6 +402,35 @@ module _ (z : Setting) (free : ℕ) (aligned : free % 4 ≡ 0) (above : base_of 
         (loading z d (lower_part o) a target.free.small (lower_fits o) load d target.free.low target.free.small (ap (λ n. a % n) bytes ∙ place_even z.declared x array i) (omega (arith, h, bytes)))
         (λ env s t given done. (done.held, done.address)))
 
+    -- An element, where the access may hold its offset.
+    by_index_known : (source : Place) {x size : ℕ} {index : TermTree} {word : WordType} {mutable : Bool} → slice_get z.declared x ≡ Some (array_as word mutable size)
+        → Runs z (16 * (1 + term_nodes index) - 3) (steps_of (element source x size index)) (picked_code z.declared z.allocation free d place x index) (Ready z) (ValuedIn z (element source x size index) free d place)
+        → Runs z (16 * (1 + term_nodes index) - 3) (steps_of (element source x size index)) (into_code z.declared z.allocation free d place (element source x size index)) (Ready z) (ValuedIn z (element source x size index) free d place)
+    by_index_known source {x = x} {size = size} {index = index} {word = word} {mutable = mutable} is far = by_test (near_element z.declared z.allocation x index) refl
+      where
+        -- of the indices that there might be, the number is one
+        at_number : (o : ℕ) (near : NearElement z.declared x index o) → place_of z.declared x (array_as word mutable size) near.i ≡ o → (i : ℕ) → i < size → (b : Bool) → (i == near.i) ≡ b
+            → Runs z 1 none (near_code d word.kind o) (Known (setting z) ℕ (λ j. j < size) (λ env s. Ready z env s) (λ env. value_in env.variables index) i)
+            (λ env s t. Outcome z works d (value_in env.variables (element source x size index)) s t)
+        at_number o near at i below true same =
+            near_picked source x size word mutable i o index is below (ap (place_of z.declared x (array_as word mutable size)) (eqb-true i near.i same) ∙ at) near.near
+        at_number o near at i below false other =
+            never (λ env s given. true≢false (sym (eq-eqb i near.i (sym given.is ∙ (known index near.i near.is env.variables).0)) ∙ other))
+
+        by_test : (o : Option ℕ) → near_element z.declared z.allocation x index ≡ o
+            → Runs z (16 * (1 + term_nodes index) - 3) (steps_of (element source x size index)) (code_by o (near_code d (kind_at z.declared x)) (picked_code z.declared z.allocation free d place x index)) (Ready z) (ValuedIn z (element source x size index) free d place)
+        by_test None e = far
+        by_test (Some o) e =
+            let near = near_known z.declared z.allocation x index o e in
+            let kind = kind_known z.declared x (array_as word mutable size) is in
+            let at : place_of z.declared x (array_as word mutable size) near.i ≡ o = ap (λ k. variable_offset z.declared x + element_bytes k * near.i) (sym kind) ∙ near.at in
+            as_code (ap (λ k. near_code d k o) kind)
+            (along (λ env. ap (λ (p : Path). p ++ indexed source size (value_in env.variables index) ∷ []) (known index near.i near.is env.variables).1)
+            (cheaper (omega arith)
+            (made place (λ j. index) d (none_yet place (λ j. index))
+            (by_index z source size (λ env. value_in env.variables index) (λ i below. at_number o near at i below (i == near.i) refl))
+            (λ env s t ready done. still_ready place env s t ready done.held done.kept done.lower))))
+
   -- Each well-typed expression, into any register that its value may come into.
   pub into_runs : {e : TermTree} {word : WordType} → HasType (types_of z.code.profile z.declared) e word → (place d : ℕ) → IsTarget count place d → free + 4 * slots_to count (height_of e + place) ≤ z.size
       → Runs z (16 * term_nodes e - 3) (steps_of e) (into_code z.declared z.allocation free d place e) (Ready z) (ValuedIn z e free d place)
@@ -339,7 +457,11 @@ module _ (z : Setting) (free : ℕ) (aligned : free % 4 ≡ 0) (above : base_of 
       let first = one_more place e 0 (none_yet place e) (placed has place here (into_runs has place _ (own_target count place few) here)) in
       let both = one_more place e 1 first (placed more (place + 1) next (into_runs more (place + 1) _ (own_target count (place + 1) few) next)) in
       let fetched = one_fetched place e 1 (omega arith) (omega arith) (omega (arith, room)) (one_fetched place e 0 (omega arith) (omega arith) (omega (arith, room)) both) in
-      cheaper (omega (arith, height left, height right))
+      let alone : free + 4 * slots_to count (height_of right + place) ≤ z.size = omega (arith, room) in
+      by_operands place d target source operator width has more (omega (arith, room))
+      (placed has place here (into_runs has place _ (own_target count place few) here))
+      (placed more place alone (into_runs more place _ (own_target count place few) alone))
+      (cheaper (omega (arith, height left, height right))
       (made place e d fetched
       (operator_runs z (works_at count place d) (none_low place d target) pair (found_free place left 29 (omega arith) (omega arith)) (found_free (place + 1) right 30 (omega arith) (omega arith))
       (operand_apart count place (place + 1) 29 30 l few (λ f. omega (arith, f)) (omega arith) (omega arith) (λ f. omega (arith, f)) (found_is place left 29))
@@ -350,7 +472,7 @@ module _ (z : Setting) (free : ℕ) (aligned : free % 4 ≡ 0) (above : base_of 
         right = done.fetched 1 (omega arith);
         left_fits = value_word z.code.profile z.declared left one env.variables ready.fits has;
         right_fits = value_word z.code.profile z.declared right other env.variables ready.fits more;
-      }))
+      })))
   into_runs (of_rotation {width = width} {operand = operand} {amount = amount} has numeric low high same) place d target room =
       let r = found place operand 29 in
       let source = found_free place operand 29 (omega arith) (omega arith) in
@@ -410,80 +532,15 @@ module _ (z : Setting) (free : ℕ) (aligned : free % 4 ≡ 0) (above : base_of 
       let e = λ (j : ℕ). index in
       let array = array_as word mutable size in
       let r = found place index 29 in
-      as_code (ap (λ kind. expr_code z.declared z.allocation free place index ++ fetch_code (operand z.allocation free place index) 29 ++ element_code d r kind (variable_offset z.declared x)) (kind_known z.declared x array is))
+      let kind = kind_known z.declared x array is in
+      by_index_known place d target source is
+      (as_code (ap (λ kind. expr_code z.declared z.allocation free place index ++ fetch_code (operand z.allocation free place index) 29 ++ element_code d r kind (variable_offset z.declared x)) kind)
       (cheaper (omega (arith, height index))
       (made place e d (one_fetched place e 0 (omega arith) (omega arith) (omega (arith, room)) (one_more place e 0 (none_yet place e) (placed has place room (into_runs has place _ (own_target count place few) room))))
       (by_index z source size (λ env. value_in env.variables index) (λ i below. picked place d target r (found_free place index 29 (omega arith) (omega arith)) source x size word mutable i index is below))
-      (λ env s t ready done. (still_ready place env s t ready done.held done.kept done.lower, done.fetched 0 (omega arith)))))
+      (λ env s t ready done. (still_ready place env s t ready done.held done.kept done.lower, done.fetched 0 (omega arith))))))
 
   -- and into any place
   pub expr_runs : {e : TermTree} {word : WordType} → HasType (types_of z.code.profile z.declared) e word → (place : ℕ) → free + 4 * slots_to count (height_of e + place) ≤ z.size
       → Runs z (16 * term_nodes e) (steps_of e) (expr_code z.declared z.allocation free place e) (Ready z) (Valued z e free place)
   expr_runs has place room = placed has place room (into_runs has place (working_register count place 29) (own_target count place few) room)
-
--- The law, at a site.
-
--- no control value and no loop
-abbrev setting_of : (e : TermTree) (site : Site) → IsSiteOf e site → Setting
-setting_of e site fit = record {
-  code = site.code;
-  frame = site.frame;
-  size = site.size;
-  counts = [];
-  declared = site.declared;
-  controls = 0;
-  depths = 0;
-  allocation = site.allocation;
-  allocated = fit.allocated;
-  even = fit.even;
-  ends = fit.ends;
-  room = omega (arith, fit.above, fit.room);
-}
-
-abbrev state_of : Values → StraightState
-state_of m = record { variables = m; controls = λ c. false }
-
-module _ (e : TermTree) (site : Site) (fit : IsSiteOf e site) where
-  -- what a location holds, as it is read
-  read : (l : Location) (v : ℕ) (t : State) → Holds (setting_of e site fit) l t v → word_in site t l ≡ Some v
-  read (InRegister r) v t there = ap Some there
-  read (InSlot o) v t there = there
-
-  -- and that it is the same where lower places are kept
-  stays : (place top : ℕ) (s t : State) → place < top → Kept (setting_of e site fit) (slot_of site.allocation.count site.free top) s t → Leaves (works_in site.allocation.count top) s t → (b : Bool) → nat_lt place site.allocation.count ≡ b
-      → word_in site t (cond b (InRegister (5 + place)) (InSlot (slot_of site.allocation.count site.free place))) ≡ word_in site s (cond b (InRegister (5 + place)) (InSlot (slot_of site.allocation.count site.free place)))
-  stays place top s t less kept lower true h = ap Some (lower (5 + place) (lower_stays site.allocation.count top place less (ltb-true place site.allocation.count h) fit.allocated.few))
-  stays place top s t less kept lower false h =
-      kept_number (setting_of e site fit) (slot_of site.allocation.count site.free top) s t kept 4 (slot_of site.allocation.count site.free place) (omega (arith, less, ltb-false place site.allocation.count h))
-
-pub expressions_are_computed : (e : TermTree) (word : WordType) (site : Site) → HasType (types_of site.code.profile site.declared) e word → IsSiteOf e site → IsComputed e site
-expressions_are_computed e word site has fit =
-    let z = setting_of e site fit in
-    let piece = (expr_runs z site.free fit.aligned (omega (arith, fit.above)) has site.place fit.room).placed_at site.start fit.placed in
-    record {
-      shown = λ path. (piece.leak path).0;
-      runs = λ m s at there fine.
-          let path = seen_by z (path_in m e) in
-          let ready : Ready z (state_of m) s = record {
-            held = record { base = there.base; data_there = there.data_there };
-            fits = there.fits;
-            homes_there = there.homes_there;
-            variables_there = there.variables_there;
-            controls_there = λ c below. absurd (omega (arith, below));
-          } in
-          let run = ends_on (piece.runs (state_of m) s [] at fine ready) (sym (append-nil path)) in
-          let same : run.seen ≡ (piece.leak path).0 = sym (ap (λ (r : List Observation × Path). r.0) run.shown) in
-          record {
-            turns = run.turns;
-            end = run.end;
-            leads = subst (λ (seen : List Observation). Leads site.code run.turns s seen run.end) same run.leads;
-            few = run.within;
-            inside = subst (λ (seen : List Observation). All (λ (o : Observation). IsInside site.frame site.size o.event) seen) same run.inside;
-            behind = run.at;
-            value = read e site fit (operand site.allocation site.free site.place e) (value_in m e) run.end run.done.there;
-            homes = λ x home is. homes_left z site.place s run.end run.done.lower home (fit.allocated.allowed x home is);
-            lower = λ place less. stays e site fit place site.place s run.end less run.done.kept run.done.lower (nat_lt place site.allocation.count) refl;
-            base = run.done.held.base;
-            kept = λ o below. run.done.kept o (omega (arith, below));
-          };
-    }

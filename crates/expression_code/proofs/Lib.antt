@@ -10,7 +10,9 @@ pub mod Values
 pub mod Scratch
 pub mod Operands
 pub mod TermLengths
+pub mod NumberCode
 pub mod Elements
 pub mod WorkedCode
 pub mod ExpressionRuns
+pub mod SiteRuns
 pub mod Logic

@@ -2,7 +2,7 @@
 -- its target, which is what its node means (`made`).
 use Rattle.std.proofs.Common.{◌≡◌, ◌≢◌, ℕ, ◌+◌, ◌-◌, ◌*◌, ◌/◌, ◌%◌, ◌^◌, ◌<◌, ◌≤◌, ◌==◌, ◌||◌, nat_lt, Bool, true, false, cond, List, [], ◌∷◌, ◌++◌, refl, sym, ap, ap₂, ◌∙◌, arith, subst, eq-eqb, ne_eqb}
 use Rattle.std.proofs.lemmas.Nat.{and_mask, mod_below, pow_pos}
-use Rattle.expression_code.proofs.Below.{after_append, between, BinaryOperator, bits, choice_code, constant_code, convert_code, converted, cut_code, eqb-true, false≢true, fun_ext, immediate_value, Instr, lt-ltb, move_code, multiply_value, narrow_code, narrowed_in, nat_tests, only_computes, operated, operator_code, plain_append, prefix_code, prefix_value, PrefixOperator, register_left, register_value, registers_after, rotated_left, row_of, shift_value, sign_extended, Step, turned, Width, with_register, word_of}
+use Rattle.expression_code.proofs.Below.{after_append, between, BinaryOperator, bits, choice_code, constant_code, convert_code, converted, cut_code, eqb-true, false≢true, fun_ext, immediate_value, Instr, lt-ltb, move_code, multiply_value, narrow_code, narrowed_in, nat_tests, of_truths, only_computes, operated, operator_code, plain_append, prefix_code, prefix_value, PrefixOperator, register_left, register_value, registers_after, rotated_left, row_of, shift_value, sign_extended, Step, turned, Width, with_register, word_of}
 use Rattle.rv_code.specs.declared.instructions.Instr.TheVariants as instr
 use Rattle.rv_code.specs.declared.operations.ImmediateOperation.TheVariants.{Addi, Andi}
 use Rattle.rv_code.specs.declared.operations.ShiftOperation.TheVariants.{Slli, Srli}
@@ -25,7 +25,7 @@ constant_after r n nonzero fits regs = fun_ext (λ q. grind (arith, nat_tests, p
 -- Arithmetic of widths.
 
 -- the value, cut to a width
-abbrev cut_value : Width → ℕ → ℕ
+abbrev pub cut_value : Width → ℕ → ℕ
 cut_value W8 b = immediate_value Andi b (sign_extended 12 255)
 cut_value W16 b = shift_value Srli (shift_value Slli b 16) 16
 cut_value W32 b = b
@@ -34,11 +34,11 @@ cut_computes : (w : Width) (b : ℕ) → b < 2 ^ 32 → cut_value w b ≡ conver
 cut_computes W8 b fits = and_mask b 8
 cut_computes width b fits = omega arith
 
-cut_whole : (w : Width) (n : ℕ) → cut_value w (n % 2 ^ 32) ≡ n % 2 ^ bits w
+pub cut_whole : (w : Width) (n : ℕ) → cut_value w (n % 2 ^ 32) ≡ n % 2 ^ bits w
 cut_whole W8 n = and_mask (n % 2 ^ 32) 8 ∙ omega arith
 cut_whole width n = omega arith
 
-cut_difference : (w : Width) (a b : ℕ) → b < 2 ^ 32 → (a + (2 ^ 32 - b % 2 ^ 32)) % 2 ^ bits w ≡ (a + (2 ^ bits w - b % 2 ^ bits w)) % 2 ^ bits w
+pub cut_difference : (w : Width) (a b : ℕ) → b < 2 ^ 32 → (a + (2 ^ 32 - b % 2 ^ 32)) % 2 ^ bits w ≡ (a + (2 ^ bits w - b % 2 ^ bits w)) % 2 ^ bits w
 cut_difference W8 a b fits = omega arith
 cut_difference width a b fits = omega arith
 
@@ -79,6 +79,7 @@ truth_fits c = grind (arith, nat_tests)
 abbrev pub is_plain : Step → Bool
 is_plain (between operation) = true
 is_plain (turned operation) = true
+is_plain (of_truths operation) = true
 is_plain _ = false
 
 -- one of two registers
@@ -118,7 +119,7 @@ module _ {d t : ℕ} (pair : ArePair d t) where
 
   -- A cut in its place.
 
-  cut_composed : (w : Width) (regs : ℕ → ℕ) → registers_after (cut_code d w) regs d ≡ cut_value w (regs d)
+  pub cut_composed : (w : Width) (regs : ℕ → ℕ) → registers_after (cut_code d w) regs d ≡ cut_value w (regs d)
   cut_composed W32 regs = refl
   cut_composed width regs = simp (dd, d0)
 

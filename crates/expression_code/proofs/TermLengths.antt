@@ -1,8 +1,10 @@
 -- What is known of a term: how many temporaries it has at once, how many instructions it is, and which variables it names.
-use Rattle.std.proofs.Common.{◌≡◌, ℕ, ◌+◌, ◌*◌, ◌%◌, ◌<◌, ◌≤◌, ◌==◌, Bool, true, false, cond, nat_lt, List, length, Some, arith, length-append}
+use Rattle.std.proofs.Common.{◌≡◌, ℕ, ◌+◌, ◌*◌, ◌%◌, ◌<◌, ◌≤◌, ◌==◌, Bool, true, false, cond, nat_lt, List, ◌++◌, length, Option, None, Some, ◌-◌, arith, length-append}
 use Rattle.std.proofs.lemmas.Option.{slice_get_within}
-use Rattle.expression_code.proofs.Below.{address_code, Allocation, around_code, binary, BinaryOperator, bits, constant_code, convert, convert_code, copy_code, cut_code, element, expr_code, fetch_code, Finish, finish_code, FlatVariable, HasType, height_of, InRegister, InSlot, Instr, into_code, IsAmong, is_at_home, keep_code, Kind, load_code, Location, move_code, narrow_code, narrowed, narrowed_in, of_binary, of_conversion, of_element, of_number, of_prefix, of_rotation, of_selection, of_truth, of_variable, operator_code, placed_code, prefix, prefix_code, PrefixOperator, Profile, raise_code, rotate, rotate_code, row_of, scale_code, select, Step, store_code, temporary, term_nodes, TermTree, Types, types_of, variable, variable_location, Width, WordType, working_register}
+use Rattle.expression_code.proofs.Below.{address_code, Allocation, around_code, binary, BinaryOperator, bits, code_by, constant_code, convert, convert_code, copy_code, cut_code, element, element_code, expr_code, fetch_code, Finish, finish_code, FlatVariable, HasType, height_of, InRegister, InSlot, Instr, into_code, IsAmong, is_at_home, keep_code, Kind, kind_at, left_row, load_code, Location, move_code, narrow_code, narrowed_in, near_code, near_element, number_code, NumberRow, of_binary, of_conversion, of_element, of_number, of_prefix, of_rotation, of_selection, of_truth, of_truths, of_variable, operand, operator_code, placed_code, prefix, prefix_code, PrefixOperator, Profile, raise_code, register_of, right_row, rotate, rotate_code, row_of, scale_code, select, Step, step_code, store_code, temporary, term_nodes, TermTree, Types, types_of, variable, variable_location, variable_offset, Width, WordType, working_register}
 use Rattle.language.specs.declared.signature.Kind.TheVariants.{Boolean}
+use Rattle.expression_code.specs.declared.numbers.Finish.TheVariants.{Narrowed}
+use Rattle.language.specs.declared.tree.BinaryOperator.TheVariants.{Either, Both, Multiply}
 use Rattle.language.specs.declared.tree.PrefixOperator.TheVariants as prefixes
 use Rattle.word.specs.declared.width.Width.TheVariants.{W8}
 
@@ -40,6 +42,11 @@ pub one_of : (b : Bool) (xs ys : List Instr) (n : ℕ) → length xs ≤ n → l
 one_of true xs ys n h k = h
 one_of false xs ys n h k = k
 
+-- of what there may be of a code, each is short, and so is the other one
+pub code_length : {T : Type 0} (o : Option T) (code : T → List Instr) (other : List Instr) (n : ℕ) → ((x : T) → length (code x) ≤ n) → length other ≤ n → length (code_by o code other) ≤ n
+code_length None code other n some more = more
+code_length (Some x) code other n some more = some x
+
 pub load_length : (r o : ℕ) → length (load_code r o) ≤ 3
 load_length r o = one_of (nat_lt o 2048) _ _ 3 (omega arith) (omega arith)
 
@@ -74,12 +81,26 @@ cut_length r w = narrow_length r r w
 pub convert_length : (d r : ℕ) (w : Width) → length (convert_code d r w) ≤ 3
 convert_length d r w = simp length-append (omega (arith, narrow_length d r w, move_length d (narrowed_in d r w)))
 
-finish_length : (d t l r : ℕ) (w : Width) (f : Finish) (step : Step) → length (finish_code d t l r w f step) ≤ 4
-finish_length d t l r w narrowed step = omega (arith, cut_length d w)
-finish_length d t l r w finish step = omega arith
+step_length : (d t l r : ℕ) (step : Step) → length (step_code d t l r step) ≤ 3
+step_length d t l r (of_truths operation) = omega arith
+step_length d t l r step = omega arith
+
+pub finish_length : (d : ℕ) (w : Width) (finish : Finish) → length (finish_code d w finish) ≤ 2
+finish_length d w Narrowed = omega (arith, cut_length d w)
+finish_length d w finish = omega arith
+
+-- of the rows there are, the longest
+row_length : (d t l r : ℕ) (w : Width) (o : BinaryOperator) → length (step_code d t l r (row_of o).step) + length (finish_code d w (row_of o).finish) ≤ 4
+row_length d t l r w Either = omega arith
+row_length d t l r w Both = omega arith
+row_length d t l r w Multiply = omega (arith, cut_length d w)
+row_length d t l r w o = omega (arith, finish_length d w (row_of o).finish)
 
 pub operator_length : (d t l r : ℕ) (o : BinaryOperator) (w : Width) → length (operator_code d t l r o w) ≤ 4
-operator_length d t l r o w = finish_length d t l r w (row_of o).finish (row_of o).step
+operator_length d t l r o w = simp length-append (row_length d t l r w o)
+
+pub number_length : (d r : ℕ) (w : Width) (row : NumberRow) → length (number_code d r w row) ≤ 3
+number_length d r w row = omega (arith, finish_length d w row.finish)
 
 pub prefix_length : (d r : ℕ) (o : PrefixOperator) (w : Width) → length (prefix_code d r o w) ≤ 4
 prefix_length d r prefixes.Not w = omega arith
@@ -109,20 +130,54 @@ module _ (declared : List FlatVariable) (a : Allocation) (free : ℕ) where
   placed_length place e is n few =
       one_of (is_at_home a e) _ _ n (omega arith) (simp length-append (omega (arith, few, keep_length (temporary a.count free place))))
 
+  -- an operator's code of one operand and of two, and that of an element at an index in a register
+
+  abbrev pub one_code : ℕ → ℕ → TermTree → Width → NumberRow → List Instr
+  one_code d place e width row =
+      placed_code declared a free place e (into_code declared a free (own place) place e) ++ fetch_code (operand a free place e) 29
+      ++ number_code d (register_of (operand a free place e) 29) width row
+
+  abbrev pub both_code : ℕ → ℕ → TermTree → TermTree → BinaryOperator → Width → List Instr
+  both_code d place one other operator width =
+      placed_code declared a free place one (into_code declared a free (own place) place one)
+      ++ placed_code declared a free (place + 1) other (into_code declared a free (own (place + 1)) (place + 1) other)
+      ++ fetch_code (operand a free place one) 29 ++ fetch_code (operand a free (place + 1) other) 30
+      ++ operator_code d (working_register a.count (place + 1) 30) (register_of (operand a free place one) 29) (register_of (operand a free (place + 1) other) 30) operator width
+
+  abbrev pub picked_code : ℕ → ℕ → ℕ → TermTree → List Instr
+  picked_code d place x index =
+      placed_code declared a free place index (into_code declared a free (own place) place index) ++ fetch_code (operand a free place index) 29
+      ++ element_code d (register_of (operand a free place index) 29) (kind_at declared x) (variable_offset declared x)
+
   pub into_length : (d place : ℕ) (e : TermTree) → length (into_code declared a free d place e) + 3 ≤ 16 * term_nodes e
   into_length d place (variable x) = omega (arith, copy_length d (variable_location declared a x))
-  into_length d place (prefix operator width operand) =
-      omega (arith, length-append {A = Instr}, placed_length place operand _ _ (into_length (own place) place operand), fetch_length, prefix_length)
+  into_length d place (prefix operator width e) =
+      omega (arith, length-append {A = Instr}, placed_length place e _ _ (into_length (own place) place e), fetch_length, prefix_length)
   into_length d place (binary source operator width one other) =
-      omega (arith, length-append {A = Instr}, placed_length place one _ _ (into_length (own place) place one), placed_length (place + 1) other _ _ (into_length (own (place + 1)) (place + 1) other), fetch_length, operator_length)
-  into_length d place (rotate width operand amount) =
-      omega (arith, length-append {A = Instr}, placed_length place operand _ _ (into_length (own place) place operand), fetch_length, rotate_length)
-  into_length d place (convert kind operand) =
-      omega (arith, length-append {A = Instr}, placed_length place operand _ _ (into_length (own place) place operand), fetch_length, convert_length)
+      let n = 16 * (1 + term_nodes one + term_nodes other) - 3 in
+      let left = placed_length place one _ _ (into_length (own place) place one) in
+      let right = placed_length place other _ _ (into_length (own place) place other) in
+      let next = placed_length (place + 1) other _ _ (into_length (own (place + 1)) (place + 1) other) in
+      let few : length (code_by (right_row a operator other) (one_code d place one width) (code_by (left_row a operator one) (one_code d place other width) (both_code d place one other operator width))) ≤ n =
+      code_length (right_row a operator other) (one_code d place one width) _ n
+      (λ row. omega (arith, length-append {A = Instr}, left, fetch_length, number_length d (register_of (operand a free place one) 29) width row))
+      (code_length (left_row a operator one) (one_code d place other width) (both_code d place one other operator width) n
+      (λ row. omega (arith, length-append {A = Instr}, right, fetch_length, number_length d (register_of (operand a free place other) 29) width row))
+      (omega (arith, length-append {A = Instr}, left, next, fetch_length, operator_length))) in
+      omega (arith, few)
+  into_length d place (rotate width e amount) =
+      omega (arith, length-append {A = Instr}, placed_length place e _ _ (into_length (own place) place e), fetch_length, rotate_length)
+  into_length d place (convert kind e) =
+      omega (arith, length-append {A = Instr}, placed_length place e _ _ (into_length (own place) place e), fetch_length, convert_length)
   into_length d place (select condition accepted otherwise) =
       omega (arith, length-append {A = Instr}, placed_length place condition _ _ (into_length (own place) place condition), placed_length (place + 1) accepted _ _ (into_length (own (place + 1)) (place + 1) accepted), placed_length (place + 2) otherwise _ _ (into_length (own (place + 2)) (place + 2) otherwise), fetch_length)
   into_length d place (element source x size index) =
-      omega (arith, length-append {A = Instr}, placed_length place index _ _ (into_length (own place) place index), fetch_length, address_length)
+      let n = 16 * (1 + term_nodes index) - 3 in
+      let placed = placed_length place index _ _ (into_length (own place) place index) in
+      let few : length (code_by (near_element declared a x index) (near_code d (kind_at declared x)) (picked_code d place x index)) ≤ n =
+      code_length (near_element declared a x index) (near_code d (kind_at declared x)) (picked_code d place x index) n (λ o. omega arith)
+      (omega (arith, length-append {A = Instr}, placed, fetch_length, address_length)) in
+      omega (arith, few)
   into_length d place e = omega (arith, constant_length)
 
   pub expr_length : (place : ℕ) (e : TermTree) → length (expr_code declared a free place e) ≤ 16 * term_nodes e

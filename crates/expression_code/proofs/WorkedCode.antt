@@ -1,16 +1,18 @@
 -- Code that is worked out by hand: of expressions over two words, a and b, with homes x13 and x14, with one, and with none.
-use Rattle.std.proofs.Common.{◌≡◌, List, [], ◌∷◌, false, None, Some, refl}
+use Rattle.std.proofs.Common.{◌≡◌, ℕ, List, [], ◌∷◌, true, false, None, Some, refl}
 use Rattle.expression_code.proofs.Below.{Allocation, binary, convert, element, expr_code, FlatVariable, Instr, into_code, Place, rotate, select, TermTree, variable, word_as, WordType}
 use Rattle.expression_code.specs.Allocation.{plain}
-use Rattle.inline.specs.Flat.{array_as}
+use Rattle.inline.specs.Flat.{array_as, number}
 use Rattle.language.specs.declared.signature.Kind.TheVariants.{Uint8, Uint32}
 use Rattle.language.specs.declared.signature.Label.TheVariants.{Public}
-use Rattle.language.specs.declared.tree.BinaryOperator.TheVariants.{Add, Both}
+use Rattle.language.specs.declared.tree.BinaryOperator.TheVariants.{Add, Both, LessOrEqual, Multiply, ShiftLeft, Subtract, Unequal}
 use Rattle.rv_code.specs.declared.instructions.Instr.TheVariants as instr
-use Rattle.rv_code.specs.declared.operations.ImmediateOperation.TheVariants.{Addi, Andi}
+use Rattle.rv_code.specs.declared.operations.ImmediateOperation.TheVariants.{Addi, Andi, Sltiu}
 use Rattle.rv_code.specs.declared.operations.LoadOperation.TheVariants.{Lw}
+use Rattle.rv_code.specs.declared.operations.MultiplyOperation.TheVariants.{Mul}
 use Rattle.rv_code.specs.declared.operations.RegisterOperation.TheVariants as register
 use Rattle.rv_code.specs.declared.operations.ShiftOperation.TheVariants.{Slli, Srli}
+use Rattle.rv_code.specs.declared.operations.UpperOperation.TheVariants.{Lui}
 use Rattle.word.specs.declared.width.Width.TheVariants.{W32}
 
 abbrev uint32 : WordType
@@ -21,10 +23,14 @@ abbrev declared : List FlatVariable
 declared = word_as uint32 false ∷ word_as uint32 false ∷ array_as uint32 false 4 ∷ []
 
 abbrev both_home : Allocation
-both_home = record { count = 8; homes = Some 13 ∷ Some 14 ∷ [] }
+both_home = record { count = 8; homes = Some 13 ∷ Some 14 ∷ []; immediates = false }
 
 abbrev one_home : Allocation
-one_home = record { count = 8; homes = None ∷ Some 14 ∷ [] }
+one_home = record { count = 8; homes = None ∷ Some 14 ∷ []; immediates = false }
+
+-- with homes, and with numbers in instructions
+abbrev with_numbers : Allocation
+with_numbers = record { count = 8; homes = Some 13 ∷ Some 14 ∷ []; immediates = true }
 
 abbrev a : TermTree
 a = variable 0
@@ -78,3 +84,41 @@ module _ (place : Place) where
 
   picked : code both_home (element place 2 4 b) ≡ instr.Shift Slli 5 14 2 ∷ instr.Register register.Add 5 5 2 ∷ instr.Load Lw 5 5 8 ∷ []
   picked = refl
+
+  -- numbers in instructions
+
+  abbrev n : ℕ → TermTree
+  n value = number value Uint32
+
+  increment : code with_numbers (binary place Add W32 a (n 1)) ≡ instr.Immediate Addi 5 13 1 ∷ []
+  increment = refl
+
+  increment_turned : code with_numbers (binary place Add W32 (n 1) a) ≡ instr.Immediate Addi 5 13 1 ∷ []
+  increment_turned = refl
+
+  decrement : code with_numbers (binary place Subtract W32 a (n 1)) ≡ instr.Immediate Addi 5 13 4095 ∷ []
+  decrement = refl
+
+  -- 2048 is too large, but can be taken away
+  too_large : code with_numbers (binary place Add W32 a (n 2048)) ≡ instr.Upper Lui 6 1 ∷ instr.Immediate Addi 6 6 2048 ∷ instr.Register register.Add 5 13 6 ∷ []
+  too_large = refl
+
+  least : code with_numbers (binary place Subtract W32 a (n 2048)) ≡ instr.Immediate Addi 5 13 2048 ∷ []
+  least = refl
+
+  -- an amount at the width is none, as it is in a register
+  shifted : code with_numbers (binary place ShiftLeft W32 a (n 32)) ≡ instr.Shift Slli 5 13 0 ∷ []
+  shifted = refl
+
+  zero_tested : code with_numbers (binary place Unequal W32 a (n 0)) ≡ instr.Register register.Sltu 5 0 13 ∷ []
+  zero_tested = refl
+
+  at_least : code with_numbers (binary place LessOrEqual W32 (n 7) a) ≡ instr.Immediate Sltiu 5 13 7 ∷ instr.Immediate Sltiu 5 5 1 ∷ []
+  at_least = refl
+
+  -- a product shows its factors, which stay in registers
+  product : code with_numbers (binary place Multiply W32 a (n 5)) ≡ instr.Immediate Addi 6 0 5 ∷ instr.Multiply Mul 5 13 6 ∷ []
+  product = refl
+
+  picked_at : code with_numbers (element place 2 4 (n 3)) ≡ instr.Load Lw 5 2 20 ∷ []
+  picked_at = refl

@@ -1,7 +1,7 @@
 -- Where words are. Temporaries are the values of subexpressions that are still needed. Each has a place, the count of
 -- those that live beside it and were there before: the first so many places are registers, and those beyond are slots of
 -- the frame. A variable is in its slot, or it has a home: a register of its own, in which it lives for the whole run.
-use Rattle.std.specs.Prelude.{◌≡◌, ℕ, ◌+◌, ◌-◌, ◌*◌, ◌<◌, ◌≤◌, List, [], Option, None, Some, nat_lt, if◌then◌else◌, slice_get, unwrap_or}
+use Rattle.std.specs.Prelude.{◌≡◌, ℕ, ◌+◌, ◌-◌, ◌*◌, ◌<◌, ◌≤◌, Bool, false, List, [], Option, None, Some, nat_lt, if◌then◌else◌, slice_get, unwrap_or}
 use Rattle.expression_code.specs.Registers.{value_register, address_register}
 use Rattle.expression_code.specs.declared.locations.Location.{Location}
 use Rattle.expression_code.specs.declared.locations.Location.TheVariants.{InRegister, InSlot}
@@ -12,14 +12,16 @@ abbrev pub register_of : Location → ℕ → ℕ
 register_of (InRegister register) spare = register
 register_of (InSlot offset) spare = spare
 
--- how registers are given out: how many temporaries have one, and the home of each variable that has one
+-- how registers are given out: how many temporaries have one, the home of each variable that has one, and whether a number
+-- goes into an instruction that holds it, and needs no register then
 pub record Allocation : Type 0 where
   pub count : ℕ
   pub homes : List (Option ℕ)
+  pub immediates : Bool
 
--- no variable has a home
+-- no variable has a home, and each number gets a register
 abbrev pub plain : Allocation
-plain = record { count = 16; homes = [] }
+plain = record { count = 16; homes = []; immediates = false }
 
 abbrev pub home_of : List (Option ℕ) → ℕ → Option ℕ
 home_of homes x = unwrap_or (slice_get homes x) None

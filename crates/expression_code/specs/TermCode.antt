@@ -1,7 +1,13 @@
 -- The instructions that are emitted for slots, numbers, operators and expressions.
-use Rattle.std.specs.Prelude.{ℕ, zero, suc, ◌+◌, ◌-◌, ◌/◌, ◌%◌, ◌^◌, ◌==◌, ◌<◌, Bool, false, List, [], ◌∷◌, ◌++◌, max, nat_lt, is_some, if◌then◌else◌}
+use Rattle.std.specs.Prelude.{ℕ, zero, suc, ◌+◌, ◌-◌, ◌*◌, ◌/◌, ◌%◌, ◌^◌, ◌==◌, ◌<◌, Bool, false, List, [], ◌∷◌, ◌++◌, max, nat_lt, Option, None, Some, is_some, if◌then◌else◌}
 use Rattle.expression_code.specs.Layout.{variable_offset, variable_location}
 use Rattle.expression_code.specs.Allocation.{register_of, Allocation, home_of, temporary, working_register, at_home}
+use Rattle.expression_code.specs.NumberRows.{number_of, right_row, left_row}
+use Rattle.expression_code.specs.declared.numbers.Finish.{Finish}
+use Rattle.expression_code.specs.declared.numbers.Finish.TheVariants.{Alone, GivesZero, GivesMore, Narrowed}
+use Rattle.expression_code.specs.declared.numbers.NumberRow.{NumberRow}
+use Rattle.expression_code.specs.declared.numbers.NumberStep.{NumberStep}
+use Rattle.expression_code.specs.declared.numbers.NumberStep.TheVariants.{WithImmediate, ByAmount, AboveZero}
 use Rattle.expression_code.specs.declared.locations.Location.{Location}
 use Rattle.expression_code.specs.declared.locations.Location.TheVariants.{InRegister, InSlot}
 use Rattle.expression_code.specs.Registers.{zero_register, frame_register, address_register, first_spare, second_spare, third_spare}
@@ -27,6 +33,7 @@ use Rattle.language.specs.declared.tree.BinaryOperator.TheVariants as operators
 use Rattle.language.specs.declared.tree.PrefixOperator.{PrefixOperator}
 use Rattle.language.specs.declared.tree.PrefixOperator.TheVariants as prefixes
 use Rattle.language.specs.Operators.{width_of}
+use Rattle.language.specs.Size.{element_bytes}
 use Rattle.word.specs.declared.width.Width.{Width}
 use Rattle.word.specs.declared.width.Width.TheVariants.{W8, W16, W32}
 use Rattle.word.specs.Operators.{word_of}
@@ -125,35 +132,30 @@ both_truths_code d t l r = Register Sltu t zero_register r ∷ Register Sltu d z
 abbrev pub negation_code : ℕ → ℕ → List Instr
 negation_code d r = Register Sub d zero_register r ∷ []
 
--- Each operator between two operands is a row: an instruction between them, and what is made of its outcome.
+-- Each operator between two operands is a row: a step between them, and what is made of its outcome.
 
--- into d: of both, of both turned round, the lower half of their product, or their quotient or remainder
+-- into d: of both, of both turned round, of what they are as truths, the lower half of their product, or their quotient or
+-- remainder
 pub data Step : Type 0 where
   between : (operation : RegisterOperation) → Step
   turned : (operation : RegisterOperation) → Step
+  of_truths : (operation : RegisterOperation) → Step
   product : Step
   division : (operation : DivideOperation) → Step
 
-abbrev pub step_code : ℕ → ℕ → ℕ → Step → Instr
-step_code d l r (between operation) = Register operation d l r
-step_code d l r (turned operation) = Register operation d r l
-step_code d l r product = Multiply Mul d l r
-step_code d l r (division operation) = Divide operation d l r
+abbrev pub step_code : ℕ → ℕ → ℕ → ℕ → Step → List Instr
+step_code d t l r (between operation) = Register operation d l r ∷ []
+step_code d t l r (turned operation) = Register operation d r l ∷ []
+step_code d t l r (of_truths operation) = both_truths_code d t l r ++ Register operation d d t ∷ []
+step_code d t l r product = Multiply Mul d l r ∷ []
+step_code d t l r (division operation) = Divide operation d l r ∷ []
 
--- nothing, whether it is 0, whether it is not, its cut, or nothing where the operands were made truths before
-pub data Finish : Type 0 where
-  alone : Finish
-  gives_zero : Finish
-  gives_more : Finish
-  narrowed : Finish
-  of_truths : Finish
-
-abbrev pub finish_code : ℕ → ℕ → ℕ → ℕ → Width → Finish → Step → List Instr
-finish_code d t l r w alone step = step_code d l r step ∷ []
-finish_code d t l r w gives_zero step = step_code d l r step ∷ is_zero_code d d
-finish_code d t l r w gives_more step = step_code d l r step ∷ is_not_zero_code d
-finish_code d t l r w narrowed step = step_code d l r step ∷ cut_code d w
-finish_code d t l r w of_truths step = both_truths_code d t l r ++ step_code d d t step ∷ []
+-- nothing, whether it is 0, whether it is not, or its cut
+abbrev pub finish_code : ℕ → Width → Finish → List Instr
+finish_code d w Alone = []
+finish_code d w GivesZero = is_zero_code d d
+finish_code d w GivesMore = is_not_zero_code d
+finish_code d w Narrowed = cut_code d w
 
 pub record Row : Type 0 where
   pub finish : Finish
@@ -162,28 +164,38 @@ pub record Row : Type 0 where
 -- Whether numbers are equal is read off their difference, and an order that takes equal numbers too is the other order,
 -- turned round.
 abbrev pub row_of : BinaryOperator → Row
-row_of operators.Either = record { finish = of_truths; step = between Or }
-row_of operators.Both = record { finish = of_truths; step = between And }
-row_of operators.Equal = record { finish = gives_zero; step = between Sub }
-row_of operators.Unequal = record { finish = gives_more; step = between Sub }
-row_of operators.Less = record { finish = alone; step = between Sltu }
-row_of operators.LessOrEqual = record { finish = gives_zero; step = turned Sltu }
-row_of operators.Greater = record { finish = alone; step = turned Sltu }
-row_of operators.GreaterOrEqual = record { finish = gives_zero; step = between Sltu }
-row_of operators.BitOr = record { finish = alone; step = between Or }
-row_of operators.BitXor = record { finish = alone; step = between Xor }
-row_of operators.BitAnd = record { finish = alone; step = between And }
-row_of operators.ShiftLeft = record { finish = narrowed; step = between Sll }
-row_of operators.ShiftRight = record { finish = narrowed; step = between Srl }
-row_of operators.Add = record { finish = narrowed; step = between Add }
-row_of operators.Subtract = record { finish = narrowed; step = between Sub }
-row_of operators.Multiply = record { finish = narrowed; step = product }
-row_of operators.Divide = record { finish = alone; step = division Divu }
-row_of operators.Remainder = record { finish = alone; step = division Remu }
+row_of operators.Either = record { finish = Alone; step = of_truths Or }
+row_of operators.Both = record { finish = Alone; step = of_truths And }
+row_of operators.Equal = record { finish = GivesZero; step = between Sub }
+row_of operators.Unequal = record { finish = GivesMore; step = between Sub }
+row_of operators.Less = record { finish = Alone; step = between Sltu }
+row_of operators.LessOrEqual = record { finish = GivesZero; step = turned Sltu }
+row_of operators.Greater = record { finish = Alone; step = turned Sltu }
+row_of operators.GreaterOrEqual = record { finish = GivesZero; step = between Sltu }
+row_of operators.BitOr = record { finish = Alone; step = between Or }
+row_of operators.BitXor = record { finish = Alone; step = between Xor }
+row_of operators.BitAnd = record { finish = Alone; step = between And }
+row_of operators.ShiftLeft = record { finish = Narrowed; step = between Sll }
+row_of operators.ShiftRight = record { finish = Narrowed; step = between Srl }
+row_of operators.Add = record { finish = Narrowed; step = between Add }
+row_of operators.Subtract = record { finish = Narrowed; step = between Sub }
+row_of operators.Multiply = record { finish = Narrowed; step = product }
+row_of operators.Divide = record { finish = Alone; step = division Divu }
+row_of operators.Remainder = record { finish = Alone; step = division Remu }
 
 -- an operator between two operands, where t may be written as well
 abbrev pub operator_code : ℕ → ℕ → ℕ → ℕ → BinaryOperator → Width → List Instr
-operator_code d t l r operator w = finish_code d t l r w (row_of operator).finish (row_of operator).step
+operator_code d t l r operator w = step_code d t l r (row_of operator).step ++ finish_code d w (row_of operator).finish
+
+-- Each operator between an operand and a number in the instruction is a row as well.
+
+abbrev pub number_step_code : ℕ → ℕ → NumberStep → Instr
+number_step_code d r (WithImmediate operation field) = Immediate operation d r field
+number_step_code d r (ByAmount operation amount) = Shift operation d r amount
+number_step_code d r AboveZero = Register Sltu d zero_register r
+
+abbrev pub number_code : ℕ → ℕ → Width → NumberRow → List Instr
+number_code d r w row = number_step_code d r row.step ∷ finish_code d w row.finish
 
 -- The complement is one less than the number's negative.
 abbrev pub prefix_code : ℕ → ℕ → PrefixOperator → Width → List Instr
@@ -242,7 +254,26 @@ kind_at [] x = Uint32
 kind_at (d ∷ ds) zero = d.word.kind
 kind_at (d ∷ ds) (suc x) = kind_at ds x
 
+-- the offset of an array's element at an index that is known, where its access holds that
+abbrev pub near_offset : ℕ → Kind → Option ℕ → Option ℕ
+near_offset base kind None = None
+near_offset base kind (Some i) = let offset = base + element_bytes kind * i in if is_near offset then Some offset else None
+
+-- the same of an index that is this expression, where numbers go into instructions
+abbrev pub near_element : List FlatVariable → Allocation → ℕ → TermTree → Option ℕ
+near_element declared allocation x index =
+    if allocation.immediates then near_offset (variable_offset declared x) (kind_at declared x) (number_of index) else None
+
+-- the element at an offset that is near
+abbrev pub near_code : ℕ → Kind → ℕ → List Instr
+near_code d kind offset = Load (load_by kind) d frame_register offset ∷ []
+
 -- Expressions.
+
+-- the code for what there is, and else other code
+abbrev pub code_by : {T : Type 0} → Option T → (T → List Instr) → List Instr → List Instr
+code_by None code otherwise = otherwise
+code_by (Some x) code otherwise = code x
 
 -- whether an expression is a variable that has a home: no code is needed for its value
 abbrev pub is_at_home : Allocation → TermTree → Bool
@@ -278,7 +309,7 @@ module _ (declared : List FlatVariable) (allocation : Allocation) (free : ℕ) w
       if is_at_home allocation e then [] else into ++ keep_code (temporary allocation.count free place)
 
   -- An expression into a register, with its operands in the places from this one on. None is fetched before the code of
-  -- all of them is through.
+  -- all of them is through. Where the instruction holds an operand that is a number, the other one is the only operand.
   abbrev pub into_code : ℕ → ℕ → TermTree → List Instr
   into_code d place (number value kind) = constant_code d value
   into_code d place (truth value) = constant_code d (word_of value)
@@ -287,11 +318,19 @@ module _ (declared : List FlatVariable) (allocation : Allocation) (free : ℕ) w
       placed_code place e (into_code (own_register place) place e) ++ fetch_operand place e first_spare
       ++ prefix_code d (operand_register place e first_spare) operator width
   into_code d place (binary source operator width left right) =
-      placed_code place left (into_code (own_register place) place left)
+      code_by (right_row allocation operator right)
+      (λ row.
+      placed_code place left (into_code (own_register place) place left) ++ fetch_operand place left first_spare
+      ++ number_code d (operand_register place left first_spare) width row)
+      (code_by (left_row allocation operator left)
+      (λ row.
+      placed_code place right (into_code (own_register place) place right) ++ fetch_operand place right first_spare
+      ++ number_code d (operand_register place right first_spare) width row)
+      (placed_code place left (into_code (own_register place) place left)
       ++ placed_code (place + 1) right (into_code (own_register (place + 1)) (place + 1) right)
       ++ fetch_operand place left first_spare ++ fetch_operand (place + 1) right second_spare
       ++ operator_code d (next_register place)
-      (operand_register place left first_spare) (operand_register (place + 1) right second_spare) operator width
+      (operand_register place left first_spare) (operand_register (place + 1) right second_spare) operator width))
   into_code d place (rotate width e amount) =
       placed_code place e (into_code (own_register place) place e) ++ fetch_operand place e first_spare
       ++ rotate_code d (operand_register place e first_spare) width amount
@@ -308,8 +347,9 @@ module _ (declared : List FlatVariable) (allocation : Allocation) (free : ℕ) w
       (operand_register place condition first_spare) (operand_register (place + 1) accepted second_spare)
       (operand_register (place + 2) otherwise third_spare)
   into_code d place (element source x size index) =
-      placed_code place index (into_code (own_register place) place index) ++ fetch_operand place index first_spare
-      ++ element_code d (operand_register place index first_spare) (kind_at declared x) (variable_offset declared x)
+      code_by (near_element declared allocation x index) (near_code d (kind_at declared x))
+      (placed_code place index (into_code (own_register place) place index) ++ fetch_operand place index first_spare
+      ++ element_code d (operand_register place index first_spare) (kind_at declared x) (variable_offset declared x))
 
   -- an expression into a place, unless it is at home
   abbrev pub expr_code : ℕ → TermTree → List Instr

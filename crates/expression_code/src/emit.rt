@@ -1,7 +1,7 @@
 // Instructions for slots, numbers and elements, each appended to the code so far.
 
-ghost use Rattle.std.specs.Prelude.{◌≡◌, ◌++◌, OnOk};
-ghost use Rattle.expression_code.specs.TermCode.{upper_part, lower_part, load_code, store_code, constant_code, scale_code, raise_code, address_code, load_by, element_code};
+ghost use Rattle.std.specs.Prelude.{◌≡◌, ◌++◌, ◌<◌, OnOk};
+ghost use Rattle.expression_code.specs.TermCode.{upper_part, lower_part, load_code, store_code, constant_code, scale_code, raise_code, address_code, load_by, element_code, near_code};
 
 use language::Kind;
 use rv_code::{
@@ -129,6 +129,16 @@ pub fn load_by(kind: Kind) -> LoadOperation
         Kind::Uint16 => LoadOperation::Lhu,
         Kind::Uint32 => LoadOperation::Lw,
     }
+}
+
+/// The element at an offset that is near, into a register.
+pub fn near(code: &mut Vec<Instr>, d: Reg, kind: Kind, offset: u32) -> Result<(), AllocError>
+    requires { offset < 2048 }
+    ensures { OnOk result (code.new.items ≡ code.old.items ++ near_code d kind offset) }
+{
+    let low = lower_part(offset);
+    code.push(Instr::Load(load_by(kind), d, Reg::X2, low))?;
+    Ok(())
 }
 
 /// The element at the index in a register, of an array at an offset, into a register.

@@ -9,6 +9,7 @@ ghost use Rattle.inline.specs.Flat.{term_tree};
 
 use crate::layout::Layout;
 use crate::locations::{FIRST_SPARE, SECOND_SPARE, THIRD_SPARE, copy, fetch, keep};
+use crate::numbers::{left_row, right_row};
 use crate::operators::{ChoiceOperands, Operands};
 use crate::{emit, operators};
 use inline::Term;
@@ -108,6 +109,16 @@ pub fn into(
             operators::prefix(code, target, register, *operator, *width)
         }
         Term::Binary(_, operator, width, left, right) => {
+            if let Some(row) = right_row(layout, *operator, right) {
+                expression(code, layout, place, left)?;
+                let register = fetched(code, layout, place, left, FIRST_SPARE)?;
+                return operators::with_number(code, target, register, *width, row);
+            }
+            if let Some(row) = left_row(layout, *operator, left) {
+                expression(code, layout, place, right)?;
+                let register = fetched(code, layout, place, right, FIRST_SPARE)?;
+                return operators::with_number(code, target, register, *width, row);
+            }
             let next = layout.place_behind(place, 1);
             expression(code, layout, place, left)?;
             expression(code, layout, next, right)?;
@@ -142,6 +153,9 @@ pub fn into(
             operators::choice(code, target, &registers)
         }
         Term::Element(_, array, _, index) => {
+            if let Some(offset) = layout.near_element(*array, index) {
+                return emit::near(code, target, layout.kind(*array), offset);
+            }
             expression(code, layout, place, index)?;
             let register = fetched(code, layout, place, index, FIRST_SPARE)?;
             emit::element(

@@ -4,12 +4,14 @@ ghost use Rattle.std.specs.Prelude.{◌≡◌, ◌≤◌, ◌<◌, ◌+◌, ◌*
 ghost use Rattle.expression_code.specs.Layout.{variable_offset, variable_location, result_offset, control_offset, next_offset, temporaries_offset, offsets_from, slots_from};
 ghost use Rattle.expression_code.specs.Allocation.{slots_to, temporary, working_register};
 ghost use Rattle.expression_code.specs.Registers.{value_register};
-ghost use Rattle.expression_code.specs.TermCode.{kind_at, is_at_home, operand};
+ghost use Rattle.expression_code.specs.TermCode.{kind_at, near_offset, near_element, is_at_home, operand};
 ghost use Rattle.inline.specs.FlatSize.{words_of, declared_words};
 ghost use Rattle.inline.specs.Flat.{declaration_of, term_tree};
 
 use crate::allocation::Allocation;
+use crate::emit::NEAR;
 use crate::locations::Location;
+use crate::numbers::number;
 use image_fields::Slot;
 use inline::{FlatVariable, Term};
 use language::{Kind, Param};
@@ -140,6 +142,26 @@ impl<'f> Layout<'f> {
         self.allocation.count()
     }
 
+    /// Whether numbers go into instructions.
+    pub fn immediates(&self) -> bool
+        ensures { result ≡ self.now.allocation.immediates }
+    {
+        self.allocation.immediates()
+    }
+
+    /// The offset of an array's element at an index that is a number, where numbers go into instructions and its access
+    /// holds that.
+    pub fn near_element(&self, array: u32, index: &Term) -> Option<u32>
+        requires { array < length self.now.declared }
+        ensures { result ≡ near_element self.now.declared self.now.allocation array (term_tree index.now) }
+    {
+        if self.allocation.immediates() {
+            near_offset(self.variable(array), self.kind(array), number(index))
+        } else {
+            None
+        }
+    }
+
     /// Where a variable is: in its home, or in its slot.
     pub fn variable_location(&self, number: u32) -> Location
         requires { number < length self.now.declared }
@@ -203,6 +225,18 @@ impl<'f> Layout<'f> {
             Term::Variable(number) => place.unless_home(self.allocation.home(*number)),
             _ => place,
         }
+    }
+}
+
+/// The offset of the element at an index that is known, of an array at an offset, where its access holds that.
+fn near_offset(base: u32, kind: Kind, index: Option<u32>) -> Option<u32>
+    ensures { result ≡ near_offset base kind index }
+{
+    let offset = u64::from(base) + u64::from(kind.element_bytes()) * u64::from(index?);
+    if offset < u64::from(NEAR) {
+        Some(offset as u32)
+    } else {
+        None
     }
 }
 

@@ -10,6 +10,7 @@ mod expressions;
 mod laws;
 mod layout;
 mod locations;
+mod numbers;
 mod operators;
 
 pub use allocation::{Allocation, REGISTER_COUNT};

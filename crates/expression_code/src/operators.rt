@@ -2,12 +2,13 @@
 
 ghost use Rattle.std.specs.Prelude.{◌≡◌, ◌++◌, ◌∷◌, ◌<◌, [], OnOk};
 ghost use Rattle.expression_code.specs.TermCode as terms;
-ghost use Rattle.expression_code.specs.TermCode.{move_code, cut_code, narrow_code, narrowed_in, convert_code, is_zero_code, is_not_zero_code, both_truths_code, negation_code, step_code, operator_code, prefix_code, around_code, rotate_code, choice_code};
+ghost use Rattle.expression_code.specs.TermCode.{move_code, cut_code, narrow_code, narrowed_in, convert_code, is_zero_code, is_not_zero_code, negation_code, step_code, finish_code, operator_code, number_step_code, number_code, prefix_code, around_code, rotate_code, choice_code};
 ghost use Rattle.language.specs.Operators.{width_of};
 ghost use Rattle.word.specs.Widths.{bits};
 
 use crate::emit::MINUS_ONE;
 use crate::locations::{SECOND_SPARE, move_register};
+use crate::numbers::{Finish, NumberRow, NumberStep};
 use language::{BinaryOperator, Kind, PrefixOperator};
 use rv_code::{
     DivideOperation, Immediate12, ImmediateOperation, Instr, MultiplyOperation, Reg,
@@ -29,35 +30,35 @@ pub struct Operands {
 impl Operands {
     /// An instruction between both operands.
     fn between(&self, operation: Operation) -> Instr
-        ensures { result ≡ step_code self.now.target self.now.left self.now.right (terms.between operation) }
+        ensures { result ∷ [] ≡ step_code self.now.target self.now.scratch self.now.left self.now.right (terms.between operation) }
     {
         Instr::Register(operation, self.target, self.left, self.right)
     }
 
     /// An instruction between both operands, turned round.
     fn turned(&self, operation: Operation) -> Instr
-        ensures { result ≡ step_code self.now.target self.now.left self.now.right (terms.turned operation) }
+        ensures { result ∷ [] ≡ step_code self.now.target self.now.scratch self.now.left self.now.right (terms.turned operation) }
     {
         Instr::Register(operation, self.target, self.right, self.left)
     }
 
     /// The lower half of the product of both operands.
     fn product(&self) -> Instr
-        ensures { result ≡ step_code self.now.target self.now.left self.now.right terms.product }
+        ensures { result ∷ [] ≡ step_code self.now.target self.now.scratch self.now.left self.now.right terms.product }
     {
         Instr::Multiply(MultiplyOperation::Mul, self.target, self.left, self.right)
     }
 
     /// The quotient or the remainder of the first operand by the second.
     fn division(&self, operation: DivideOperation) -> Instr
-        ensures { result ≡ step_code self.now.target self.now.left self.now.right (terms.division operation) }
+        ensures { result ∷ [] ≡ step_code self.now.target self.now.scratch self.now.left self.now.right (terms.division operation) }
     {
         Instr::Divide(operation, self.target, self.left, self.right)
     }
 
     /// An instruction between two bools, each of which is 0 where its operand is 0, and else 1.
     fn of_truths(&self, code: &mut Vec<Instr>, operation: Operation) -> Result<(), AllocError>
-        ensures { OnOk result (code.new.items ≡ code.old.items ++ both_truths_code self.now.target self.now.scratch self.now.left self.now.right ++ step_code self.now.target self.now.target self.now.scratch (terms.between operation) ∷ []) }
+        ensures { OnOk result (code.new.items ≡ code.old.items ++ step_code self.now.target self.now.scratch self.now.left self.now.right (terms.of_truths operation)) }
     {
         code.push(Instr::Register(Operation::Sltu, self.scratch, Reg::X0, self.right))?;
         code.push(Instr::Register(Operation::Sltu, self.target, Reg::X0, self.left))?;
@@ -171,6 +172,48 @@ fn gives_more(code: &mut Vec<Instr>, r: Reg, instruction: Instr) -> Result<(), A
 {
     code.push(instruction)?;
     is_not_zero(code, r)
+}
+
+/// An instruction, and what is made of its outcome in a register.
+fn finished(
+    code: &mut Vec<Instr>,
+    r: Reg,
+    width: Width,
+    finish: Finish,
+    instruction: Instr,
+) -> Result<(), AllocError>
+    ensures { OnOk result (code.new.items ≡ code.old.items ++ instruction ∷ finish_code r width finish) }
+{
+    match finish {
+        Finish::Alone => alone(code, instruction),
+        Finish::GivesZero => gives_zero(code, r, instruction),
+        Finish::GivesMore => gives_more(code, r, instruction),
+        Finish::Narrowed => narrowed(code, r, width, instruction),
+    }
+}
+
+/// An instruction of a register, with a number in it, into another.
+fn number_step(d: Reg, r: Reg, step: NumberStep) -> Instr
+    ensures { result ≡ number_step_code d r step }
+{
+    match step {
+        NumberStep::WithImmediate(operation, field) => Instr::Immediate(operation, d, r, field),
+        NumberStep::ByAmount(operation, amount) => Instr::Shift(operation, d, r, amount),
+        NumberStep::AboveZero => Instr::Register(Operation::Sltu, d, Reg::X0, r),
+    }
+}
+
+/// An operator between an operand and a number, of which this is the row, into a register.
+pub fn with_number(
+    code: &mut Vec<Instr>,
+    d: Reg,
+    r: Reg,
+    width: Width,
+    row: NumberRow,
+) -> Result<(), AllocError>
+    ensures { OnOk result (code.new.items ≡ code.old.items ++ number_code d r width row) }
+{
+    finished(code, d, width, row.finish, number_step(d, r, row.step))
 }
 
 /// An operator between two operands, into its target.

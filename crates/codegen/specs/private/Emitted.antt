@@ -2,14 +2,14 @@
 use Rattle.std.specs.Prelude.{ℕ, ◌+◌, ◌*◌, List, [], ◌∷◌, ◌++◌, Option, None, Some, max, if◌then◌else◌}
 use Rattle.branch_removal.specs.Straight.{StraightTree, set, clear, fill, put, take, set_under, put_under, branch, repeats, StraightBlock, nothing, first}
 use Rattle.codegen.specs.private.Jumps.{branch_code, loop_code}
-use Rattle.expression_code.specs.Allocation.{Allocation}
+use Rattle.expression_code.specs.Allocation.{Allocation, home_of}
 use Rattle.expression_code.specs.Layout.{variable_offset, variable_location, control_offset, next_offset, temporaries_offset}
 use Rattle.expression_code.specs.Registers.{zero_register, frame_register, value_register, second_register, third_register, address_register, first_spare}
-use Rattle.expression_code.specs.TermCode.{is_near, upper_part, lower_part, load_code, store_code, constant_code, address_code, load_by, kind_at, move_code, into_code, height_of}
+use Rattle.expression_code.specs.TermCode.{is_near, upper_part, lower_part, load_code, store_code, constant_code, address_code, load_by, kind_at, near_element, near_code, code_by, move_code, into_code, height_of}
 use Rattle.expression_code.specs.declared.locations.Location.{Location}
 use Rattle.expression_code.specs.declared.locations.Location.TheVariants.{InRegister, InSlot}
 use Rattle.inline.specs.declared.flat.FlatVariable.{FlatVariable}
-use Rattle.inline.specs.Flat.{TermTree}
+use Rattle.inline.specs.Flat.{TermTree, variable}
 use Rattle.rv_code.specs.declared.instructions.Instr.{Instr}
 use Rattle.rv_code.specs.declared.instructions.Instr.TheVariants.{Upper, Immediate, Register, Load, Store}
 use Rattle.rv_code.specs.declared.operations.UpperOperation.TheVariants.{Lui}
@@ -23,11 +23,11 @@ use Rattle.language.specs.Size.{element_bytes, array_words}
 
 -- A control value is a mask: all ones where it is true, and 0 where it is not.
 
--- of a condition in the value register, the mask for where it is true, and that for where it is not
-abbrev pub masks_code : List Instr
-masks_code =
-    Register Sub third_register zero_register value_register
-    ∷ Immediate Addi value_register value_register 4095 ∷ []
+-- of a condition in a register, the mask for where it is true, and that for where it is not
+abbrev pub masks_code : ℕ → List Instr
+masks_code condition =
+    Register Sub third_register zero_register condition
+    ∷ Immediate Addi value_register condition 4095 ∷ []
 
 -- both masks joined with the one in a slot
 abbrev pub join_code : ℕ → List Instr
@@ -41,15 +41,42 @@ abbrev pub within_code : List FlatVariable → Option ℕ → List Instr
 within_code declared None = []
 within_code declared (Some control) = join_code (control_offset declared control)
 
--- of three registers, the new word where the mask is all ones, and the old one where it is 0, into another
-abbrev pub merge_code : ℕ → ℕ → ℕ → ℕ → List Instr
-merge_code d new old mask = Register Xor new new old ∷ Register And new new mask ∷ Register Xor d old new ∷ []
+-- of three registers, the new word where the mask is all ones, and the old one where it is 0, into another; t is written too
+abbrev pub merge_code : ℕ → ℕ → ℕ → ℕ → ℕ → List Instr
+merge_code d t new old mask = Register Xor t new old ∷ Register And t t mask ∷ Register Xor d old t ∷ []
 
 -- Words.
 
--- the value of an expression into the value register
-abbrev pub value_code : List FlatVariable → Allocation → ℕ → TermTree → List Instr
-value_code declared allocation free e = into_code declared allocation free value_register 0 e
+-- The value of an expression, read where it is: in its home, where it is a variable that has one, and else in the register
+-- that it is brought into.
+
+-- the home of an expression
+abbrev pub home_of_term : Allocation → TermTree → Option ℕ
+home_of_term allocation (variable x) = home_of allocation.homes x
+home_of_term allocation e = None
+
+-- no code is needed for what is at home
+abbrev pub unless_home : Option ℕ → List Instr → List Instr
+unless_home None into = into
+unless_home (Some home) into = []
+
+abbrev pub home_or : Option ℕ → ℕ → ℕ
+home_or None register = register
+home_or (Some home) register = home
+
+-- an expression, with its temporaries in the places from this one on, into a register
+abbrev pub read_code : List FlatVariable → Allocation → ℕ → ℕ → ℕ → TermTree → List Instr
+read_code declared allocation free register place e =
+    unless_home (home_of_term allocation e) (into_code declared allocation free register place e)
+
+-- and the register where it is then
+abbrev pub read_register : Allocation → ℕ → TermTree → ℕ
+read_register allocation register e = home_or (home_of_term allocation e) register
+
+-- the value of an expression into a slot
+abbrev pub assign_code : List FlatVariable → Allocation → ℕ → TermTree → ℕ → List Instr
+assign_code declared allocation free e offset =
+    read_code declared allocation free value_register 0 e ++ store_code (read_register allocation value_register e) offset
 
 -- a register into a variable: its home, or its slot
 abbrev pub put_word_code : ℕ → Location → List Instr
@@ -59,14 +86,15 @@ put_word_code register (InSlot offset) = store_code register offset
 -- the value of an expression into a variable
 abbrev pub set_code : List FlatVariable → Allocation → ℕ → Location → TermTree → List Instr
 set_code declared allocation free (InRegister home) e = into_code declared allocation free home 0 e
-set_code declared allocation free (InSlot offset) e = value_code declared allocation free e ++ store_code value_register offset
+set_code declared allocation free (InSlot offset) e = assign_code declared allocation free e offset
 
--- the value where the control value in a slot is true, and else the old one, into a variable
-abbrev pub set_under_code : Location → ℕ → List Instr
-set_under_code (InRegister home) control = load_code third_register control ++ merge_code home value_register home third_register
-set_under_code (InSlot offset) control =
+-- a register's value where the control value in a slot is true, and else the old one, into a variable
+abbrev pub set_under_code : ℕ → Location → ℕ → List Instr
+set_under_code value (InRegister home) control =
+    load_code third_register control ++ merge_code home value_register value home third_register
+set_under_code value (InSlot offset) control =
     load_code second_register offset ++ load_code third_register control
-    ++ merge_code value_register value_register second_register third_register ++ store_code value_register offset
+    ++ merge_code value_register value_register value second_register third_register ++ store_code value_register offset
 
 -- Arrays.
 
@@ -77,13 +105,13 @@ store_by Uint8 = Sb
 store_by Uint16 = Sh
 store_by Uint32 = Sw
 
--- the value into an element of a fixed place
-abbrev pub element_store_code : Kind → ℕ → List Instr
-element_store_code kind offset =
+-- a register into an element of a fixed place
+abbrev pub element_store_code : ℕ → Kind → ℕ → List Instr
+element_store_code value kind offset =
     if is_near offset
-    then Store (store_by kind) value_register frame_register offset ∷ []
+    then Store (store_by kind) value frame_register offset ∷ []
     else Upper Lui address_register (upper_part offset) ∷ Register Add address_register address_register frame_register
-    ∷ Store (store_by kind) value_register address_register (lower_part offset) ∷ []
+    ∷ Store (store_by kind) value address_register (lower_part offset) ∷ []
 
 -- all words of an array become 0: from the address in one register up to that in another
 abbrev pub clear_code : ℕ → ℕ → List Instr
@@ -100,34 +128,61 @@ clear_code offset words =
 abbrev pub fill_code : List FlatVariable → Allocation → ℕ → Kind → ℕ → List TermTree → List Instr
 fill_code declared allocation free kind offset [] = []
 fill_code declared allocation free kind offset (e ∷ es) =
-    value_code declared allocation free e ++ element_store_code kind offset
+    read_code declared allocation free value_register 0 e
+    ++ element_store_code (read_register allocation value_register e) kind offset
     ++ fill_code declared allocation free kind (offset + element_bytes kind) es
 
--- an index and a value, the first two temporaries
+-- an index and a value, the first two temporaries where they are not at home
 abbrev pub index_code : List FlatVariable → Allocation → ℕ → TermTree → TermTree → List Instr
 index_code declared allocation free index value =
-    value_code declared allocation free index ++ into_code declared allocation free second_register 1 value
+    read_code declared allocation free value_register 0 index ++ read_code declared allocation free second_register 1 value
 
--- the value into the element at the index
-abbrev pub put_code : Kind → ℕ → List Instr
-put_code kind offset =
-    address_code value_register value_register kind offset ++ Store (store_by kind) second_register value_register (lower_part offset) ∷ []
+-- of an index and a value in registers, the value into the element at the index
+abbrev pub put_code : ℕ → ℕ → Kind → ℕ → List Instr
+put_code index value kind offset =
+    address_code value_register index kind offset ++ Store (store_by kind) value value_register (lower_part offset) ∷ []
+
+-- the value of an expression into the element at an index, of which the store may hold the offset
+abbrev pub put_element_code : List FlatVariable → Allocation → ℕ → ℕ → TermTree → TermTree → List Instr
+put_element_code declared allocation free x index value =
+    code_by (near_element declared allocation x index)
+    (λ offset. read_code declared allocation free value_register 0 value
+    ++ element_store_code (read_register allocation value_register value) (kind_at declared x) offset)
+    (index_code declared allocation free index value
+    ++ put_code (read_register allocation value_register index) (read_register allocation second_register value)
+    (kind_at declared x) (variable_offset declared x))
 
 -- the value where the control value is true, and else the old one, into the element
-abbrev pub put_under_code : ℕ → Kind → ℕ → List Instr
-put_under_code control kind offset =
-    address_code value_register value_register kind offset ++ Load (load_by kind) third_register value_register (lower_part offset) ∷ []
+abbrev pub put_under_code : ℕ → ℕ → ℕ → Kind → ℕ → List Instr
+put_under_code index value control kind offset =
+    address_code value_register index kind offset ++ Load (load_by kind) third_register value_register (lower_part offset) ∷ []
     ++ load_code first_spare control
-    ++ merge_code second_register second_register third_register first_spare
+    ++ merge_code second_register second_register value third_register first_spare
     ++ Store (store_by kind) second_register value_register (lower_part offset) ∷ []
+
+-- the same of the value of an expression, into the element at an offset that its load and its store hold
+abbrev pub put_under_near_code : List FlatVariable → Allocation → ℕ → ℕ → Kind → ℕ → TermTree → List Instr
+put_under_near_code declared allocation free control kind offset value =
+    read_code declared allocation free value_register 0 value ++ near_code second_register kind offset
+    ++ load_code third_register control
+    ++ merge_code value_register value_register (read_register allocation value_register value) second_register third_register
+    ++ element_store_code value_register kind offset
+
+-- and into the element at an index
+abbrev pub put_element_under_code : List FlatVariable → Allocation → ℕ → ℕ → ℕ → TermTree → TermTree → List Instr
+put_element_under_code declared allocation free control x index value =
+    code_by (near_element declared allocation x index)
+    (λ offset. put_under_near_code declared allocation free control (kind_at declared x) offset value)
+    (index_code declared allocation free index value
+    ++ put_under_code (read_register allocation value_register index) (read_register allocation second_register value)
+    control (kind_at declared x) (variable_offset declared x))
 
 -- Loops.
 
 -- both bounds into the loop's words, the first one first
 abbrev pub bounds_code : List FlatVariable → Allocation → ℕ → ℕ → TermTree → TermTree → List Instr
 bounds_code declared allocation next free low high =
-    value_code declared allocation free low ++ store_code value_register next
-    ++ value_code declared allocation free high ++ store_code value_register (next + 4)
+    assign_code declared allocation free low next ++ assign_code declared allocation free high (next + 4)
 
 -- whether the next number is below the bound
 abbrev pub test_code : ℕ → List Instr
@@ -157,20 +212,20 @@ module _ (declared : List FlatVariable) (allocation : Allocation) (controls dept
     statement_code depth (clear x size) = clear_code (variable_offset declared x) (array_words (kind_at declared x) size)
     statement_code depth (fill x values) =
         fill_code declared allocation free_slots (kind_at declared x) (variable_offset declared x) values
-    statement_code depth (put place x size index value) =
-        index_code declared allocation free_slots index value ++ put_code (kind_at declared x) (variable_offset declared x)
+    statement_code depth (put place x size index value) = put_element_code declared allocation free_slots x index value
     statement_code depth (take control within condition) =
-        value_code declared allocation free_slots condition ++ masks_code ++ within_code declared within
+        read_code declared allocation free_slots value_register 0 condition
+        ++ masks_code (read_register allocation value_register condition) ++ within_code declared within
         ++ store_code third_register (control_offset declared control)
         ++ store_code value_register (control_offset declared (control + 1))
     statement_code depth (set_under control x value) =
-        value_code declared allocation free_slots value ++ set_under_code (location x) (control_offset declared control)
+        read_code declared allocation free_slots value_register 0 value
+        ++ set_under_code (read_register allocation value_register value) (location x) (control_offset declared control)
     statement_code depth (put_under control place x size index value) =
-        index_code declared allocation free_slots index value
-        ++ put_under_code (control_offset declared control) (kind_at declared x) (variable_offset declared x)
+        put_element_under_code declared allocation free_slots (control_offset declared control) x index value
     statement_code depth (branch condition accepted otherwise) =
-        value_code declared allocation free_slots condition
-        ++ branch_code (block_code depth accepted) (block_code depth otherwise)
+        read_code declared allocation free_slots value_register 0 condition
+        ++ branch_code (read_register allocation value_register condition) (block_code depth accepted) (block_code depth otherwise)
     statement_code depth (repeats x low high body) =
         bounds_code declared allocation (next_offset declared controls depth) free_slots low high
         ++ loop_code

@@ -10,17 +10,16 @@ use Rattle.image_fields.specs.declared.slot.ResultSlot.{ResultSlot}
 use Rattle.inline.specs.declared.flat.FlatVariable.{FlatVariable}
 use Rattle.inline.specs.Flat.{TermTree}
 use Rattle.language.specs.declared.typing.WordType.{WordType}
-use Rattle.codegen.specs.private.Emitted.{block_code, value_code, height_in_all, depth_in_all}
+use Rattle.codegen.specs.private.Emitted.{block_code, assign_code, height_in_all, depth_in_all}
 use Rattle.expression_code.specs.Allocation.{Allocation, slots_to}
 use Rattle.expression_code.specs.Layout.{slots_from, result_offset, temporaries_offset, variable_offset}
-use Rattle.expression_code.specs.Registers.{value_register}
-use Rattle.expression_code.specs.TermCode.{load_code, store_code, height_of}
+use Rattle.expression_code.specs.TermCode.{load_code, height_of}
 
 -- the value into the result's slot, where there is one
 abbrev pub result_code : List FlatVariable → Allocation → ℕ → Option TermTree → List Instr
 result_code declared allocation free None = []
 result_code declared allocation free (Some value) =
-    value_code declared allocation free value ++ store_code value_register (result_offset declared)
+    assign_code declared allocation free value (result_offset declared)
 
 -- where the temporaries of a program begin
 abbrev pub program_base : StraightProgram → ℕ

@@ -5,9 +5,9 @@ use Rattle.rv_code.specs.declared.instructions.Instr.TheVariants.{Jump, Branch}
 use Rattle.rv_code.specs.declared.operations.BranchTest.TheVariants.{Bne}
 use Rattle.expression_code.specs.Registers.{zero_register, value_register}
 
--- over the next instruction, where the value is not 0
-abbrev pub skip : Instr
-skip = Branch Bne value_register zero_register 4
+-- over the next instruction, where a register is not 0
+abbrev pub skip : ℕ → Instr
+skip register = Branch Bne register zero_register 4
 
 -- over so many instructions
 abbrev pub over : ℕ → Instr
@@ -17,12 +17,12 @@ over n = Jump zero_register (2 * n + 2)
 abbrev pub back : ℕ → Instr
 back n = Jump zero_register (2 ^ 20 - 2 * n)
 
--- the first list where the value is not 0, and else the second
-abbrev pub branch_code : List Instr → List Instr → List Instr
-branch_code accepted otherwise =
-    skip ∷ over (length accepted + 1) ∷ (accepted ++ over (length otherwise) ∷ otherwise)
+-- the first list where a register is not 0, and else the second
+abbrev pub branch_code : ℕ → List Instr → List Instr → List Instr
+branch_code register accepted otherwise =
+    skip register ∷ over (length accepted + 1) ∷ (accepted ++ over (length otherwise) ∷ otherwise)
 
 -- a test, and as long as its value is not 0 the body, and the test again
 abbrev pub loop_code : List Instr → List Instr → List Instr
 loop_code test body =
-    test ++ (skip ∷ over (length body + 1) ∷ (body ++ back (length test + 2 + length body) ∷ []))
+    test ++ (skip value_register ∷ over (length body + 1) ∷ (body ++ back (length test + 2 + length body) ∷ []))

@@ -16,8 +16,8 @@ statements-requires c =
           (subst (λ (b : StraightBlock). HavePlaces p.declared a p.controls (depth_in_all p.body) 0 b) (sym c.body.ensures.body) (body_placed a p c.requires.room));
     }
 
-pub into-requires-clause-among : goal.into-requires-clause-among
-into-requires-clause-among c =
+pub assign-requires-clause-among : goal.assign-requires-clause-among
+assign-requires-clause-among c =
     let p = c.args.straight.now in
     let e = term_tree c.in-Some.value.now in
     let is : p.value ≡ Some e = sym c.value.ensures ∙ ap (option_map (λ term. term_tree term.now)) c.in-Some.is in

@@ -5,11 +5,11 @@ use Rattle.codegen.proofs.heights.+heights.Goals as goal
 
 pub height_in-greatest_height-requires : goal.height_in-greatest_height-requires
 height_in-greatest_height-requires t c =
-    (search (rules, accepted_smaller c.in-Branch.accepted c.in-Branch.otherwise c.in-Branch.is c.deref.ensures.value refl), omega (arith, ap height_in (tree_of_branch c.in-Branch.accepted c.in-Branch.otherwise c.in-Branch.is c.deref.ensures.value refl), c.requires))
+    (search (rules, accepted_smaller c.in-Branch.accepted c.in-Branch.otherwise c.in-Branch.is c.deref-in-Branch.ensures.value refl), omega (arith, ap height_in (tree_of_branch c.in-Branch.accepted c.in-Branch.otherwise c.in-Branch.is c.deref-in-Branch.ensures.value refl), c.requires))
 
 pub height_in-greatest_height-requires-in-Branch : goal.height_in-greatest_height-requires-in-Branch
 height_in-greatest_height-requires-in-Branch t c =
-    (search (rules, otherwise_smaller c.in-Branch.accepted c.in-Branch.otherwise c.in-Branch.is refl c.deref-in-Branch.ensures.value), omega (arith, ap height_in (tree_of_branch c.in-Branch.accepted c.in-Branch.otherwise c.in-Branch.is refl c.deref-in-Branch.ensures.value), c.requires))
+    (search (rules, otherwise_smaller c.in-Branch.accepted c.in-Branch.otherwise c.in-Branch.is refl c.deref-in-Branch-2.ensures.value), omega (arith, ap height_in (tree_of_branch c.in-Branch.accepted c.in-Branch.otherwise c.in-Branch.is refl c.deref-in-Branch-2.ensures.value), c.requires))
 
 pub height_in-greatest_height-requires-in-Repeat : goal.height_in-greatest_height-requires-in-Repeat
 height_in-greatest_height-requires-in-Repeat t c =
@@ -17,7 +17,7 @@ height_in-greatest_height-requires-in-Repeat t c =
 
 pub height_in-returns-in-Branch : goal.height_in-returns-in-Branch
 height_in-returns-in-Branch t c =
-    let tree = ap height_in (tree_of_branch c.in-Branch.accepted c.in-Branch.otherwise c.in-Branch.is c.deref.ensures.value c.deref-in-Branch.ensures.value) in
+    let tree = ap height_in (tree_of_branch c.in-Branch.accepted c.in-Branch.otherwise c.in-Branch.is c.deref-in-Branch.ensures.value c.deref-in-Branch-2.ensures.value) in
     rw (c.max-in-Branch.ensures, c.max.ensures, c.height-in-Branch.ensures, c.greatest_height.ensures, c.greatest_height-in-Branch.ensures, tree) refl
 
 pub height_in-returns-in-Repeat : goal.height_in-returns-in-Repeat

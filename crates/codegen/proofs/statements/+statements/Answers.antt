@@ -7,21 +7,21 @@ use Rattle.codegen.proofs.statements.+statements.Goals as goal
 pub statement-statements-requires : goal.statement-statements-requires
 statement-statements-requires t c =
     let f = c.args.layout.now in
-    let placed = subst (HasPlace f.declared f.allocation f.controls f.depths c.args.depth) (tree_of_branch c.in-Branch.accepted c.in-Branch.otherwise c.in-Branch.is c.deref.ensures.value refl) c.requires.placed in
-    (search (rules, accepted_smaller c.in-Branch.accepted c.in-Branch.otherwise c.in-Branch.is c.deref.ensures.value refl), placed.1)
+    let placed = subst (HasPlace f.declared f.allocation f.controls f.depths c.args.depth) (tree_of_branch c.in-Branch.accepted c.in-Branch.otherwise c.in-Branch.is c.deref-in-Branch.ensures.value refl) c.requires.placed in
+    (search (rules, accepted_smaller c.in-Branch.accepted c.in-Branch.otherwise c.in-Branch.is c.deref-in-Branch.ensures.value refl), placed.1)
 
 pub statement-statements-requires-in-Branch : goal.statement-statements-requires-in-Branch
 statement-statements-requires-in-Branch t c =
     let f = c.args.layout.now in
-    let placed = subst (HasPlace f.declared f.allocation f.controls f.depths c.args.depth) (tree_of_branch c.in-Branch.accepted c.in-Branch.otherwise c.in-Branch.is refl c.deref-in-Branch.ensures.value) c.requires.placed in
-    (search (rules, otherwise_smaller c.in-Branch.accepted c.in-Branch.otherwise c.in-Branch.is refl c.deref-in-Branch.ensures.value), placed.2)
+    let placed = subst (HasPlace f.declared f.allocation f.controls f.depths c.args.depth) (tree_of_branch c.in-Branch.accepted c.in-Branch.otherwise c.in-Branch.is refl c.deref-in-Branch-2.ensures.value) c.requires.placed in
+    (search (rules, otherwise_smaller c.in-Branch.accepted c.in-Branch.otherwise c.in-Branch.is refl c.deref-in-Branch-2.ensures.value), placed.2)
 
 pub statement-branch-code-requires : goal.statement-branch-code-requires
 statement-branch-code-requires t c =
     let f = c.args.layout.now in
-    branch_near c.in-Branch.accepted c.in-Branch.otherwise c.in-Branch.is c.deref.ensures.value c.deref-in-Branch.ensures.value f.declared f.allocation f.controls f.depths c.args.depth
-    (c.as_slice.ensures.value ∙ (c.in_ok-statements-in-Branch.ensures ∙ ap (λ (xs : List Instr). xs ++ block_code f.declared f.allocation f.controls f.depths c.args.depth (straight_block c.deref.result.now)) c.new-one.ensures.items))
-    (c.as_slice-in-Branch.ensures.value ∙ (c.in_ok-statements-in-Branch-2.ensures ∙ ap (λ (xs : List Instr). xs ++ block_code f.declared f.allocation f.controls f.depths c.args.depth (straight_block c.deref-in-Branch.result.now)) c.new-other.ensures.items))
+    branch_near c.in-Branch.accepted c.in-Branch.otherwise c.in-Branch.is c.deref-in-Branch.ensures.value c.deref-in-Branch-2.ensures.value f.declared f.allocation f.controls f.depths c.args.depth
+    (c.as_slice.ensures.value ∙ (c.in_ok-statements-in-Branch.ensures ∙ ap (λ (xs : List Instr). xs ++ block_code f.declared f.allocation f.controls f.depths c.args.depth (straight_block c.deref-in-Branch.result.now)) c.new-one.ensures.items))
+    (c.as_slice-in-Branch.ensures.value ∙ (c.in_ok-statements-in-Branch-2.ensures ∙ ap (λ (xs : List Instr). xs ++ block_code f.declared f.allocation f.controls f.depths c.args.depth (straight_block c.deref-in-Branch-2.result.now)) c.new-other.ensures.items))
     c.requires.placed
 
 pub statement-statements-requires-in-Repeat : goal.statement-statements-requires-in-Repeat
@@ -39,10 +39,11 @@ statement-repeat-requires t c =
 pub statement-returns-in_ok-branch-in-Branch : goal.statement-returns-in_ok-branch-in-Branch
 statement-returns-in_ok-branch-in-Branch t c =
     let f = c.args.layout.now in
-    branch_made c.in-Branch.accepted c.in-Branch.otherwise c.in-Branch.is c.deref.ensures.value c.deref-in-Branch.ensures.value f.declared f.allocation f.controls f.depths c.args.depth
-    (c.as_slice.ensures.value ∙ (c.in_ok-statements-in-Branch.ensures ∙ ap (λ (xs : List Instr). xs ++ block_code f.declared f.allocation f.controls f.depths c.args.depth (straight_block c.deref.result.now)) c.new-one.ensures.items))
-    (c.as_slice-in-Branch.ensures.value ∙ (c.in_ok-statements-in-Branch-2.ensures ∙ ap (λ (xs : List Instr). xs ++ block_code f.declared f.allocation f.controls f.depths c.args.depth (straight_block c.deref-in-Branch.result.now)) c.new-other.ensures.items))
-    c.args.code.now.items c.into.new.code.items c.branch-code.new.code.items (search rules) c.in_ok-branch-in-Branch.ensures
+    branch_made c.in-Branch.accepted c.in-Branch.otherwise c.in-Branch.is c.deref-in-Branch.ensures.value c.deref-in-Branch-2.ensures.value f.declared f.allocation f.controls f.depths c.args.depth
+    (c.as_slice.ensures.value ∙ (c.in_ok-statements-in-Branch.ensures ∙ ap (λ (xs : List Instr). xs ++ block_code f.declared f.allocation f.controls f.depths c.args.depth (straight_block c.deref-in-Branch.result.now)) c.new-one.ensures.items))
+    (c.as_slice-in-Branch.ensures.value ∙ (c.in_ok-statements-in-Branch-2.ensures ∙ ap (λ (xs : List Instr). xs ++ block_code f.declared f.allocation f.controls f.depths c.args.depth (straight_block c.deref-in-Branch-2.result.now)) c.new-other.ensures.items))
+    c.in_ok-register-in-Branch.register c.in_ok-register-in-Branch.ensures.register
+    c.args.code.now.items c.read.new.code.items c.branch-code.new.code.items (search rules) c.in_ok-branch-in-Branch.ensures
 
 pub statement-returns-in_ok-repeat-in-Repeat : goal.statement-returns-in_ok-repeat-in-Repeat
 statement-returns-in_ok-repeat-in-Repeat t c =

@@ -1,0 +1,65 @@
+// Values of expressions, read where they are: a variable that has a home costs no instruction.
+
+ghost use Rattle.std.specs.Prelude.{◌≡◌, ◌++◌, ◌+◌, ◌*◌, ◌≤◌, length, IfOk, OnOk};
+ghost use Rattle.codegen.specs.private.Emitted.{assign_code, home_of_term, read_code, read_register};
+ghost use Rattle.expression_code.specs.Allocation.{slots_to};
+ghost use Rattle.expression_code.specs.Layout.{temporaries_offset};
+ghost use Rattle.expression_code.specs.TermCode.{height_of, IsAmong};
+ghost use Rattle.inline.specs.Flat.{term_tree};
+
+use expression_code::{Layout, emit, into};
+use inline::Term;
+use rv_code::{Instr, Reg};
+use std::alloc::AllocError;
+
+/// The home of an expression, where it is a variable that has one.
+fn home(layout: &Layout<'_>, term: &Term) -> Option<Reg>
+    ensures { result ≡ home_of_term layout.now.allocation (term_tree term.now) }
+{
+    match term {
+        Term::Variable(number) => layout
+            .homes()
+            .get(*number as usize)
+            .copied()
+            .unwrap_or(None),
+        _ => None,
+    }
+}
+
+/// An expression into a register, with its temporaries in the places from this one on, unless it is at home; and the
+/// register where it is then.
+pub fn read(
+    code: &mut Vec<Instr>,
+    layout: &Layout<'_>,
+    register: Reg,
+    place: u32,
+    term: &Term,
+) -> Result<Reg, AllocError>
+    requires among { IsAmong (length layout.now.declared) (term_tree term.now) }
+    requires room { temporaries_offset layout.now.declared layout.now.controls layout.now.depths + 4 * slots_to layout.now.allocation.count (height_of (term_tree term.now) + place) ≤ 65536 }
+    ensures code { OnOk result (code.new.items ≡ code.old.items ++ read_code layout.now.declared layout.now.allocation (temporaries_offset layout.now.declared layout.now.controls layout.now.depths) register place (term_tree term.now)) }
+    ensures register { IfOk result (λ r. r ≡ read_register layout.now.allocation register (term_tree term.now)) }
+{
+    match home(layout, term) {
+        Some(home) => Ok(home),
+        None => {
+            into(code, layout, register, place, term)?;
+            Ok(register)
+        }
+    }
+}
+
+/// The value of an expression into a slot.
+pub fn assign(
+    code: &mut Vec<Instr>,
+    layout: &Layout<'_>,
+    term: &Term,
+    offset: u32,
+) -> Result<(), AllocError>
+    requires among { IsAmong (length layout.now.declared) (term_tree term.now) }
+    requires room { temporaries_offset layout.now.declared layout.now.controls layout.now.depths + 4 * slots_to layout.now.allocation.count (height_of (term_tree term.now)) ≤ 65536 }
+    ensures { OnOk result (code.new.items ≡ code.old.items ++ assign_code layout.now.declared layout.now.allocation (temporaries_offset layout.now.declared layout.now.controls layout.now.depths) (term_tree term.now) offset) }
+{
+    let register = read(code, layout, Reg::X5, 0, term)?;
+    emit::store(code, register, offset)
+}
