@@ -1,0 +1,10 @@
+pub mod KnownLemmas
+pub mod TermLemmas
+pub mod TermTypes
+pub mod Unset
+pub mod Learned
+pub mod Same
+pub mod Typed
+pub mod Bounds
+pub mod Whole
+pub mod StatementTrees

@@ -1,0 +1,4 @@
+-- Words that the contracts of private functions cite, and no public one: how straight code is made simpler.
+pub mod Known
+pub mod Folding
+pub mod Simplification

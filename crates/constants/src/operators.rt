@@ -1,0 +1,64 @@
+// What the operators make of words that are known.
+
+ghost use Rattle.std.specs.Prelude.{◌≡◌};
+ghost use Rattle.language.specs.Operators.{prefix_value, truth_of};
+ghost use Rattle.constants.specs.private.Folding.{folded, is_marked};
+
+use language::{BinaryOperator, PrefixOperator};
+use word::Width;
+
+/// Whether a bool is true.
+pub fn is_true(value: u32) -> bool
+    ensures { result ≡ truth_of value }
+{
+    value != 0
+}
+
+/// The value of a prefix operator, its operand of this width.
+pub fn prefix_value(operator: PrefixOperator, width: Width, operand: u32) -> u32
+    ensures { result ≡ prefix_value operator width operand }
+{
+    match operator {
+        PrefixOperator::Not => word::from_bool(word::not(is_true(operand))),
+        PrefixOperator::Complement => word::complement(width, operand),
+        PrefixOperator::Negate => word::negate(width, operand),
+    }
+}
+
+/// Whether operands of this operator are on the path of a run: it may meet a fault at them, or an observer may see them.
+pub fn is_marked(operator: BinaryOperator) -> bool
+    ensures { result ≡ is_marked operator }
+{
+    matches!(
+        operator,
+        BinaryOperator::Multiply | BinaryOperator::Divide | BinaryOperator::Remainder
+    )
+}
+
+/// The value between two operands, the left of this width. Operators whose operands are on the
+/// path are left to the run.
+pub fn folded(operator: BinaryOperator, width: Width, a: u32, b: u32) -> Option<u32>
+    ensures { result ≡ folded operator width a b }
+{
+    let value = match operator {
+        BinaryOperator::Either => word::from_bool(word::either(is_true(a), is_true(b))),
+        BinaryOperator::Both => word::from_bool(word::both(is_true(a), is_true(b))),
+        BinaryOperator::Equal => word::from_bool(word::equal(a, b)),
+        BinaryOperator::Unequal => word::from_bool(word::unequal(a, b)),
+        BinaryOperator::Less => word::from_bool(word::less(a, b)),
+        BinaryOperator::LessOrEqual => word::from_bool(word::at_most(a, b)),
+        BinaryOperator::Greater => word::from_bool(word::greater(a, b)),
+        BinaryOperator::GreaterOrEqual => word::from_bool(word::at_least(a, b)),
+        BinaryOperator::BitOr => word::bit_or(a, b),
+        BinaryOperator::BitXor => word::bit_xor(a, b),
+        BinaryOperator::BitAnd => word::bit_and(a, b),
+        BinaryOperator::ShiftLeft => word::shift_left(width, a, b),
+        BinaryOperator::ShiftRight => word::shift_right(width, a, b),
+        BinaryOperator::Add => word::add(width, a, b),
+        BinaryOperator::Subtract => word::subtract(width, a, b),
+        BinaryOperator::Multiply | BinaryOperator::Divide | BinaryOperator::Remainder => {
+            return None;
+        }
+    };
+    Some(value)
+}

@@ -1,0 +1,262 @@
+// Expressions in which what is known is a number.
+
+ghost use Rattle.std.specs.Prelude.{◌≡◌, map, IfOk};
+ghost use Rattle.std.specs.Option.{option_map};
+ghost use Rattle.inline.specs.Flat.{term_tree};
+ghost use Rattle.constants.specs.private.Folding as folding;
+ghost use Rattle.constants.specs.private.Folding.{chosen, constant_of, decision, is_quiet, makes_no_turn, number_of, simple};
+ghost use Rattle.inline.specs.Flat as flat;
+
+use crate::known::{Constant, Known};
+use crate::operators::{folded, is_marked, is_true, prefix_value};
+use inline::Term;
+use language::{BinaryOperator, Kind, Place, PrefixOperator};
+use std::alloc::{AllocError, Global};
+use word::Width;
+
+/// What an expression is, where it is a number.
+pub fn constant_of(term: &Term) -> Option<Constant>
+    ensures { result ≡ constant_of (term_tree term.now) }
+{
+    match term {
+        Term::Number(value, kind) => Some(Constant {
+            value: *value,
+            kind: *kind,
+        }),
+        Term::Truth(value) => Some(Constant {
+            value: word::from_bool(*value),
+            kind: Kind::Boolean,
+        }),
+        _ => None,
+    }
+}
+
+/// A number that is known.
+fn number_of(constant: Constant) -> Term
+    ensures { term_tree result ≡ number_of constant }
+{
+    Term::Number(constant.value, constant.kind)
+}
+
+/// What a condition says, where it is a number.
+pub fn decision(condition: &Term) -> Option<bool>
+    ensures { result ≡ decision (term_tree condition.now) }
+{
+    Some(is_true(constant_of(condition)?.value))
+}
+
+/// Whether an expression shows nothing: it meets no index, division or multiplication.
+fn is_quiet(term: &Term) -> bool
+    ensures { result ≡ is_quiet (term_tree term.now) }
+{
+    match term {
+        Term::Number(_, _) | Term::Truth(_) | Term::Variable(_) => true,
+        Term::Prefix(_, _, operand) | Term::Rotate(_, operand, _) | Term::Convert(_, operand) => {
+            is_quiet(operand)
+        }
+        Term::Binary(_, operator, _, left, right) => {
+            !is_marked(*operator) && is_quiet(left) && is_quiet(right)
+        }
+        Term::Select(condition, accepted, otherwise) => {
+            is_quiet(condition) && is_quiet(accepted) && is_quiet(otherwise)
+        }
+        Term::Element(_, _, _, _) => false,
+    }
+}
+
+/// A prefix operator and its operand.
+fn prefix(
+    alloc: Global,
+    operator: PrefixOperator,
+    width: Width,
+    operand: Term,
+) -> Result<Term, AllocError>
+    ensures { IfOk result (λ term. term_tree term ≡ folding.prefixed operator width (term_tree operand)) }
+{
+    match constant_of(&operand) {
+        Some(known) => Ok(number_of(Constant {
+            value: prefix_value(operator, width, known.value),
+            kind: known.kind,
+        })),
+        None => Ok(Term::Prefix(operator, width, Box::new(alloc, operand)?)),
+    }
+}
+
+/// What an operator comes to, where both its operands are numbers.
+fn between(operator: BinaryOperator, width: Width, left: &Term, right: &Term) -> Option<Constant>
+    ensures { result ≡ folding.between operator width (constant_of (term_tree left.now)) (constant_of (term_tree right.now)) }
+{
+    let one = constant_of(left)?;
+    let other = constant_of(right)?;
+    let value = folded(operator, width, one.value, other.value)?;
+    Some(Constant {
+        value,
+        kind: operator.result_kind(one.kind),
+    })
+}
+
+/// An operator and its two operands.
+fn binary(
+    alloc: Global,
+    place: Place,
+    operator: BinaryOperator,
+    width: Width,
+    left: Term,
+    right: Term,
+) -> Result<Term, AllocError>
+    ensures { IfOk result (λ term. term_tree term ≡ folding.operated_on place operator width (term_tree left) (term_tree right)) }
+{
+    match between(operator, width, &left, &right) {
+        Some(known) => Ok(number_of(known)),
+        None => {
+            let left = Box::new(alloc, left)?;
+            let right = Box::new(alloc, right)?;
+            Ok(Term::Binary(place, operator, width, left, right))
+        }
+    }
+}
+
+/// An operand, turned.
+fn rotate(alloc: Global, width: Width, operand: Term, amount: u32) -> Result<Term, AllocError>
+    ensures { IfOk result (λ term. term_tree term ≡ folding.rotated width (term_tree operand) amount) }
+{
+    match constant_of(&operand) {
+        Some(known) => Ok(number_of(Constant {
+            value: word::rotate_left(width, known.value, amount),
+            kind: known.kind,
+        })),
+        None => Ok(Term::Rotate(width, Box::new(alloc, operand)?, amount)),
+    }
+}
+
+/// An operand, as a number of this kind.
+fn convert(alloc: Global, kind: Kind, operand: Term) -> Result<Term, AllocError>
+    ensures { IfOk result (λ term. term_tree term ≡ folding.converted_to kind (term_tree operand)) }
+{
+    match constant_of(&operand) {
+        Some(known) => Ok(number_of(Constant {
+            value: word::convert(kind.width(), known.value),
+            kind,
+        })),
+        None => Ok(Term::Convert(kind, Box::new(alloc, operand)?)),
+    }
+}
+
+/// A choice between two.
+fn choice(
+    alloc: Global,
+    condition: Term,
+    accepted: Term,
+    otherwise: Term,
+) -> Result<Term, AllocError>
+    ensures { IfOk result (λ term. term_tree term ≡ flat.select (term_tree condition) (term_tree accepted) (term_tree otherwise)) }
+{
+    let condition = Box::new(alloc, condition)?;
+    let accepted = Box::new(alloc, accepted)?;
+    let otherwise = Box::new(alloc, otherwise)?;
+    Ok(Term::Select(condition, accepted, otherwise))
+}
+
+/// The one of two that is chosen, where the condition is a number and the other one shows nothing; else the choice.
+fn select(
+    alloc: Global,
+    condition: Term,
+    accepted: Term,
+    otherwise: Term,
+) -> Result<Term, AllocError>
+    ensures { IfOk result (λ term. term_tree term ≡ chosen (decision (term_tree condition)) (term_tree condition) (term_tree accepted) (term_tree otherwise)) }
+{
+    match decision(&condition) {
+        Some(true) => {
+            if is_quiet(&otherwise) {
+                Ok(accepted)
+            } else {
+                choice(alloc, condition, accepted, otherwise)
+            }
+        }
+        Some(false) => {
+            if is_quiet(&accepted) {
+                Ok(otherwise)
+            } else {
+                choice(alloc, condition, accepted, otherwise)
+            }
+        }
+        None => choice(alloc, condition, accepted, otherwise),
+    }
+}
+
+/// An expression, where this is known of the variables.
+pub fn simple(alloc: Global, known: &Known, term: &Term) -> Result<Term, AllocError>
+    ensures { IfOk result (λ simpler. term_tree simpler ≡ simple known.now.words.items (term_tree term.now)) }
+{
+    match term {
+        Term::Number(value, kind) => Ok(Term::Number(*value, *kind)),
+        Term::Truth(value) => Ok(Term::Truth(*value)),
+        Term::Variable(number) => match known.of(*number) {
+            Some(word) => Ok(number_of(word)),
+            None => Ok(Term::Variable(*number)),
+        },
+        Term::Prefix(operator, width, operand) => {
+            let operand = simple(alloc, known, operand)?;
+            prefix(alloc, *operator, *width, operand)
+        }
+        Term::Binary(place, operator, width, left, right) => {
+            let left = simple(alloc, known, left)?;
+            let right = simple(alloc, known, right)?;
+            binary(alloc, *place, *operator, *width, left, right)
+        }
+        Term::Rotate(width, operand, amount) => {
+            let operand = simple(alloc, known, operand)?;
+            rotate(alloc, *width, operand, *amount)
+        }
+        Term::Convert(kind, operand) => {
+            let operand = simple(alloc, known, operand)?;
+            convert(alloc, *kind, operand)
+        }
+        Term::Select(condition, accepted, otherwise) => {
+            let condition = simple(alloc, known, condition)?;
+            let accepted = simple(alloc, known, accepted)?;
+            let otherwise = simple(alloc, known, otherwise)?;
+            select(alloc, condition, accepted, otherwise)
+        }
+        Term::Element(place, array, size, index) => {
+            let index = Box::new(alloc, simple(alloc, known, index)?)?;
+            Ok(Term::Element(*place, *array, *size, index))
+        }
+    }
+}
+
+/// Expressions, in their order.
+pub fn all_simple(alloc: Global, known: &Known, terms: &[Term]) -> Result<Vec<Term>, AllocError>
+    ensures { IfOk result (λ simpler. map term_tree simpler.items ≡ map (simple known.now.words.items) (map term_tree terms.now)) }
+{
+    let mut simpler = Vec::new(alloc);
+    for term in terms {
+        simpler.push(simple(alloc, known, term)?)?;
+    }
+    Ok(simpler)
+}
+
+/// An expression, where there is one.
+pub fn simple_where_any(
+    alloc: Global,
+    known: &Known,
+    term: Option<&Term>,
+) -> Result<Option<Term>, AllocError>
+    ensures { IfOk result (λ simpler. option_map term_tree simpler ≡ option_map (simple known.now.words.items) (option_map (λ term. term_tree term.now) term.entry)) }
+{
+    match term {
+        Some(term) => Ok(Some(simple(alloc, known, term)?)),
+        None => Ok(None),
+    }
+}
+
+/// Whether a loop makes no turn, where both its bounds are numbers.
+pub fn makes_no_turn(low: &Term, high: &Term) -> bool
+    ensures { result ≡ makes_no_turn (constant_of (term_tree low.now)) (constant_of (term_tree high.now)) }
+{
+    match (constant_of(low), constant_of(high)) {
+        (Some(low), Some(high)) => high.value <= low.value,
+        _ => false,
+    }
+}
