@@ -33,6 +33,7 @@ use Rattle.hepurita.specs.Answers.{Builds, IsTheOutcome, IsSame}
 use Rattle.hepurita.specs.Executed.{Executed, answer_at, refused, out_of_memory, ran}
 use Rattle.hepurita.specs.Paired.{Paired, Observed, pair_fault, first_of, shifted}
 use Rattle.hepurita.specs.Paired as pairs
+use Rattle.hepurita.specs.declared.optimisation.Optimisation.{Optimisation}
 use Rattle.hepurita.proofs.JudgementLemmas.{one_export}
 use Rattle.word.specs.declared.profile.Profile.{Profile}
 
@@ -56,8 +57,9 @@ same_fields bytes f g one other =
     let both = sym one ∙ other in
     cc
 
-pub fits : OneAnswer → (profile : Profile) (text bytes : List ℕ) (program : ProgramTree) (before : List ProcedureTree) (export : ProcedureTree) (image : Fields) → Builds profile text bytes program before export image → Fits program before export image
-fits one profile text bytes program before export image is =
+pub fits : OneAnswer → (optimisation : Optimisation) (profile : Profile) (text bytes : List ℕ) (program : ProgramTree) (before : List ProcedureTree) (export : ProcedureTree) (image : Fields)
+    → Builds optimisation profile text bytes program before export image → Fits program before export image
+fits one optimisation profile text bytes program before export image is =
     let built = is.built in
     let same = one_export profile one text built.program program built.before before built.export export built.judged is.judged in
     let images : built.image ≡ image = same_fields bytes built.image image built.spelled is.spelled in

@@ -1,4 +1,4 @@
--- An accepted text has one image for an observer, and it has one spelling.
+-- An accepted text has one plain and one optimised image for an observer, each with one spelling.
 use Rattle.std.proofs.Common.{◌≡◌, ℕ, List, Result, Ok, Err, ap₂, sym, subst, ◌∙◌}
 use Rattle.std.specs.Result.{IfOk}
 use Rattle.image.proofs.Spellings.{one_by_fields}
@@ -7,6 +7,7 @@ use Rattle.image_fields.specs.Fields.{Fields}
 use Rattle.syntax.specs.Reading.{OneAnswer}
 use Rattle.hepurita.specs.Built.{IsBuilt}
 use Rattle.hepurita.specs.Exact.{image_for}
+use Rattle.hepurita.specs.declared.optimisation.Optimisation.{Optimisation}
 use Rattle.hepurita.proofs.JudgementLemmas.{one_export}
 use Rattle.word.specs.declared.profile.Profile.{Profile}
 
@@ -15,8 +16,9 @@ pub ok_both : {X Y : Type 0} (r : Result X Y) (P Q : X → Type 0) → IfOk r P 
 ok_both (Ok x) P Q p q = (p, q)
 ok_both (Err y) P Q p q = tt
 
-pub one_build : OneAnswer → (profile : Profile) (text one other : List ℕ) → IsBuilt profile text one → IsBuilt profile text other → one ≡ other
-one_build answer profile text one other a b =
+pub one_build : OneAnswer → (optimisation : Optimisation) (profile : Profile) (text one other : List ℕ)
+    → IsBuilt optimisation profile text one → IsBuilt optimisation profile text other → one ≡ other
+one_build answer optimisation profile text one other a b =
     let same = one_export profile answer text a.program b.program a.before b.before a.export b.export a.judged b.judged in
-    let images : a.image ≡ b.image = a.exact ∙ (ap₂ (image_for profile) same.1 same.2 ∙ sym b.exact) in
+    let images : a.image ≡ b.image = a.exact ∙ (ap₂ (image_for optimisation profile) same.1 same.2 ∙ sym b.exact) in
     one_by_fields one other b.image a.are_bytes b.are_bytes (subst (λ (f : Fields). Spells one f) images a.spelled) b.spelled

@@ -12,11 +12,12 @@ use Rattle.hepurita.specs.declared.fault.RunFault.{RunFault}
 use Rattle.hepurita.specs.declared.fault.RunFault.TheVariants.{Memory, Stopped}
 use Rattle.hepurita.specs.Built.{Judges, accepts, IsBuilt}
 use Rattle.hepurita.specs.Compiled.{Means}
+use Rattle.hepurita.specs.declared.optimisation.Optimisation.{Optimisation}
 use Rattle.word.specs.declared.profile.Profile.{Profile}
 
--- a text that is accepted with this export, for an observer, and the image that its bytes spell
-pub record Builds (profile : Profile) (text bytes : List ℕ) (program : ProgramTree) (before : List ProcedureTree) (export : ProcedureTree) (image : Fields) : Type 0 where
-  pub built : IsBuilt profile text bytes
+-- a text that is accepted with this export, for an observer, and the plain or the optimised image that its bytes spell
+pub record Builds (optimisation : Optimisation) (profile : Profile) (text bytes : List ℕ) (program : ProgramTree) (before : List ProcedureTree) (export : ProcedureTree) (image : Fields) : Type 0 where
+  pub built : IsBuilt optimisation profile text bytes
   pub judged : Judges profile text (accepts program before export)
   pub allowed : IsImage image
   pub spelled : Spells bytes image

@@ -6,6 +6,7 @@ use Rattle.codegen.specs.Bases.{AreBases}
 use Rattle.hepurita.specs.Bases.{code_base, frame_base, most_images, code_distance, frame_distance}
 use Rattle.hepurita.specs.Compiled.{IsCompiled}
 use Rattle.hepurita.specs.Exact.{image_for}
+use Rattle.hepurita.specs.declared.optimisation.Optimisation.{Optimisation}
 use Rattle.inline.specs.Numbering.{flattened}
 use Rattle.intervals.specs.Ranges.{range_violations}
 use Rattle.source_work.specs.SourceWork.{work_violations}
@@ -61,9 +62,9 @@ pub data Judges (profile : Profile) (text : List ℕ) : Judgement → Type 0 whe
 abbrev pub IsRefusal : (Judgement → Type 0) → Refusal → Type 0
 IsRefusal J refusal = IsWantOfMemory refusal.rule refusal.place ⊎ ((place : Place) × (refusal.place ≡ Some place) × J (refuses refusal.rule place))
 
--- the bytes are the image of an accepted text, for an observer: they spell fields, which are those of the exported procedure and what it calls,
--- compiled
-pub record IsBuilt (profile : Profile) (text bytes : List ℕ) : Type 0 where
+-- the bytes are the image of an accepted text, plain or optimised, for an observer: they spell fields, which are those of the exported
+-- procedure and what it calls, compiled; which texts are accepted is one question for both
+pub record IsBuilt (optimisation : Optimisation) (profile : Profile) (text bytes : List ℕ) : Type 0 where
   pub program : ProgramTree
   pub before : List ProcedureTree
   pub export : ProcedureTree
@@ -71,7 +72,7 @@ pub record IsBuilt (profile : Profile) (text bytes : List ℕ) : Type 0 where
   pub judged : Judges profile text (accepts program before export)
   pub observed : image.profile ≡ profile
   -- the export decides which image it is
-  pub exact : image ≡ image_for profile before export
+  pub exact : image ≡ image_for optimisation profile before export
   pub allowed : IsImage image
   pub are_bytes : AreBytes bytes
   pub spelled : Spells bytes image

@@ -7,6 +7,7 @@ pub mod Executed
 pub mod Faults
 pub mod Paired
 pub mod Exact
+pub mod CodeFor
 pub mod Built
 pub mod Answers
 pub mod Text

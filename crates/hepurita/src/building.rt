@@ -11,51 +11,96 @@ ghost use Rattle.language.specs.Tree.{ProcedureTree, ProgramTree, program_tree};
 ghost use Rattle.word.specs.declared.place.Place.{Place};
 ghost use Rattle.language.specs.declared.rule.Rule.{Rule};
 ghost use Rattle.syntax.specs.Reading.{Reads, accepted};
-ghost use Rattle.hepurita.specs.Exact.{image_for};
+ghost use Rattle.language.specs.WantOfMemory.{IsWantOfMemory};
+ghost use Rattle.hepurita.specs.CodeFor.{IsCodeFor};
+ghost use Rattle.hepurita.specs.Exact.{code_for, image_for};
 ghost use Rattle.hepurita.specs.Built.{Judgement, Judges, JudgesProgram, IsRefusal, IsBuilt, accepts, refuses};
 
 use crate::judging::flat_of;
-use branch_removal::remove;
-use codegen::{Code, generate};
+use crate::optimisation::Optimisation;
+use branch_removal::{Straight, remove, replaced_is_removed};
+use codegen::{Code, generate, generate_optimised};
+use constants::simplify;
 use image::write;
 use intervals::check_ranges;
 use language::{Profile, Program, Refusal};
 use std::alloc::Global;
 use syntax::{one_answer_for_a_text, parse};
 
+/// The code of a straight program: plain, or optimised and then of a simpler program that may stand in its place. Only
+/// memory refuses it.
+fn code_for(
+    alloc: Global,
+    straight: &Straight<'_>,
+    optimisation: Optimisation,
+) -> Result<Code, Refusal>
+    ensures generated { IfOk result (IsCodeFor straight.now) }
+    ensures exact { IfOk result (λ code. code ≡ code_for optimisation straight.now) }
+    ensures allowed { IfOk result IsImage }
+    ensures memory { IfErr result (λ refusal. IsWantOfMemory refusal.rule refusal.place) }
+{
+    match optimisation {
+        Optimisation::Off => generate(alloc, straight),
+        Optimisation::On => {
+            let simpler = simplify(alloc, straight)?;
+            replaced_is_removed();
+            generate_optimised(alloc, &simpler)
+        }
+    }
+}
+
 /// The code of a program that is some text and violates no rule, or the first refusal.
-fn compile(alloc: Global, program: &Program<'_>, profile: Profile) -> Result<Code, Refusal>
+fn compile(
+    alloc: Global,
+    program: &Program<'_>,
+    profile: Profile,
+    optimisation: Optimisation,
+) -> Result<Code, Refusal>
     requires read { (text : List ℕ) × Reads text (accepted (program_tree program.now)) }
-    ensures accepted { IfOk result (λ image. (before : List ProcedureTree) × (export : ProcedureTree) × JudgesProgram profile (program_tree program.now) (accepts (program_tree program.now) before export) × ((straight : StraightProgram) × IsRemoved (ranged (flattened profile before export)) straight × IsGenerated straight image) × (image ≡ image_for profile before export)) }
+    ensures accepted { IfOk result (λ image. (before : List ProcedureTree) × (export : ProcedureTree) × JudgesProgram profile (program_tree program.now) (accepts (program_tree program.now) before export) × ((straight : StraightProgram) × IsRemoved (ranged (flattened profile before export)) straight × IsGenerated straight image) × (image ≡ image_for optimisation profile before export)) }
     ensures allowed { IfOk result IsImage }
     ensures refused { IfErr result (IsRefusal (JudgesProgram profile (program_tree program.now))) }
 {
     let flat = flat_of(alloc, program, profile)?;
     let ranged = check_ranges(alloc, &flat)?;
     let straight = remove(alloc, &ranged)?;
-    generate(alloc, &straight)
+    code_for(alloc, &straight, optimisation)
 }
 
-/// The bytes of the image of a text that is accepted for an observer of profile 1, or the first refusal.
+/// The bytes of the plain image of a text that is accepted for an observer of profile 1, or the first refusal.
 pub fn build(alloc: Global, text: &str) -> Result<Vec<u8>, Refusal>
-    ensures accepted { IfOk result (λ bytes. IsBuilt Profile.P1 text.now bytes.items) }
+    ensures accepted { IfOk result (λ bytes. IsBuilt Optimisation.Off Profile.P1 text.now bytes.items) }
     ensures refused { IfErr result (IsRefusal (Judges Profile.P1 text.now)) }
 {
     build_as(alloc, text, Profile::P1)
 }
 
-/// The bytes of the image of a text that is accepted for an observer of this profile, or the first refusal. Passes
-/// are asked in the order: the text itself; names, types and labels; sizes; ranges; work.
+/// The bytes of the plain image of a text that is accepted for an observer of this profile, or the first refusal.
+pub fn build_as(alloc: Global, text: &str, profile: Profile) -> Result<Vec<u8>, Refusal>
+    ensures accepted { IfOk result (λ bytes. IsBuilt Optimisation.Off profile text.now bytes.items) }
+    ensures refused { IfErr result (IsRefusal (Judges profile text.now)) }
+{
+    build_with(alloc, text, profile, Optimisation::Off)
+}
+
+/// The bytes of the image, plain or optimised, of a text that is accepted for an observer of this profile, or the first
+/// refusal. Passes are asked in the order: the text itself; names, types and labels; sizes; ranges; work. Which texts
+/// are accepted, and what the others are refused for, does not depend on the optimisation.
 ///
-/// The image, run on any arguments within the parameter types, gives what the text means, within its
+/// Either image, run on any arguments within the parameter types, gives what the text means, within its
 /// stated steps and its frame; and on arguments that are equal where they are public the observer
 /// sees one and the same.
-pub fn build_as(alloc: Global, text: &str, profile: Profile) -> Result<Vec<u8>, Refusal>
-    ensures accepted { IfOk result (λ bytes. IsBuilt profile text.now bytes.items) }
+pub fn build_with(
+    alloc: Global,
+    text: &str,
+    profile: Profile,
+    optimisation: Optimisation,
+) -> Result<Vec<u8>, Refusal>
+    ensures accepted { IfOk result (λ bytes. IsBuilt optimisation profile text.now bytes.items) }
     ensures refused { IfErr result (IsRefusal (Judges profile text.now)) }
 {
     let program = parse(alloc, text)?;
-    let code = compile(alloc, &program, profile)?;
+    let code = compile(alloc, &program, profile, optimisation)?;
     write(alloc, &code)
 }
 

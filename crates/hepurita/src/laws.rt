@@ -31,6 +31,7 @@ ghost use Rattle.language.specs.Results.{Results};
 ghost use Rattle.language.specs.Tree.{ProcedureTree, ProgramTree};
 ghost use Rattle.word.specs.declared.profile.Profile.{Profile};
 ghost use Rattle.hepurita.specs.declared.fault.RunFault.{RunFault};
+ghost use Rattle.hepurita.specs.declared.optimisation.Optimisation.{Optimisation};
 ghost use Rattle.hepurita.specs.Answers.{Builds, IsTheOutcome, IsSame};
 ghost use Rattle.hepurita.specs.Executed.{Executed, WantsMemory};
 ghost use Rattle.hepurita.specs.Paired.{Paired};
@@ -54,46 +55,48 @@ pub fn bases_fit()
         → AreBases image (code_base + code_distance * k) (frame_base + frame_distance * k) }
 {}
 
-/// A text has one image for an observer: what `build_as` answers twice is one list of bytes, so an image can be checked by its hash.
+/// A text has one plain and one optimised image for an observer: what `build_with` answers twice is one list of bytes, so an image can
+/// be checked by its hash.
 pub fn builds_agree()
-    ensures { (profile : Profile) (text one other : List ℕ) → IsBuilt profile text one → IsBuilt profile text other → one ≡ other }
+    ensures { (optimisation : Optimisation) (profile : Profile) (text one other : List ℕ)
+        → IsBuilt optimisation profile text one → IsBuilt optimisation profile text other → one ≡ other }
 {
     one_answer_for_a_text();
 }
 
-/// The calls, one after another. The image of a text that is accepted for an observer, read from the bytes that
-/// `build_as` answers and executed on arguments within the parameter types, gives the one outcome that the text
+/// The calls, one after another. The image of a text that is accepted for an observer, plain or optimised, read from the bytes that
+/// `build_with` answers and executed on arguments within the parameter types, gives the one outcome that the text
 /// means. On two lists of arguments that are equal where they are public `pair` answers `same`, the
 /// recorder takes one and the same list, and the return and the `mut` arrays are equal where they are public. Other
 /// answers are out of memory and a recorder that refuses.
 pub fn images_do_what_texts_mean()
-    ensures outcome { (profile : Profile) (text bytes : List ℕ) (program : ProgramTree) (before : List ProcedureTree) (export : ProcedureTree) (image : Fields) (args : List Arg) (keeps : Bool) (list after : List Observation) (answer : Result Results RunFault)
-        → Builds profile text bytes program before export image → AreWithin (params_of image) args
+    ensures outcome { (optimisation : Optimisation) (profile : Profile) (text bytes : List ℕ) (program : ProgramTree) (before : List ProcedureTree) (export : ProcedureTree) (image : Fields) (args : List Arg) (keeps : Bool) (list after : List Observation) (answer : Result Results RunFault)
+        → Builds optimisation profile text bytes program before export image → AreWithin (params_of image) args
         → Executed image args keeps list answer after → IsTheOutcome program args answer }
-    ensures same { (profile : Profile) (text bytes : List ℕ) (program : ProgramTree) (before : List ProcedureTree) (export : ProcedureTree) (image : Fields) (one other : List Arg) (answer : Result Pairing RunFault)
-        → Builds profile text bytes program before export image → Agree (params_of image) one other
+    ensures same { (optimisation : Optimisation) (profile : Profile) (text bytes : List ℕ) (program : ProgramTree) (before : List ProcedureTree) (export : ProcedureTree) (image : Fields) (one other : List Arg) (answer : Result Pairing RunFault)
+        → Builds optimisation profile text bytes program before export image → Agree (params_of image) one other
         → Paired image one other answer → IsSame answer }
-    ensures shown { (profile : Profile) (text bytes : List ℕ) (program : ProgramTree) (before : List ProcedureTree) (export : ProcedureTree) (image : Fields) (one other : List Arg) (keeps : Bool) (list after after' : List Observation) (a b : Results)
-        → Builds profile text bytes program before export image → Agree (params_of image) one other
+    ensures shown { (optimisation : Optimisation) (profile : Profile) (text bytes : List ℕ) (program : ProgramTree) (before : List ProcedureTree) (export : ProcedureTree) (image : Fields) (one other : List Arg) (keeps : Bool) (list after after' : List Observation) (a b : Results)
+        → Builds optimisation profile text bytes program before export image → Agree (params_of image) one other
         → Executed image one keeps list (Ok a) after → Executed image other keeps list (Ok b) after' → after ≡ after' }
-    ensures public { (profile : Profile) (text bytes : List ℕ) (program : ProgramTree) (before : List ProcedureTree) (export : ProcedureTree) (image : Fields) (one other : List Arg) (keeps : Bool) (list after after' : List Observation) (a b : Results)
-        → Builds profile text bytes program before export image → Agree (params_of image) one other
+    ensures public { (optimisation : Optimisation) (profile : Profile) (text bytes : List ℕ) (program : ProgramTree) (before : List ProcedureTree) (export : ProcedureTree) (image : Fields) (one other : List Arg) (keeps : Bool) (list after after' : List Observation) (a b : Results)
+        → Builds optimisation profile text bytes program before export image → Agree (params_of image) one other
         → Executed image one keeps list (Ok a) after → Executed image other keeps list (Ok b) after' → AgreeInPublic (params_of image) export.result a b }
 {
     one_answer_for_a_text();
     faultless_arguments();
 }
 
-/// Runs that are cut off. However few turns the image of an accepted text is given, on arguments within the parameter types and
-/// with no recorder that refuses, it has stopped by `Ecall` with the one outcome that the text means, or it has not stopped and
-/// had fewer turns than the image states. On two lists of arguments that are equal where they are public, as many turns show one
+/// Runs that are cut off. However few turns the image of an accepted text, plain or optimised, is given, on arguments within the
+/// parameter types and with no recorder that refuses, it has stopped by `Ecall` with the one outcome that the text means, or it
+/// has not stopped and had fewer turns than the image states. On two lists of arguments that are equal where they are public, as many turns show one
 /// and the same list.
 pub fn cut_off_runs_are_right()
-    ensures outcome { (profile : Profile) (text bytes : List ℕ) (program : ProgramTree) (before : List ProcedureTree) (export : ProcedureTree) (image : Fields) (args : List Arg) (given : ℕ) (seen : List Observation) (stop : Stop) (end : State)
-        → Builds profile text bytes program before export image → AreWithin (params_of image) args
+    ensures outcome { (optimisation : Optimisation) (profile : Profile) (text bytes : List ℕ) (program : ProgramTree) (before : List ProcedureTree) (export : ProcedureTree) (image : Fields) (args : List Arg) (given : ℕ) (seen : List Observation) (stop : Stop) (end : State)
+        → Builds optimisation profile text bytes program before export image → AreWithin (params_of image) args
         → RunsFor given image args seen stop end → IsRightSoFar program image args given stop end }
-    ensures shown { (profile : Profile) (text bytes : List ℕ) (program : ProgramTree) (before : List ProcedureTree) (export : ProcedureTree) (image : Fields) (one other : List Arg) (given : ℕ) (seen seen' : List Observation) (stop stop' : Stop) (end end' : State)
-        → Builds profile text bytes program before export image → Agree (params_of image) one other
+    ensures shown { (optimisation : Optimisation) (profile : Profile) (text bytes : List ℕ) (program : ProgramTree) (before : List ProcedureTree) (export : ProcedureTree) (image : Fields) (one other : List Arg) (given : ℕ) (seen seen' : List Observation) (stop stop' : Stop) (end end' : State)
+        → Builds optimisation profile text bytes program before export image → Agree (params_of image) one other
         → RunsFor given image one seen stop end → RunsFor given image other seen' stop' end' → seen ≡ seen' }
 {
     one_answer_for_a_text();

@@ -12,10 +12,13 @@ mod fault;
 mod judging;
 mod laws;
 mod loading;
+mod optimisation;
 mod reading;
 mod results;
 
-pub use building::{accepted_or_refused, build, build_as, each_text_is_judged, one_refusal};
+pub use building::{
+    accepted_or_refused, build, build_as, build_with, each_text_is_judged, one_refusal,
+};
 pub use checking::{first_fault, first_fault_by};
 pub use comparing::pair;
 pub use executing::execute;
@@ -27,5 +30,6 @@ pub use laws::{
     texts_are_compiled,
 };
 pub use loading::{CODE_BASE, FRAME_BASE, code, frame, load, params, put_argument, put_arguments};
+pub use optimisation::Optimisation;
 pub use reading::read_args;
 pub use results::{ResultSpace, outcome, result_space};

@@ -2,14 +2,14 @@ use Rattle.std.proofs.Common.{◌≡◌, inl, length, subst, ap, ◌∙◌}
 use Rattle.std.proofs.lemmas.Result.{err_from_is_err_and, IfOk-weaker, IfErr-weaker}
 use Rattle.branch_removal.specs.Exact.{straight_of}
 use Rattle.branch_removal.specs.Removed.{IsRemoved}
-use Rattle.codegen.specs.Exact.{fields_of}
 use Rattle.inline.specs.Flat.{FlatProgram}
+use Rattle.inline.specs.Numbering.{flattened}
 use Rattle.intervals.specs.Ranged.{RangedProgram}
 use Rattle.intervals.specs.Ranges.{range_violations}
 use Rattle.intervals.specs.Work.{ranged, work_violations}
 use Rattle.language.specs.Tree.{program_tree}
 use Rattle.hepurita.specs.Built.{fine}
-use Rattle.hepurita.specs.Exact.{image_for}
+use Rattle.hepurita.specs.Exact.{code_for, image_for}
 use Rattle.hepurita.proofs.BuiltLemmas.{refusal_of_ranges}
 use Rattle.hepurita.proofs.GrammaticalExports.{grammatical_export, same_violations}
 use Rattle.hepurita.proofs.OneImage.{ok_both}
@@ -27,7 +27,7 @@ returns-in_err-straight-clause-refused c =
     rw (p.1, p.2) (inl c.in_err-straight.ensures.memory)
 
 pub returns-clause-refused : goal.returns-clause-refused
-returns-clause-refused c = IfErr-weaker c.generate.result _ _ (λ refusal none. inl none) c.generate.ensures.memory
+returns-clause-refused c = IfErr-weaker c.code_for.result _ _ (λ refusal none. inl none) c.code_for.ensures.memory
 
 pub returns-clause-accepted : goal.returns-clause-accepted
 unfolding image_for
@@ -40,5 +40,5 @@ returns-clause-accepted c =
     let in_time = ap (λ vs. length vs) one ∙ subst (λ (f : FlatProgram). length (work_violations f) ≡ 0) made.3 c.in_ok-ranged.ensures.worked in
     let removed = subst (λ (r : RangedProgram). IsRemoved r c.in_ok-straight.straight) is c.in_ok-straight.ensures.removed in
     let straight = c.in_ok-straight.ensures.exact ∙ ap straight_of is in
-    IfOk-weaker c.generate.result _ _ (λ code both. (made.0, made.1, fine made.2 in_range in_time, (c.in_ok-straight.straight, removed, both.0), both.1 ∙ ap fields_of straight))
-    (ok_both c.generate.result _ _ c.generate.ensures.generated c.generate.ensures.exact)
+    IfOk-weaker c.code_for.result _ _ (λ code both. (made.0, made.1, fine made.2 in_range in_time, (both.0.source, both.0.stands (ranged (flattened c.args.profile made.0 made.1)) removed, both.0.generated), both.1 ∙ ap (code_for c.args.optimisation) straight))
+    (ok_both c.code_for.result _ _ c.code_for.ensures.generated c.code_for.ensures.exact)

@@ -6,7 +6,7 @@ use Rattle.hepurita.proofs.BaseLemmas.{bases_of}
 use Rattle.hepurita.proofs.OneImage.{ok_both}
 use Rattle.hepurita.proofs.TheoremLemmas.{judged_compiled}
 use Rattle.hepurita.proofs.Compiler.{observed_as}
-use Rattle.hepurita.proofs.building.build_as.Goals as goal
+use Rattle.hepurita.proofs.building.build_with.Goals as goal
 
 pub returns-in_err-program-clause-refused : goal.returns-in_err-program-clause-refused
 returns-in_err-program-clause-refused c =
