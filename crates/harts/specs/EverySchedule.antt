@@ -7,6 +7,7 @@ use Rattle.codegen.specs.Loaded.{params_of, results_in}
 use Rattle.harts.specs.SideBySide.{frame_base_of, Job, loaded_alone, member_of}
 use Rattle.hepurita.specs.Built.{IsBuilt}
 use Rattle.hepurita.specs.Compiled.{Means}
+use Rattle.hepurita.specs.declared.optimisation.Optimisation.{Optimisation}
 use Rattle.image.specs.Reading.{Spells}
 use Rattle.language.specs.Tree.{ProgramTree}
 use Rattle.word.specs.declared.profile.Profile.{Profile}
@@ -16,12 +17,13 @@ use Rattle.rv_machine.specs.declared.hart_recording.HartObservation.{HartObserva
 use Rattle.rv_machine.specs.declared.observation.Observation.{Observation}
 use Rattle.rv_machine.specs.declared.stops.Stop.TheVariants.{Ecall}
 
--- the image of an accepted text, for some observer, with arguments within its parameter types
+-- the image of an accepted text, plain or optimised, for some observer, with arguments within its parameter types
 pub record IsFromText (job : Job) : Type 0 where
+  pub optimisation : Optimisation
   pub profile : Profile
   pub text : List ℕ
   pub bytes : List ℕ
-  pub built : IsBuilt profile text bytes
+  pub built : IsBuilt optimisation profile text bytes
   pub spelled : Spells bytes job.image
   pub within : AreWithin (params_of job.image) job.args
 

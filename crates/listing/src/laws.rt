@@ -4,6 +4,7 @@ ghost use Rattle.std.specs.Prelude.{ℕ, ◌≡◌, ◌≢◌, List, ◌++◌, R
 ghost use Rattle.arguments.specs.Agreement.{Agree};
 ghost use Rattle.codegen.specs.Loaded.{params_of};
 ghost use Rattle.hepurita.specs.Answers.{Builds};
+ghost use Rattle.hepurita.specs.declared.optimisation.Optimisation.{Optimisation};
 ghost use Rattle.image_fields.specs.Fields.{Fields};
 ghost use Rattle.language.specs.Tree.{ProcedureTree, ProgramTree};
 ghost use Rattle.language.specs.declared.values.Arg.{Arg};
@@ -30,11 +31,11 @@ pub fn leaks_agree()
         → (rest : List ℕ) × (whole ≡ part ++ rest) }
 {}
 
-/// What goes out shows only what is public. Of the image of an accepted text, on two lists of arguments that are equal where they
+/// What goes out shows only what is public. Of the image of an accepted text, plain or optimised, on two lists of arguments that are equal where they
 /// are public, the listings are one list of bytes, and the stop is `Ecall`.
 pub fn listings_show_what_is_public()
-    ensures { (profile : Profile) (text bytes : List ℕ) (program : ProgramTree) (before : List ProcedureTree) (export : ProcedureTree) (image : Fields) (one other : List Arg) (stop stop' : Stop) (listed listed' : List ℕ)
-        → Builds profile text bytes program before export image → Agree (params_of image) one other
+    ensures { (optimisation : Optimisation) (profile : Profile) (text bytes : List ℕ) (program : ProgramTree) (before : List ProcedureTree) (export : ProcedureTree) (image : Fields) (one other : List Arg) (stop stop' : Stop) (listed listed' : List ℕ)
+        → Builds optimisation profile text bytes program before export image → Agree (params_of image) one other
         → IsLeak image one stop listed → IsLeak image other stop' listed'
         → (listed ≡ listed') × (stop ≡ Stop.Ecall) × (stop' ≡ Stop.Ecall) }
 {

@@ -9,16 +9,16 @@ ghost use Rattle.rv_machine.specs.declared.observation.Observation.{Observation}
 ghost use Rattle.language.specs.declared.refusal.Refusal.{Refusal};
 
 use crate::fault::Fault;
-use hepurita::{RunFault, build, execute, pair};
+use hepurita::{Optimisation, RunFault, build, execute, pair};
 use image::Image;
 use language::{Arg, Args, Outcome, Profile};
 use rv_machine::ListRecorder;
 use std::alloc::Global;
 use streams::{ByteSink, put_all};
 
-/// The bytes of the image of an accepted text.
+/// The bytes of the plain image of an accepted text.
 pub fn bytes_of(alloc: Global, text: &str) -> Result<Vec<u8>, Fault>
-    ensures accepted { IfOk result (λ bytes. IsBuilt Profile.P1 text.now bytes.items) }
+    ensures accepted { IfOk result (λ bytes. IsBuilt Optimisation.Off Profile.P1 text.now bytes.items) }
     ensures refused { IfErr result (λ given. (refusal : Refusal)
         × (given ≡ Fault.Build refusal.rule refusal.name) × IsRefusal (Judges Profile.P1 text.now) refusal) }
 {

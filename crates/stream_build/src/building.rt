@@ -9,12 +9,12 @@ ghost use Rattle.stream_build.specs.Faults.{IsText, IsFaultOf};
 
 use crate::fault::BuildFault;
 use crate::reading::read_text;
-use hepurita::build_as;
+use hepurita::{Optimisation, build_as};
 use language::{Profile, Refusal};
 use std::alloc::Global;
 use streams::{Sink, Source, put_all};
 
-/// The bytes of the image of the text that a source hands out, for an observer of this profile, or the first
+/// The bytes of the plain image of the text that a source hands out, for an observer of this profile, or the first
 /// fault: too long a text, one that is not UTF-8, then what `build_as` refuses. For whoever opens a sink for
 /// accepted texts alone.
 pub fn build_source_as<R: Source>(
@@ -22,7 +22,7 @@ pub fn build_source_as<R: Source>(
     source: &mut R,
     profile: Profile,
 ) -> Result<Vec<u8>, BuildFault<Refusal>>
-    ensures built { IsTrue R.TELLS → IfOk result (λ bytes. IsBuilt profile (R.coming source.old) bytes.items) }
+    ensures built { IsTrue R.TELLS → IfOk result (λ bytes. IsBuilt Optimisation.Off profile (R.coming source.old) bytes.items) }
     ensures text { IsTrue R.TELLS → OnOk result (IsText (R.coming source.old)) }
     ensures fault { IsTrue R.TELLS → IfErr result (IsFaultOf profile (R.coming source.old)) }
     ensures unwritten { result ≢ Err BuildFault.Write }
@@ -39,7 +39,7 @@ pub fn build_source<R: Source>(
     alloc: Global,
     source: &mut R,
 ) -> Result<Vec<u8>, BuildFault<Refusal>>
-    ensures built { IsTrue R.TELLS → IfOk result (λ bytes. IsBuilt Profile.P1 (R.coming source.old) bytes.items) }
+    ensures built { IsTrue R.TELLS → IfOk result (λ bytes. IsBuilt Optimisation.Off Profile.P1 (R.coming source.old) bytes.items) }
     ensures text { IsTrue R.TELLS → OnOk result (IsText (R.coming source.old)) }
     ensures fault { IsTrue R.TELLS → IfErr result (IsFaultOf Profile.P1 (R.coming source.old)) }
     ensures unwritten { result ≢ Err BuildFault.Write }
@@ -50,8 +50,8 @@ pub fn build_source<R: Source>(
     build_source_as(alloc, source, Profile::P1)
 }
 
-/// Compiles the text that a source hands out, for an observer of this profile, and hands its image to a sink once
-/// that is whole. The text is read to its end, or until it is too long. No failed call is tried again.
+/// Compiles the text that a source hands out, for an observer of this profile, and hands its plain image to a sink
+/// once that is whole. The text is read to its end, or until it is too long. No failed call is tried again.
 pub fn build_stream_as<R: Source, W: Sink>(
     alloc: Global,
     source: &mut R,
@@ -59,9 +59,9 @@ pub fn build_stream_as<R: Source, W: Sink>(
     profile: Profile,
 ) -> Result<(), BuildFault<Refusal>>
     ensures written { IsTrue R.TELLS → IsTrue W.TELLS
-        → OnOk result (Writes (IsBuilt profile (R.coming source.old)) (W.taken sink.old) (W.taken sink.new)) }
+        → OnOk result (Writes (IsBuilt Optimisation.Off profile (R.coming source.old)) (W.taken sink.old) (W.taken sink.new)) }
     ensures beginning { IsTrue R.TELLS → IsTrue W.TELLS → IsErrOf result BuildFault.Write
-        → WritesPart (IsBuilt profile (R.coming source.old)) (W.taken sink.old) (W.taken sink.new) }
+        → WritesPart (IsBuilt Optimisation.Off profile (R.coming source.old)) (W.taken sink.old) (W.taken sink.new) }
     ensures untouched { IfErr result (λ fault. fault ≢ BuildFault.Write → sink.new ≡ sink.old) }
     ensures text { IsTrue R.TELLS → OnOk result (IsText (R.coming source.old)) }
     ensures fault { IsTrue R.TELLS → IfErr result (IsFaultOf profile (R.coming source.old)) }
@@ -85,9 +85,9 @@ pub fn build_stream<R: Source, W: Sink>(
     sink: &mut W,
 ) -> Result<(), BuildFault<Refusal>>
     ensures written { IsTrue R.TELLS → IsTrue W.TELLS
-        → OnOk result (Writes (IsBuilt Profile.P1 (R.coming source.old)) (W.taken sink.old) (W.taken sink.new)) }
+        → OnOk result (Writes (IsBuilt Optimisation.Off Profile.P1 (R.coming source.old)) (W.taken sink.old) (W.taken sink.new)) }
     ensures beginning { IsTrue R.TELLS → IsTrue W.TELLS → IsErrOf result BuildFault.Write
-        → WritesPart (IsBuilt Profile.P1 (R.coming source.old)) (W.taken sink.old) (W.taken sink.new) }
+        → WritesPart (IsBuilt Optimisation.Off Profile.P1 (R.coming source.old)) (W.taken sink.old) (W.taken sink.new) }
     ensures untouched { IfErr result (λ fault. fault ≢ BuildFault.Write → sink.new ≡ sink.old) }
     ensures text { IsTrue R.TELLS → OnOk result (IsText (R.coming source.old)) }
     ensures fault { IsTrue R.TELLS → IfErr result (IsFaultOf Profile.P1 (R.coming source.old)) }

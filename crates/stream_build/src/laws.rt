@@ -2,20 +2,21 @@
 
 ghost use Rattle.std.specs.Prelude.{◌≡◌, ℕ, List, ◌++◌};
 ghost use Rattle.hepurita.specs.Built.{IsBuilt};
+ghost use Rattle.hepurita.specs.declared.optimisation.Optimisation.{Optimisation};
 ghost use Rattle.streams.specs.Streams.{GainsPart, Writes, WritesPart};
 ghost use Rattle.word.specs.declared.profile.Profile.{Profile};
 
 use hepurita::builds_agree;
 
-/// What `build_stream_as` writes for one text and one observer is one list of bytes, those that `build_as` answers, and where a
-/// call of the sink failed it is a beginning of these.
+/// What is written of the image of one text, plain or optimised, for one observer is one list of bytes, those that `build_with`
+/// answers, and where a call of the sink failed it is a beginning of these. `build_stream_as` writes the plain image.
 pub fn streams_agree()
-    ensures written { (profile : Profile) (text before one other : List ℕ)
-        → Writes (IsBuilt profile text) before one → Writes (IsBuilt profile text) before other → one ≡ other }
-    ensures answered { (profile : Profile) (text bytes before after : List ℕ)
-        → IsBuilt profile text bytes → Writes (IsBuilt profile text) before after → after ≡ before ++ bytes }
-    ensures begun { (profile : Profile) (text bytes before after : List ℕ)
-        → IsBuilt profile text bytes → WritesPart (IsBuilt profile text) before after → GainsPart before after bytes }
+    ensures written { (optimisation : Optimisation) (profile : Profile) (text before one other : List ℕ)
+        → Writes (IsBuilt optimisation profile text) before one → Writes (IsBuilt optimisation profile text) before other → one ≡ other }
+    ensures answered { (optimisation : Optimisation) (profile : Profile) (text bytes before after : List ℕ)
+        → IsBuilt optimisation profile text bytes → Writes (IsBuilt optimisation profile text) before after → after ≡ before ++ bytes }
+    ensures begun { (optimisation : Optimisation) (profile : Profile) (text bytes before after : List ℕ)
+        → IsBuilt optimisation profile text bytes → WritesPart (IsBuilt optimisation profile text) before after → GainsPart before after bytes }
 {
     builds_agree();
 }
