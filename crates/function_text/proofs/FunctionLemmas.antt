@@ -7,6 +7,7 @@ use Rattle.function_text.specs.declared.fault.FunctionFault.{FunctionFault}
 use Rattle.function_text.specs.declared.fault.FunctionFault.TheVariants.{Text, Name}
 use Rattle.function_text.specs.private.OfExport.{IsOfExport, IsTaken}
 use Rattle.hepurita.specs.Built.{IsBuilt, Judges, accepts, fine, readable}
+use Rattle.hepurita.specs.declared.optimisation.Optimisation.{Optimisation}
 use Rattle.language.specs.Signature.{exported}
 use Rattle.language.specs.Tree.{ProcedureTree, ProgramTree}
 use Rattle.language.specs.declared.refusal.Refusal.{Refusal}
@@ -28,7 +29,7 @@ pub same_export : (before before' : List ProcedureTree) (export export' : Proced
 same_export before before' export export' found one other =
     ap (λ (p : List ProcedureTree × ProcedureTree). p.1) (same_Some (before, export) (before', export') (sym one ∙ other))
 
-module _ (profile : Profile) (text bytes : List ℕ) (built : IsBuilt profile text bytes) (export : ProcedureTree) (same : built.export ≡ export) where
+module _ (optimisation : Optimisation) (profile : Profile) (text bytes : List ℕ) (built : IsBuilt optimisation profile text bytes) (export : ProcedureTree) (same : built.export ≡ export) where
   -- its name is taken
   pub taken : (place : Place) → IsTaken export place → HasTakenName profile text place
   taken place is = record {
@@ -41,7 +42,7 @@ module _ (profile : Profile) (text bytes : List ℕ) (built : IsBuilt profile te
   }
 
   -- its name is free
-  pub made : (parts : Parts) → IsOfExport export bytes parts → IsFunctionOf profile text parts
+  pub made : (parts : Parts) → IsOfExport export bytes parts → IsFunctionOf optimisation profile text parts
   made parts is = record {
     bytes = bytes;
     program = built.program;
@@ -59,8 +60,9 @@ module _ (profile : Profile) (text bytes : List ℕ) (built : IsBuilt profile te
   fault_of (Name place) is = taken place is
 
 -- the export that a text is built with is the one of its program
-pub built_export : OneAnswer → (profile : Profile) (text bytes : List ℕ) (program : ProgramTree) (before : List ProcedureTree) (export : ProcedureTree) (built : IsBuilt profile text bytes)
+pub built_export : OneAnswer → (optimisation : Optimisation) (profile : Profile) (text bytes : List ℕ) (program : ProgramTree) (before : List ProcedureTree) (export : ProcedureTree)
+    → (built : IsBuilt optimisation profile text bytes)
     → Reads text (accepted program) → exported [] program.procedures ≡ Some (before, export) → built.export ≡ export
-built_export one profile text bytes program before export built reads found =
+built_export one optimisation profile text bytes program before export built reads found =
     same_export built.before before built.export export (exported [] program.procedures)
     (export_in one profile text program built.program built.before built.export reads built.judged) found

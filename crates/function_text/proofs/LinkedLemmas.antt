@@ -5,6 +5,6 @@ use Rattle.linked_calls.specs.Callable.{CallsAreLinked}
 use Rattle.syntax.specs.Reading.{OneAnswer}
 
 pub functions_are_linked : CallsAreLinked → OneAnswer → FunctionsAreLinked
-functions_are_linked calls answer profile text parts of code site is =
-    let fit = fits answer profile text of.bytes of.program of.before of.export parts.image of.builds in
+functions_are_linked calls answer optimisation profile text parts of code site is =
+    let fit = fits answer optimisation profile text of.bytes of.program of.before of.export parts.image of.builds in
     calls of.program of.before of.export parts.image fit.compiled of.builds.allowed code site is

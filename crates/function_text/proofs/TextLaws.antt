@@ -6,6 +6,7 @@ use Rattle.function_text.specs.Functions.{Named, Parts, IsFunctionOf, written_pa
 use Rattle.function_text.specs.HeaderText.{header_text}
 use Rattle.function_text.specs.Texts.{AreTextsOf}
 use Rattle.function_text.proofs.Below.{one_export, one_build}
+use Rattle.hepurita.specs.declared.optimisation.Optimisation.{Optimisation}
 use Rattle.image.specs.Reading.{Spells}
 use Rattle.image_fields.specs.Fields.{Fields}
 use Rattle.language.specs.Tree.{ProcedureTree}
@@ -25,10 +26,11 @@ same_fields bytes f g one other =
     let both = sym one ∙ other in
     cc
 
-pub one_function : OneAnswer → (profile : Profile) (text : List ℕ) (one other : Parts) → IsFunctionOf profile text one → IsFunctionOf profile text other → one ≡ other
-one_function answer profile text one other a b =
+pub one_function : OneAnswer → (optimisation : Optimisation) (profile : Profile) (text : List ℕ) (one other : Parts)
+    → IsFunctionOf optimisation profile text one → IsFunctionOf optimisation profile text other → one ≡ other
+one_function answer optimisation profile text one other a b =
     let same = one_export profile answer text a.program b.program a.before b.before a.export b.export a.builds.judged b.builds.judged in
-    let bytes = one_build answer profile text a.bytes b.bytes a.builds.built b.builds.built in
+    let bytes = one_build answer optimisation profile text a.bytes b.bytes a.builds.built b.builds.built in
     let spelled = subst (λ (bytes : List ℕ). Spells bytes one.image) bytes a.builds.spelled in
     same_parts one.name other.name one.parameters other.parameters one.image other.image
     (a.name ∙ ap (λ (p : ProcedureTree). p.name) same.2 ∙ sym b.name)
@@ -56,10 +58,10 @@ module _ (differ : (i j : Instr) → IsInstr i → IsInstr j → word_of i ≡ w
       ++ sections_lines f.image (leave_sections f.image) ++ tail_lines f) (same_lines a.listed b.listed)
       ∙ sym b.whole
 
-  pub one_pair : OneAnswer → (profile : Profile) (text assembler header assembler' header' : List ℕ)
-      → AreTextsOf profile text assembler header → AreTextsOf profile text assembler' header' → (assembler ≡ assembler') × (header ≡ header')
-  one_pair answer profile text assembler header assembler' header' a b =
-      let same = one_function answer profile text a.parts b.parts a.function b.function in (
+  pub one_pair : OneAnswer → (optimisation : Optimisation) (profile : Profile) (text assembler header assembler' header' : List ℕ)
+      → AreTextsOf optimisation profile text assembler header → AreTextsOf optimisation profile text assembler' header' → (assembler ≡ assembler') × (header ≡ header')
+  one_pair answer optimisation profile text assembler header assembler' header' a b =
+      let same = one_function answer optimisation profile text a.parts b.parts a.function b.function in (
         one_text b.parts assembler assembler' (subst (λ (f : Parts). IsAssemblerText f assembler) same a.assembled) b.assembled,
         a.declared ∙ ap header_text same ∙ sym b.declared,
       )

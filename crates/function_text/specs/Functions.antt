@@ -8,6 +8,7 @@ use Rattle.function_text.specs.declared.function.Function.{Function}
 use Rattle.function_text.specs.declared.function.NamedParam.{NamedParam}
 use Rattle.hepurita.specs.Answers.{Builds}
 use Rattle.hepurita.specs.Built.{Judges, accepts, IsRefusal}
+use Rattle.hepurita.specs.declared.optimisation.Optimisation.{Optimisation}
 use Rattle.image_fields.specs.Fields.{Fields}
 use Rattle.language.specs.Signature.{param_of}
 use Rattle.language.specs.Tree.{ParameterTree, ProcedureTree, ProgramTree}
@@ -38,13 +39,13 @@ parts_of f = record { name = f.name.now; parameters = map named f.parameters.ite
 abbrev pub written_parameter : List ℕ → ParameterTree → Named
 written_parameter function p = record { name = written_name function p.name; param = param_of p }
 
--- the function of a text that is accepted for an observer: its image's code under the names of its export
-pub record IsFunctionOf (profile : Profile) (text : List ℕ) (parts : Parts) : Type 0 where
+-- the function of a text that is accepted for an observer: the code of its plain or its optimised image, under the names of its export
+pub record IsFunctionOf (optimisation : Optimisation) (profile : Profile) (text : List ℕ) (parts : Parts) : Type 0 where
   pub bytes : List ℕ
   pub program : ProgramTree
   pub before : List ProcedureTree
   pub export : ProcedureTree
-  pub builds : Builds profile text bytes program before export parts.image
+  pub builds : Builds optimisation profile text bytes program before export parts.image
   pub name : parts.name ≡ export.name
   pub free : is_taken_name export.name ≡ false
   pub parameters : parts.parameters ≡ map (written_parameter export.name) export.parameters

@@ -3,10 +3,11 @@ use Rattle.std.specs.Prelude.{◌≡◌, ℕ, List}
 use Rattle.function_text.specs.AssemblerText.{IsAssemblerText}
 use Rattle.function_text.specs.Functions.{Parts, IsFunctionOf}
 use Rattle.function_text.specs.HeaderText.{header_text}
+use Rattle.hepurita.specs.declared.optimisation.Optimisation.{Optimisation}
 use Rattle.word.specs.declared.profile.Profile.{Profile}
 
-pub record AreTextsOf (profile : Profile) (text assembler header : List ℕ) : Type 0 where
+pub record AreTextsOf (optimisation : Optimisation) (profile : Profile) (text assembler header : List ℕ) : Type 0 where
   pub parts : Parts
-  pub function : IsFunctionOf profile text parts
+  pub function : IsFunctionOf optimisation profile text parts
   pub assembled : IsAssemblerText parts assembler
   pub declared : header ≡ header_text parts

@@ -12,7 +12,7 @@ ghost use Rattle.language.specs.WantOfMemory.{IsWantOfMemory};
 
 use crate::fault::FunctionFault;
 use crate::naming::{Macros, is_taken_name, macros_of, written_name};
-use hepurita::build_as;
+use hepurita::{Optimisation, build_with};
 use image::{Image, ImageFault, read};
 use image_fields::ImageFields;
 use language::{Param, Parameter, Procedure, Profile, Program, Refusal};
@@ -131,17 +131,18 @@ fn of_export<'a>(
     Ok(named_function(alloc, export, bytes)?)
 }
 
-/// The function of a text that is accepted for an observer of this profile. A text that is not is refused as by
-/// `build_as`, before its names are looked at; then an export's name that C, C++ or an assembler cannot take.
+/// The function of a text that is accepted for an observer of this profile, with plain or optimised code. A text that is not
+/// is refused as by `build_with`, before its names are looked at; then an export's name that C, C++ or an assembler cannot take.
 pub fn function_of<'a>(
     alloc: Global,
     text: &'a str,
     profile: Profile,
+    optimisation: Optimisation,
 ) -> Result<Function<'a>, FunctionFault<Refusal>>
-    ensures made { IfOk result (λ function. IsFunctionOf profile text.now (parts_of function)) }
+    ensures made { IfOk result (λ function. IsFunctionOf optimisation profile text.now (parts_of function)) }
     ensures fault { IfErr result (IsFaultOf profile text.now) }
 {
-    let bytes = build_as(alloc, text, profile)?;
+    let bytes = build_with(alloc, text, profile, optimisation)?;
     let program = parse(alloc, text)?;
     one_answer_for_a_text();
     of_export(alloc, export_of(&program), bytes.as_slice())

@@ -9,6 +9,7 @@ use crate::assembler::assembler_text;
 use crate::fault::FunctionFault;
 use crate::function::function_of;
 use crate::header::header_text;
+use hepurita::Optimisation;
 use language::{Profile, Refusal};
 use std::alloc::Global;
 
@@ -21,17 +22,18 @@ pub struct Texts {
     pub header: String,
 }
 
-/// Both texts of the function of a text, for an observer of this profile. A text that is not accepted is refused as by
-/// `build_as`, then an export's name that C, C++ or an assembler cannot take.
+/// Both texts of the function of a text, for an observer of this profile, with plain or optimised code. A text that is not
+/// accepted is refused as by `build_with`, then an export's name that C, C++ or an assembler cannot take.
 pub fn texts_of(
     alloc: Global,
     text: &str,
     profile: Profile,
+    optimisation: Optimisation,
 ) -> Result<Texts, FunctionFault<Refusal>>
-    ensures made { IfOk result (λ texts. AreTextsOf profile text.now (string_bytes texts.assembler) (string_bytes texts.header)) }
+    ensures made { IfOk result (λ texts. AreTextsOf optimisation profile text.now (string_bytes texts.assembler) (string_bytes texts.header)) }
     ensures fault { IfErr result (IsFaultOf profile text.now) }
 {
-    let function = function_of(alloc, text, profile)?;
+    let function = function_of(alloc, text, profile, optimisation)?;
     let assembler = assembler_text(alloc, &function)?;
     let header = header_text(alloc, &function)?;
     Ok(Texts { assembler, header })

@@ -1,4 +1,5 @@
 use function_text::{assembler_text, function_of, header_text, texts_of};
+use hepurita::Optimisation;
 use language::Profile;
 use std::test::Fail;
 
@@ -6,7 +7,7 @@ const ADD_ONE: &str = "export secret uint32 add_one(secret uint32 number) { retu
 
 #[test]
 fn writes_the_texts_of_a_function(rt: HostRuntime) -> Result<(), Fail> {
-    match function_of(rt.alloc(), ADD_ONE, Profile::P1) {
+    match function_of(rt.alloc(), ADD_ONE, Profile::P1, Optimisation::Off) {
         Ok(function) => {
             let text = assembler_text(rt.alloc(), &function)?;
             assert!(rt; text.as_str().contains("  # addi x2, x2, -80\n"));
@@ -21,7 +22,7 @@ fn writes_the_texts_of_a_function(rt: HostRuntime) -> Result<(), Fail> {
 #[test]
 fn refuses_the_name_of_a_register(rt: HostRuntime) -> Result<(), Fail> {
     let text = "export public uint32 a0(public uint32 n) { return n; }";
-    match function_of(rt.alloc(), text, Profile::P1) {
+    match function_of(rt.alloc(), text, Profile::P1, Optimisation::Off) {
         Ok(_) => assert!(rt; false),
         Err(fault) => {
             let line = format!(in rt.alloc(); "{fault}")?;
@@ -35,7 +36,7 @@ fn refuses_the_name_of_a_register(rt: HostRuntime) -> Result<(), Fail> {
 fn keeps_names_of_parameters_apart(rt: HostRuntime) -> Result<(), Fail> {
     let text =
         "export void f(secret uint8[2] int, secret mut bool[3] int_, public uint16 n) { int_[0] = n == 0u16; }";
-    match texts_of(rt.alloc(), text, Profile::P2) {
+    match texts_of(rt.alloc(), text, Profile::P2, Optimisation::On) {
         Ok(texts) => {
             let expected =
                 "void f(\n    const uint8_t int_[2] /* secret */,\n    bool int__[3] /* secret */,\n    uint16_t n /* public */);\n";

@@ -26,10 +26,10 @@ returns-clause-made c =
     let built = c.in_ok-bytes.ensures.accepted in
     let bytes = c.in_ok-bytes.bytes.items in
     let export = procedure_tree c.export_of.result.now in
-    let same = built_export c.one_answer_for_a_text.ensures c.args.profile c.args.text.now bytes (program_tree c.in_ok-program.program) c.export_of.ensures.0 export built
+    let same = built_export c.one_answer_for_a_text.ensures c.args.optimisation c.args.profile c.args.text.now bytes (program_tree c.in_ok-program.program) c.export_of.ensures.0 export built
     c.in_ok-program.ensures.accepted c.export_of.ensures.1 in
     IfOk-weaker c.of_export.result _ _
-    (λ f is. made c.args.profile c.args.text.now bytes built export same (parts_of f)
+    (λ f is. made c.args.optimisation c.args.profile c.args.text.now bytes built export same (parts_of f)
     (subst (λ (read : List ℕ). IsOfExport export read (parts_of f)) c.as_slice.ensures.value is))
     c.of_export.ensures.made
 
@@ -38,6 +38,6 @@ returns-clause-fault c =
     let built = c.in_ok-bytes.ensures.accepted in
     let bytes = c.in_ok-bytes.bytes.items in
     let export = procedure_tree c.export_of.result.now in
-    let same = built_export c.one_answer_for_a_text.ensures c.args.profile c.args.text.now bytes (program_tree c.in_ok-program.program) c.export_of.ensures.0 export built
+    let same = built_export c.one_answer_for_a_text.ensures c.args.optimisation c.args.profile c.args.text.now bytes (program_tree c.in_ok-program.program) c.export_of.ensures.0 export built
     c.in_ok-program.ensures.accepted c.export_of.ensures.1 in
-    IfErr-weaker c.of_export.result _ _ (fault_of c.args.profile c.args.text.now bytes built export same) c.of_export.ensures.fault
+    IfErr-weaker c.of_export.result _ _ (fault_of c.args.optimisation c.args.profile c.args.text.now bytes built export same) c.of_export.ensures.fault
