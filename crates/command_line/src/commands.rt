@@ -10,6 +10,8 @@ pub(crate) enum Word {
     Number(&'static str, &'static str),
     /// The observer's profile.
     Profile,
+    /// Whether optimised code is asked for.
+    Optimisation,
     /// A flag that is given or not.
     Flag(&'static str, &'static str),
     /// All further words: arguments of a run.
@@ -59,6 +61,7 @@ pub(crate) static COMMANDS: [CommandRow; 15] = [
                 "Where to write the image; it stays as it was if FILE is refused",
             ),
             Word::Profile,
+            Word::Optimisation,
             Word::Flag("explain", EXPLAIN),
         ],
     },
@@ -79,6 +82,7 @@ pub(crate) static COMMANDS: [CommandRow; 15] = [
                 "Where to write the C header, after ASM; it stays as it was if FILE is refused",
             ),
             Word::Profile,
+            Word::Optimisation,
             Word::Flag("explain", EXPLAIN),
         ],
     },

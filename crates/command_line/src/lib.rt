@@ -2,7 +2,9 @@
 #![tactic(auto)]
 
 mod commands;
-mod syntax;
+mod grammar;
+mod options;
 mod words;
 
+pub use options::CompileOptions;
 pub use words::{NoRequest, Request, parse};

@@ -1,11 +1,13 @@
-ghost use Rattle.std.specs.Prelude.{◌≡◌, codes, map, IfOk, IfSome};
-ghost use Rattle.clap.specs.Matches.{first_value, found_of};
+ghost use Rattle.std.specs.Prelude.{◌≡◌, None, Some, codes, map, IfOk, IfSome};
+ghost use Rattle.clap.specs.Matches.{first_value, found_of, one_text};
 ghost use Rattle.command_line.specs.Words.{is_flag, behind_flags, after_path, arguments_of, profile_named};
 
-use crate::syntax::factc;
+use crate::grammar::factc;
+use crate::options::CompileOptions;
 use clap::error::ErrorKind;
 use clap::{ArgMatches, Error};
 use explanations::{Explanation, explanation};
+use hepurita::Optimisation;
 use std::alloc::Global;
 use word::Profile;
 
@@ -19,8 +21,7 @@ pub enum Request<'a> {
     Build {
         file: &'a str,
         image: &'a str,
-        profile: Profile,
-        explain: bool,
+        options: CompileOptions,
     },
     Stat {
         file: &'a str,
@@ -30,8 +31,7 @@ pub enum Request<'a> {
         file: &'a str,
         assembler: &'a str,
         header: &'a str,
-        profile: Profile,
-        explain: bool,
+        options: CompileOptions,
     },
     Eval {
         file: &'a str,
@@ -131,8 +131,7 @@ fn asked<'a>(alloc: Global, words: &'a [&'a str]) -> Result<Request<'a>, Error>
         Some(("build", build)) => Ok(Request::Build {
             file: text_of(build, "FILE"),
             image: text_of(build, "IMAGE"),
-            profile: profile_of(build),
-            explain: build.get_flag("explain"),
+            options: options_of(build),
         }),
         Some(("stat", stat)) => Ok(Request::Stat {
             file: text_of(stat, "FILE"),
@@ -142,8 +141,7 @@ fn asked<'a>(alloc: Global, words: &'a [&'a str]) -> Result<Request<'a>, Error>
             file: text_of(function, "FILE"),
             assembler: text_of(function, "ASM"),
             header: text_of(function, "HEADER"),
-            profile: profile_of(function),
-            explain: function.get_flag("explain"),
+            options: options_of(function),
         }),
         Some(("eval", eval)) => Ok(Request::Eval {
             file: text_of(eval, "FILE"),
@@ -216,6 +214,27 @@ fn profile_of(matches: &ArgMatches<'_>) -> Profile
     match matches.get_str("profile") {
         Some("2") => Profile::P2,
         _ => Profile::P1,
+    }
+}
+
+/// Optimised code where it is asked for, else plain code.
+fn optimisation_of(matches: &ArgMatches<'_>) -> Optimisation
+    ensures plain { one_text (found_of matches.now) (codes "optimise") ≡ None → result ≡ Optimisation.Off }
+    ensures optimised { one_text (found_of matches.now) (codes "optimise") ≡ Some (codes "true") → result ≡ Optimisation.On }
+{
+    if matches.get_flag("optimise") {
+        Optimisation::On
+    } else {
+        Optimisation::Off
+    }
+}
+
+/// How a source is to be compiled.
+fn options_of(matches: &ArgMatches<'_>) -> CompileOptions {
+    CompileOptions {
+        profile: profile_of(matches),
+        optimisation: optimisation_of(matches),
+        explain: matches.get_flag("explain"),
     }
 }
 

@@ -7,14 +7,15 @@ use Rattle.commands.specs.declared.fault.Fault.{Fault}
 use Rattle.commands.specs.declared.fault.Fault.TheVariants.{Name}
 use Rattle.function_text.specs.Functions.{HasTakenName}
 use Rattle.function_text.specs.Texts.{AreTextsOf}
+use Rattle.hepurita.specs.declared.optimisation.Optimisation.{Optimisation}
 use Rattle.word.specs.declared.place.Place.{Place}
 use Rattle.word.specs.declared.profile.Profile.{Profile}
 
--- the texts are those of the function of the file's text: for an assembler, and the C header
-pub record AreFunctionTexts (profile : Profile) (files : Contents) (path : List ℕ) (assembler header : List ℕ) : Type 0 where
+-- the texts are those of the function of the file's text, plain or optimised: for an assembler, and the C header
+pub record AreFunctionTexts (optimisation : Optimisation) (profile : Profile) (files : Contents) (path : List ℕ) (assembler header : List ℕ) : Type 0 where
   pub text : List ℕ
   pub held : HoldsText files path text
-  pub made : AreTextsOf profile text assembler header
+  pub made : AreTextsOf optimisation profile text assembler header
 
 -- why there is none: the text is not accepted, which is explained or not; or the name of its export is taken
 pub data RefusesFunction (explain : Bool) (profile : Profile) (files : Contents) (path : List ℕ) : Fault → Type 0 where

@@ -8,6 +8,7 @@ use Rattle.commands.specs.declared.fault.Fault.TheVariants.{Text, Explained}
 use Rattle.commands.specs.Unread.{IsOutOfMemory}
 use Rattle.explained_refusals.specs.Explained.{Explains}
 use Rattle.hepurita.specs.Built.{Judges, IsRefusal, IsBuilt, accepts}
+use Rattle.hepurita.specs.declared.optimisation.Optimisation.{Optimisation}
 use Rattle.language.specs.Tree.{ProcedureTree, ProgramTree}
 use Rattle.language.specs.declared.refusal.Refusal.{Refusal}
 use Rattle.source_statistics.specs.SourceText.{SaysCosts}
@@ -42,11 +43,11 @@ pub data IsRefusedSo (explain : Bool) (profile : Profile) (files : Contents) (pa
 abbrev pub IsRefused : Profile → Contents → List ℕ → Fault → Type 0
 IsRefused = IsRefusedSo false
 
--- the bytes are the image of the file's text
-pub record IsImageOf (profile : Profile) (files : Contents) (path : List ℕ) (bytes : List ℕ) : Type 0 where
+-- the bytes are the image of the file's text, plain or optimised
+pub record IsImageOf (optimisation : Optimisation) (profile : Profile) (files : Contents) (path : List ℕ) (bytes : List ℕ) : Type 0 where
   pub text : List ℕ
   pub held : HoldsText files path text
-  pub built : IsBuilt profile text bytes
+  pub built : IsBuilt optimisation profile text bytes
 
 -- the text is what the file's source costs
 pub record SaysStatistics (profile : Profile) (files : Contents) (path : List ℕ) (text : List ℕ) : Type 0 where

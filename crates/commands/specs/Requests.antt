@@ -28,9 +28,9 @@ use Rattle.wrapping.specs.declared.asked.Asked.{Asked}
 -- the text that answers a request, and the exit status, by what files hold
 abbrev pub Answers : Request → Contents → List ℕ → ℕ → Type 0
 Answers (requests.Check file profile explain) files text status = IsAccepted profile files file.now × (text ≡ codes "accepted\n") × (status ≡ 0)
-Answers (requests.Build file image profile explain) files text status = (text ≡ []) × (status ≡ 0)
+Answers (requests.Build file image options) files text status = (text ≡ []) × (status ≡ 0)
 Answers (requests.Stat file profile) files text status = SaysCosts profile files file.now text × (status ≡ 0)
-Answers (requests.Function file assembler header profile explain) files text status = (text ≡ []) × (status ≡ 0)
+Answers (requests.Function file assembler header options) files text status = (text ≡ []) × (status ≡ 0)
 Answers (requests.Eval file arguments explain) files text status = SaysMeaning files file.now (map (λ word. word.now) arguments.now) text × (status ≡ 0)
 Answers (requests.Run image arguments) files text status = SaysRun files image.now (map (λ word. word.now) arguments.now) text × (status ≡ 0)
 Answers (requests.Leak image arguments) files text status = SaysLeak files image.now (map (λ word. word.now) arguments.now) status text
@@ -46,10 +46,10 @@ Answers (requests.Explain explanation) files text status = (text ≡ explanation
 -- what files hold once a request is done: an image or a function's texts that were written, and else what they held
 abbrev pub Leaves : Request → Contents → Contents → Type 0
 Leaves (requests.Check file profile explain) before after = after ≡ before
-Leaves (requests.Build file image profile explain) before after = WritesFile image.now (IsImageOf profile before file.now) before after
+Leaves (requests.Build file image options) before after = WritesFile image.now (IsImageOf options.optimisation options.profile before file.now) before after
 Leaves (requests.Stat file profile) before after = after ≡ before
-Leaves (requests.Function file assembler header profile explain) before after =
-    WritesTwo assembler.now header.now (AreFunctionTexts profile before file.now) before after
+Leaves (requests.Function file assembler header options) before after =
+    WritesTwo assembler.now header.now (AreFunctionTexts options.optimisation options.profile before file.now) before after
 Leaves (requests.Eval file arguments explain) before after = after ≡ before
 Leaves (requests.Run image arguments) before after = after ≡ before
 Leaves (requests.Leak image arguments) before after = after ≡ before
@@ -66,11 +66,11 @@ Leaves (requests.Explain explanation) before after = after ≡ before
 -- why a request is not done, and what files hold then
 abbrev pub Refuses : Request → Contents → Contents → Fault → Type 0
 Refuses (requests.Check file profile explain) before after fault = IsRefusedSo explain profile before file.now fault × (after ≡ before)
-Refuses (requests.Build file image profile explain) before after fault =
-    FailsToWrite image.now (IsImageOf profile before file.now) (IsRefusedSo explain profile before file.now) before after fault
+Refuses (requests.Build file image options) before after fault =
+    FailsToWrite image.now (IsImageOf options.optimisation options.profile before file.now) (IsRefusedSo options.explain options.profile before file.now) before after fault
 Refuses (requests.Stat file profile) before after fault = RefusesCosts profile before file.now fault × (after ≡ before)
-Refuses (requests.Function file assembler header profile explain) before after fault =
-    FailsToWriteTwo assembler.now header.now (AreFunctionTexts profile before file.now) (RefusesFunction explain profile before file.now) before after fault
+Refuses (requests.Function file assembler header options) before after fault =
+    FailsToWriteTwo assembler.now header.now (AreFunctionTexts options.optimisation options.profile before file.now) (RefusesFunction options.explain options.profile before file.now) before after fault
 Refuses (requests.Eval file arguments explain) before after fault = RefusesMeaning explain before file.now (map (λ word. word.now) arguments.now) fault × (after ≡ before)
 Refuses (requests.Run image arguments) before after fault = RefusesRun before image.now (map (λ word. word.now) arguments.now) fault × (after ≡ before)
 Refuses (requests.Leak image arguments) before after fault = RefusesLeak before image.now (map (λ word. word.now) arguments.now) fault × (after ≡ before)

@@ -9,27 +9,26 @@ ghost use Rattle.commands.specs.Written.{IsWriteFault};
 use crate::fault::Fault;
 use crate::files::Files;
 use crate::texts::{refused, text_of_file, write_file};
+use command_line::CompileOptions;
 use function_text::{FunctionFault, Texts, texts_of};
-use language::Profile;
 use std::alloc::Global;
 
-/// The texts of the function that the text of a file is compiled to, for an observer. A refusal of the source is explained
-/// where that is asked for.
+/// The texts of the plain or the optimised function that the text of a file is compiled to, for an observer. A refusal of
+/// the source is explained where that is asked for.
 fn function_texts<'a, F: Files>(
     alloc: Global,
     file: &'a str,
-    profile: Profile,
-    explain: bool,
+    options: CompileOptions,
     files: &F,
 ) -> Result<Texts, Fault<'a>>
-    ensures said { IsTrue F.TELLS → IfOk result (λ texts. AreFunctionTexts profile (F.contents files.now) file.now (string_bytes texts.assembler) (string_bytes texts.header)) }
-    ensures refused { IsTrue F.TELLS → IfErr result (RefusesFunction explain profile (F.contents files.now) file.now) }
+    ensures said { IsTrue F.TELLS → IfOk result (λ texts. AreFunctionTexts options.optimisation options.profile (F.contents files.now) file.now (string_bytes texts.assembler) (string_bytes texts.header)) }
+    ensures refused { IsTrue F.TELLS → IfErr result (RefusesFunction options.explain options.profile (F.contents files.now) file.now) }
 {
     let text = text_of_file(alloc, file, files)?;
-    match texts_of(alloc, text.as_str(), profile) {
+    match texts_of(alloc, text.as_str(), options.profile, options.optimisation) {
         Ok(texts) => Ok(texts),
         Err(FunctionFault::Text(refusal)) => {
-            Err(refused(alloc, text.as_str(), refusal, explain))
+            Err(refused(alloc, text.as_str(), refusal, options.explain))
         }
         Err(FunctionFault::Name(place)) => Err(Fault::Name(place)),
     }
@@ -50,23 +49,22 @@ fn write_both<'a, F: Files>(
     write_file(other, texts.header.as_bytes(), files)
 }
 
-/// Compiles the text of a file, for an observer, to a function that C calls: its text for an assembler is written to one
-/// file, and then its C header to another. Neither is written unless both texts are there. A refusal of the source is
-/// explained where that is asked for.
+/// Compiles the text of a file, for an observer, to a plain or an optimised function that C calls: its text for an assembler
+/// is written to one file, and then its C header to another. Neither is written unless both texts are there. A refusal of
+/// the source is explained where that is asked for.
 pub fn write_function<'a, F: Files>(
     alloc: Global,
     file: &'a str,
     assembler: &'a str,
     header: &'a str,
-    profile: Profile,
-    explain: bool,
+    options: CompileOptions,
     files: &mut F,
 ) -> Result<(), Fault<'a>>
-    ensures said { IsTrue F.TELLS → OnOk result (WritesTwo assembler.now header.now (AreFunctionTexts profile (F.contents files.old) file.now) (F.contents files.old) (F.contents files.new)) }
-    ensures refused { IsTrue F.TELLS → IfErr result (FailsToWriteTwo assembler.now header.now (AreFunctionTexts profile (F.contents files.old) file.now)
-        (RefusesFunction explain profile (F.contents files.old) file.now) (F.contents files.old) (F.contents files.new)) }
+    ensures said { IsTrue F.TELLS → OnOk result (WritesTwo assembler.now header.now (AreFunctionTexts options.optimisation options.profile (F.contents files.old) file.now) (F.contents files.old) (F.contents files.new)) }
+    ensures refused { IsTrue F.TELLS → IfErr result (FailsToWriteTwo assembler.now header.now (AreFunctionTexts options.optimisation options.profile (F.contents files.old) file.now)
+        (RefusesFunction options.explain options.profile (F.contents files.old) file.now) (F.contents files.old) (F.contents files.new)) }
     ensures untouched { IfErr result (λ fault. (IsWriteFault assembler.now fault ⊎ IsWriteFault header.now fault → ⊥) → files.new ≡ files.old) }
 {
-    let texts = function_texts(alloc, file, profile, explain, files)?;
+    let texts = function_texts(alloc, file, options, files)?;
     write_both(assembler, header, &texts, files)
 }

@@ -141,10 +141,9 @@ fn answer<'a, F: Files, O: Sink>(
         Request::Build {
             file,
             image,
-            profile,
-            explain,
+            options,
         } => {
-            build_image(alloc, file, image, profile, explain, files)?;
+            build_image(alloc, file, image, options, files)?;
             Ok(DONE)
         }
         Request::Stat { file, profile } => {
@@ -155,10 +154,9 @@ fn answer<'a, F: Files, O: Sink>(
             file,
             assembler,
             header,
-            profile,
-            explain,
+            options,
         } => {
-            write_function(alloc, file, assembler, header, profile, explain, files)?;
+            write_function(alloc, file, assembler, header, options, files)?;
             Ok(DONE)
         }
         Request::Eval {

@@ -11,8 +11,9 @@ ghost use Rattle.stream_build.specs.Faults as texts;
 
 use crate::fault::{Fault, FileFault};
 use crate::files::Files;
+use command_line::CompileOptions;
 use explained_refusals::explain_refusal;
-use hepurita::{build_as, judge_as};
+use hepurita::{build_with, judge_as};
 use language::{Profile, Refusal};
 use std::alloc::Global;
 use stream_build::{BuildFault, text_of};
@@ -104,24 +105,23 @@ pub fn check_text<'a, F: Files>(
     }
 }
 
-/// Compiles the source of one file, for an observer, to the image of another, which is written only once the
-/// source was accepted. A refusal is explained where that is asked for.
+/// Compiles the source of one file, for an observer, to the plain or the optimised image of another, which is written only
+/// once the source was accepted. A refusal is explained where that is asked for; it does not depend on the optimisation.
 pub fn build_image<'a, F: Files>(
     alloc: Global,
     file: &'a str,
     image: &'a str,
-    profile: Profile,
-    explain: bool,
+    options: CompileOptions,
     files: &mut F,
 ) -> Result<(), Fault<'a>>
-    ensures said { IsTrue F.TELLS → OnOk result (WritesFile image.now (IsImageOf profile (F.contents files.old) file.now) (F.contents files.old) (F.contents files.new)) }
-    ensures refused { IsTrue F.TELLS → IfErr result (FailsToWrite image.now (IsImageOf profile (F.contents files.old) file.now)
-        (IsRefusedSo explain profile (F.contents files.old) file.now) (F.contents files.old) (F.contents files.new)) }
+    ensures said { IsTrue F.TELLS → OnOk result (WritesFile image.now (IsImageOf options.optimisation options.profile (F.contents files.old) file.now) (F.contents files.old) (F.contents files.new)) }
+    ensures refused { IsTrue F.TELLS → IfErr result (FailsToWrite image.now (IsImageOf options.optimisation options.profile (F.contents files.old) file.now)
+        (IsRefusedSo options.explain options.profile (F.contents files.old) file.now) (F.contents files.old) (F.contents files.new)) }
     ensures untouched { IfErr result (λ fault. (IsWriteFault image.now fault → ⊥) → files.new ≡ files.old) }
 {
     let text = text_of_file(alloc, file, files)?;
-    match build_as(alloc, text.as_str(), profile) {
+    match build_with(alloc, text.as_str(), options.profile, options.optimisation) {
         Ok(built) => write_file(image, built.as_slice(), files),
-        Err(refusal) => Err(refused(alloc, text.as_str(), refusal, explain)),
+        Err(refusal) => Err(refused(alloc, text.as_str(), refusal, options.explain)),
     }
 }

@@ -11,7 +11,7 @@ pub returns-in_err-texts-clause-refused : goal.returns-in_err-texts-clause-refus
 returns-in_err-texts-clause-refused g c = λ tells.
     let files = g.F.Files.contents c.args.files.now in
     let p = err_from_is_err_and c.from_residual.result c.from_residual.ensures.1 in
-    handed_on (FailsToWriteTwo c.args.assembler.now c.args.header.now (AreFunctionTexts c.args.profile files c.args.file.now) (RefusesFunction c.args.explain c.args.profile files c.args.file.now) files files)
+    handed_on (FailsToWriteTwo c.args.assembler.now c.args.header.now (AreFunctionTexts c.args.options.optimisation c.args.options.profile files c.args.file.now) (RefusesFunction c.args.options.explain c.args.options.profile files c.args.file.now) files files)
     c.from_residual.result p.0 c.in_err-texts.field-0.0 p.1 p.2 (refused (c.in_err-texts.ensures.refused tells) refl)
 
 pub returns-clause-said : goal.returns-clause-said

@@ -36,6 +36,7 @@ fn argument<'a>(alloc: Global, word: &Word) -> Arg<'a> {
         Word::Code(name, help) => path(alloc, name, help).value_parser(codes()),
         Word::Number(name, help) => number(alloc, name, help),
         Word::Profile => profile(alloc),
+        Word::Optimisation => optimisation(alloc),
         Word::Flag(name, help) => flag(alloc, name, help),
         Word::Arguments(help) => arguments(alloc, help),
     }
@@ -74,6 +75,16 @@ fn profile<'a>(alloc: Global) -> Arg<'a> {
             "From whom secrets are kept: from an observer to whom multiplications show nothing of their operands \
              (1), or from one who sees the operands of multiplications too (2)",
         )
+}
+
+/// Whether optimised code is asked for.
+fn optimisation<'a>(alloc: Global) -> Arg<'a> {
+    flag(
+        alloc,
+        "optimise",
+        "Optimised code: fewer steps in most routines, the same guarantees",
+    )
+    .short('O')
 }
 
 /// A flag that is given or not.
