@@ -33,7 +33,8 @@ index_findings place size index = because (Index index size) (index_violations p
 
 -- of a divisor of this interval, where the operator divides
 abbrev pub divisor_findings : Place → BinaryOperator → Interval → List Finding
-divisor_findings place operator divisor = because (Divisor divisor) (at place (when (divides operator && divisor.low == 0) DivisorMayBeZero))
+divisor_findings place operator divisor =
+    because (Divisor divisor) (at place (when (divides operator && divisor.low == 0) DivisorMayBeZero))
 
 -- in an expression, where this is known of the variables
 abbrev pub term_findings : List FlatVariable → Bounds → TermTree → List Finding
@@ -63,8 +64,10 @@ module _ (declared : List FlatVariable) where
     findings bounds (array x word mutable size values) = terms_findings declared bounds values
     findings bounds (assign x value) = term_findings declared bounds value
     findings bounds (put place x size index value) =
-        term_findings declared bounds index ++ index_findings place size (interval declared bounds index) ++ term_findings declared bounds value
-    findings bounds (hold x place size index) = term_findings declared bounds index ++ index_findings place size (interval declared bounds index)
+        term_findings declared bounds index ++ index_findings place size (interval declared bounds index)
+        ++ term_findings declared bounds value
+    findings bounds (hold x place size index) =
+        term_findings declared bounds index ++ index_findings place size (interval declared bounds index)
     findings bounds skip = []
     findings bounds (branch label condition accepted otherwise) =
         term_findings declared bounds condition

@@ -58,7 +58,8 @@ counter_interval low high = if nat_lt low.low high.high then between low.low (hi
 module _ (declared : List FlatVariable) where
   -- what is known after a statement: of what an arm or a loop declares nothing is said outside
   abbrev pub bounds_after : Bounds → FlatTree → Bounds
-  bounds_after bounds (declare x word mutable value) = if is_steady word mutable then with_bound bounds x (interval declared bounds value) else bounds
+  bounds_after bounds (declare x word mutable value) =
+      if is_steady word mutable then with_bound bounds x (interval declared bounds value) else bounds
   bounds_after bounds (array x word mutable size values) = bounds
   bounds_after bounds (assign x value) = bounds
   bounds_after bounds (put place x size index value) = bounds
@@ -82,8 +83,10 @@ module _ (declared : List FlatVariable) where
     violations bounds (array x word mutable size values) = terms_violations declared bounds values
     violations bounds (assign x value) = term_violations declared bounds value
     violations bounds (put place x size index value) =
-        term_violations declared bounds index ++ index_violations place size (interval declared bounds index) ++ term_violations declared bounds value
-    violations bounds (hold x place size index) = term_violations declared bounds index ++ index_violations place size (interval declared bounds index)
+        term_violations declared bounds index ++ index_violations place size (interval declared bounds index)
+        ++ term_violations declared bounds value
+    violations bounds (hold x place size index) =
+        term_violations declared bounds index ++ index_violations place size (interval declared bounds index)
     violations bounds skip = []
     violations bounds (branch label condition accepted otherwise) =
         term_violations declared bounds condition
@@ -106,9 +109,11 @@ module _ (declared : List FlatVariable) where
     counted bounds turns (hold x place size index) = turns
     counted bounds turns skip = turns
     counted bounds turns (branch label condition accepted otherwise) =
-        counted_all (where_false declared bounds label condition) (counted_all (where_true declared bounds label condition) turns accepted) otherwise
+        counted_all (where_false declared bounds label condition)
+        (counted_all (where_true declared bounds label condition) turns accepted) otherwise
     counted bounds turns (loop x low high body) =
-        counted_all (in_loop bounds x low high) (slice_set turns x (most_turns (interval declared bounds low) (interval declared bounds high))) body
+        counted_all (in_loop bounds x low high)
+        (slice_set turns x (most_turns (interval declared bounds low) (interval declared bounds high))) body
 
     pub counted_all : Bounds → List ℕ → FlatBlock → List ℕ
     counted_all bounds turns nothing = turns

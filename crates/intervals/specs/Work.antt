@@ -21,7 +21,8 @@ abbrev mutual
   tree_work turns (put place x size index value) = 1 + (1 + term_nodes index) + term_nodes value
   tree_work turns (hold x place size index) = 1 + term_nodes index
   tree_work turns skip = 1
-  tree_work turns (branch label condition accepted otherwise) = 1 + term_nodes condition + body_work turns accepted + body_work turns otherwise
+  tree_work turns (branch label condition accepted otherwise) =
+      1 + term_nodes condition + body_work turns accepted + body_work turns otherwise
   tree_work turns (loop x low high body) = term_nodes low + term_nodes high + (slice_index turns x + 1) * (1 + body_work turns body)
 
   pub body_work : List ℕ → FlatBlock → ℕ

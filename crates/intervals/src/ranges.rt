@@ -119,3 +119,12 @@ pub fn first_finding(alloc: Global, flat: &Flat) -> Result<Option<Finding>, Allo
     let walk = walked(alloc, flat)?;
     Ok(walk.first.seen)
 }
+
+/// How many turns the loop of each counter of a body makes at most, at the counter's number; 0 at all other numbers. They
+/// are the turns by which `check_ranges` judges the work, also where it refuses.
+pub fn turns(alloc: Global, flat: &Flat) -> Result<Vec<u32>, AllocError>
+    ensures { IfOk result (λ turns. turns.items ≡ turns_of flat.now) }
+{
+    let walk = walked(alloc, flat)?;
+    Ok(walk.turns)
+}

@@ -15,3 +15,4 @@ mod words;
 
 pub use costs::{Cost, Limit, Part, measured};
 pub use laws::{costliest_is_first_of_greatest, parts_make_the_whole};
+pub use parts::{costlier, costliest_of_return, place_of};

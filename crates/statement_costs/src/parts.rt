@@ -15,7 +15,7 @@ use language::{Parameter, Place, Return, Statement};
 use names::Names;
 
 /// Of two parts the first, unless the other costs more.
-fn costlier(most: Option<Part>, other: Part) -> Option<Part>
+pub fn costlier(most: Option<Part>, other: Part) -> Option<Part>
     ensures { result ≡ costlier most other }
 {
     match most {
@@ -31,7 +31,7 @@ fn costlier(most: Option<Part>, other: Part) -> Option<Part>
 }
 
 /// Where a statement stands.
-fn place_of(statement: &Statement<'_>) -> Place
+pub fn place_of(statement: &Statement<'_>) -> Place
     ensures { result ≡ place_of (statement_tree statement.now) }
 {
     match statement {

@@ -1,0 +1,4 @@
+pub mod Inlined
+pub mod Lengths
+pub mod Pieces
+pub mod WorkCosts
