@@ -4,9 +4,9 @@ use Rattle.language.proofs.BlockLemmas.{conditional_tree, loop_tree}
 use Rattle.language.specs.declared.tree.Counter.{Counter}
 use Rattle.language.specs.declared.tree.Expr.{Expr}
 use Rattle.language.specs.declared.tree.Statement.{Statement, If, For}
-use Rattle.language.specs.Tree.{statement_tree, block_tree}
+use Rattle.language.specs.Tree.{expr_tree, statement_tree, block_tree}
 use Rattle.operand_types.specs.Nodes.{node_in}
-use Rattle.operand_types.specs.Sites.{around_at, around_in, in_turns}
+use Rattle.operand_types.specs.Sites.{around_at, around_in, in_arms, in_turns}
 use Rattle.operand_types.specs.declared.around.Around.{Around}
 use Rattle.word.specs.declared.place.Place.{Place}
 
@@ -19,35 +19,35 @@ left_out : {X : Type 0} (b result : Bool) (x y : X) → result ≡ b → result 
 left_out true result x y same fails = cc
 left_out false result x y same fails = refl
 
-abbrev arms : ℕ → Around → List Statement → List Statement → Around
-arms at around one other =
-    cond (is_some (node_in at (block_tree one))) (around_in at around (block_tree one))
-    (cond (is_some (node_in at (block_tree other))) (around_in at around (block_tree other)) around)
+abbrev arms : ℕ → Around → Around → List Statement → List Statement → Around
+arms at around inside one other =
+    cond (is_some (node_in at (block_tree one))) (around_in at inside (block_tree one))
+    (cond (is_some (node_in at (block_tree other))) (around_in at inside (block_tree other)) around)
 
 conditional_around : (at : ℕ) (around : Around) (s : Statement) (place : Place) (condition : Expr) (accepted otherwise : Vec Statement Global) (one other : List Statement)
     → s ≡ If place condition accepted otherwise → one ≡ accepted.items → other ≡ otherwise.items →
-    arms at around one other ≡ around_at at around (statement_tree s)
+    arms at around (in_arms around place (expr_tree condition)) one other ≡ around_at at around (statement_tree s)
 conditional_around at around s place condition accepted otherwise one other is arm arm' =
-    ap₂ (arms at around) arm arm' ∙ sym (ap (λ t. around_at at around (statement_tree t)) is ∙ ap (around_at at around) (conditional_tree place condition accepted otherwise))
+    ap₂ (arms at around (in_arms around place (expr_tree condition))) arm arm' ∙ sym (ap (λ t. around_at at around (statement_tree t)) is ∙ ap (around_at at around) (conditional_tree place condition accepted otherwise))
 
 pub in_accepted : (at : ℕ) (around : Around) (s : Statement) (place : Place) (condition : Expr) (accepted otherwise : Vec Statement Global) (one other : List Statement) (first : Bool)
     → s ≡ If place condition accepted otherwise → one ≡ accepted.items → other ≡ otherwise.items →
     first ≡ is_some (node_in at (block_tree one)) → first ≡ true →
-    around_in at around (block_tree one) ≡ around_at at around (statement_tree s)
+    around_in at (in_arms around place (expr_tree condition)) (block_tree one) ≡ around_at at around (statement_tree s)
 in_accepted at around s place condition accepted otherwise one other first is arm arm' same holds =
-    taken (is_some (node_in at (block_tree one))) first (around_in at around (block_tree one))
-    (cond (is_some (node_in at (block_tree other))) (around_in at around (block_tree other)) around) same holds
+    taken (is_some (node_in at (block_tree one))) first (around_in at (in_arms around place (expr_tree condition)) (block_tree one))
+    (cond (is_some (node_in at (block_tree other))) (around_in at (in_arms around place (expr_tree condition)) (block_tree other)) around) same holds
     ∙ conditional_around at around s place condition accepted otherwise one other is arm arm'
 
 pub in_otherwise : (at : ℕ) (around : Around) (s : Statement) (place : Place) (condition : Expr) (accepted otherwise : Vec Statement Global) (one other : List Statement) (first second : Bool)
     → s ≡ If place condition accepted otherwise → one ≡ accepted.items → other ≡ otherwise.items →
     first ≡ is_some (node_in at (block_tree one)) → first ≡ false →
     second ≡ is_some (node_in at (block_tree other)) → second ≡ true →
-    around_in at around (block_tree other) ≡ around_at at around (statement_tree s)
+    around_in at (in_arms around place (expr_tree condition)) (block_tree other) ≡ around_at at around (statement_tree s)
 in_otherwise at around s place condition accepted otherwise one other first second is arm arm' same fails same' holds =
-    taken (is_some (node_in at (block_tree other))) second (around_in at around (block_tree other)) around same' holds
-    ∙ left_out (is_some (node_in at (block_tree one))) first (around_in at around (block_tree one))
-    (cond (is_some (node_in at (block_tree other))) (around_in at around (block_tree other)) around) same fails
+    taken (is_some (node_in at (block_tree other))) second (around_in at (in_arms around place (expr_tree condition)) (block_tree other)) around same' holds
+    ∙ left_out (is_some (node_in at (block_tree one))) first (around_in at (in_arms around place (expr_tree condition)) (block_tree one))
+    (cond (is_some (node_in at (block_tree other))) (around_in at (in_arms around place (expr_tree condition)) (block_tree other)) around) same fails
     ∙ conditional_around at around s place condition accepted otherwise one other is arm arm'
 
 pub in_neither : (at : ℕ) (around : Around) (s : Statement) (place : Place) (condition : Expr) (accepted otherwise : Vec Statement Global) (one other : List Statement) (first second : Bool)
@@ -56,9 +56,9 @@ pub in_neither : (at : ℕ) (around : Around) (s : Statement) (place : Place) (c
     second ≡ is_some (node_in at (block_tree other)) → second ≡ false →
     around ≡ around_at at around (statement_tree s)
 in_neither at around s place condition accepted otherwise one other first second is arm arm' same fails same' fails' =
-    left_out (is_some (node_in at (block_tree other))) second (around_in at around (block_tree other)) around same' fails'
-    ∙ left_out (is_some (node_in at (block_tree one))) first (around_in at around (block_tree one))
-    (cond (is_some (node_in at (block_tree other))) (around_in at around (block_tree other)) around) same fails
+    left_out (is_some (node_in at (block_tree other))) second (around_in at (in_arms around place (expr_tree condition)) (block_tree other)) around same' fails'
+    ∙ left_out (is_some (node_in at (block_tree one))) first (around_in at (in_arms around place (expr_tree condition)) (block_tree one))
+    (cond (is_some (node_in at (block_tree other))) (around_in at (in_arms around place (expr_tree condition)) (block_tree other)) around) same fails
     ∙ conditional_around at around s place condition accepted otherwise one other is arm arm'
 
 loop_around : (at : ℕ) (around : Around) (s : Statement) (place : Place) (counter : Counter) (low high : Expr) (body : Vec Statement Global) (turns : List Statement)

@@ -2,4 +2,3 @@ pub mod ArgumentLemmas
 pub mod AroundLemmas
 pub mod NodeLemmas
 pub mod SiteLemmas
-pub mod TreeLemmas

@@ -1,5 +1,7 @@
+pub mod Controls
 pub mod Found
 pub mod FoundSecret
+pub mod Literals
 pub mod Mismatches
 pub mod Nodes
 pub mod Secrets

@@ -66,7 +66,7 @@ secret_operand around (convert place kind operand) = None
 secret_operand around (select place condition accepted otherwise) = None
 secret_operand around (element place target text index) = secret_in around index
 
--- in a value, and in the bounds of a loop
+-- in a value, in a condition, and in the bounds of a loop
 abbrev pub secret_of_statement : List ProcedureTree → Around → StatementTree → Option Secret
 secret_of_statement earlier around (declaration place label mutable kind text right) = secret_in_right around right
 secret_of_statement earlier around (array place label mutable kind length text values) =
@@ -74,7 +74,7 @@ secret_of_statement earlier around (array place label mutable kind length text v
 secret_of_statement earlier around (assignment place target text right) = secret_in_right around right
 secret_of_statement earlier around (element_assignment place bracket target text index right) = secret_in_right around right
 secret_of_statement earlier around (call c) = secret_argument around c.arguments (called_one earlier (callee (found around.scope c.name)))
-secret_of_statement earlier around (conditional place condition accepted otherwise) = None
+secret_of_statement earlier around (conditional place condition accepted otherwise) = secret_in around condition
 secret_of_statement earlier around (loop place counter text low high body) = option_or (secret_in around low) (secret_in around high)
 
 abbrev pub secret_of_node : List ProcedureTree → Around → Node → Option Secret

@@ -1,8 +1,9 @@
 -- The node at a place, with what is in scope there.
-use Rattle.std.specs.Prelude.{ℕ, List, [], ◌∷◌, ◌++◌, length, Option, None, is_some, if◌then◌else◌}
+use Rattle.std.specs.Prelude.{ℕ, false, List, [], ◌∷◌, ◌++◌, length, Option, None, Some, is_some, if◌then◌else◌}
 use Rattle.std.specs.Option.{option_map, option_or}
-use Rattle.language.specs.Tree.{StatementTree, declaration, array, assignment, element_assignment, call, conditional, loop, BlockTree, nothing, first, ParameterTree, ProcedureTree}
-use Rattle.language.specs.Types.{Scope, declared}
+use Rattle.language.specs.Tree.{ExprTree, StatementTree, declaration, array, assignment, element_assignment, call, conditional, loop, BlockTree, nothing, first, ParameterTree, ProcedureTree}
+use Rattle.language.specs.ExprTyping.{type_of}
+use Rattle.language.specs.Types.{Scope, declared, is_hidden, of_one}
 use Rattle.language.specs.Typing.{counter_as, scope_after, with_parameters, with_procedure}
 use Rattle.names.specs.Scope.{declared as placed}
 use Rattle.operand_types.specs.Nodes.{Node, node_at, node_in, node_in_procedure}
@@ -30,15 +31,31 @@ places_of places (p ∷ ps) = places_of (placed places p.name p.place) ps
 
 -- the scope of the rules, with those places: behind a statement
 abbrev pub after : Around → StatementTree → Around
-after around statement = record { scope = scope_after around.scope statement; places = places_after around.places statement }
+after around statement = record {
+  scope = scope_after around.scope statement;
+  places = places_after around.places statement;
+  under = around.under;
+}
 
 -- in the body of a loop with this counter
 abbrev pub in_turns : Around → Place → List ℕ → Around
-in_turns around place text = record { scope = declared around.scope text counter_as; places = placed around.places text place }
+in_turns around place text = record {
+  scope = declared around.scope text counter_as;
+  places = placed around.places text place;
+  under = around.under;
+}
+
+-- in the arms of a conditional: control is secret under a secret condition, and else as around it
+abbrev pub in_arms : Around → Place → ExprTree → Around
+in_arms around place condition = record {
+  scope = around.scope;
+  places = around.places;
+  under = if of_one false is_hidden (type_of around.scope condition) then Some place else around.under;
+}
 
 -- where the body of a procedure begins, whose name is in scope
 abbrev pub in_body : Scope → ProcedureTree → Around
-in_body scope p = record { scope = with_parameters scope p.parameters; places = places_of [] p.parameters }
+in_body scope p = record { scope = with_parameters scope p.parameters; places = places_of [] p.parameters; under = None }
 
 abbrev mutual
   -- at this offset in a statement
@@ -49,8 +66,8 @@ abbrev mutual
   around_at at around (element_assignment place bracket target text index right) = around
   around_at at around (call c) = around
   around_at at around (conditional place condition accepted otherwise) =
-      if is_some (node_in at accepted) then around_in at around accepted
-      else if is_some (node_in at otherwise) then around_in at around otherwise else around
+      if is_some (node_in at accepted) then around_in at (in_arms around place condition) accepted
+      else if is_some (node_in at otherwise) then around_in at (in_arms around place condition) otherwise else around
   around_at at around (loop place counter text low high body) =
       if is_some (node_in at body) then around_in at (in_turns around counter text) body else around
 

@@ -1,22 +1,21 @@
 // What is in scope at a place.
 
-ghost use Rattle.std.specs.Prelude.{◌≡◌, length, map, OnOk};
-ghost use Rattle.language.specs.Tree.{block_tree, parameter_tree, procedure_tree, statement_tree};
-ghost use Rattle.language.specs.Types.{declared};
+ghost use Rattle.std.specs.Prelude.{◌≡◌, false, length, map, OnOk};
+ghost use Rattle.language.specs.Tree.{block_tree, expr_tree, parameter_tree, procedure_tree, statement_tree};
+ghost use Rattle.language.specs.Types.{declared, is_hidden, of_one};
+ghost use Rattle.language.specs.ExprTyping.{type_of};
 ghost use Rattle.language.specs.Typing.{declared_array, declared_as, parameter_as, parameter_value, with_parameters, with_procedure};
 ghost use Rattle.names.specs.Scope.{declared as placed};
-ghost use Rattle.operand_types.specs.Sites.{after, around_at, around_in, in_turns, places_of};
+ghost use Rattle.operand_types.specs.Sites.{after, around_at, around_in, in_arms, in_turns, places_of};
 
-use crate::effects::assigns_public;
-use crate::kinds::is_mutable;
+use crate::expressions::type_of;
 use crate::nodes::{is_at, is_in};
-use crate::scope::Scope;
-use crate::types::word;
 use language::{
-    ArrayType, Callee, Counter, Declared, Form, Kind, Label, Parameter, Place, Procedure,
+    ArrayType, Callee, Counter, Declared, Expr, Form, Kind, Label, Parameter, Place, Procedure,
     Statement, ValueType, VariableType, WordType,
 };
 use names::Names;
+use scopes::{Scope, assigns_public};
 use std::alloc::AllocError;
 
 /// What the names in scope stand for, and where each is declared.
@@ -24,6 +23,8 @@ use std::alloc::AllocError;
 pub struct Around<'a> {
     pub scope: Scope<'a>,
     pub places: Names<'a, Place>,
+    /// The innermost `if` around with a secret condition.
+    pub under: Option<Place>,
 }
 
 impl<'a> Around<'a> {
@@ -31,6 +32,7 @@ impl<'a> Around<'a> {
     fn declare(&mut self, name: &'a str, place: Place, what: Declared) -> Result<(), AllocError>
         ensures scope { OnOk result (self.new.scope ≡ declared self.old.scope name.now what) }
         ensures places { OnOk result (self.new.places ≡ placed self.old.places name.now place) }
+        ensures under { self.new.under ≡ self.old.under }
     {
         self.scope.declare(name, what)?;
         self.places.declare(name, place)?;
@@ -42,7 +44,7 @@ impl<'a> Around<'a> {
 fn declared_as(label: Label, mutable: bool, kind: Kind) -> Declared
     ensures { result ≡ declared_as label mutable kind }
 {
-    let value = word(kind, label);
+    let value = ValueType::word(kind, label);
     Declared::Variable(VariableType { value, mutable })
 }
 
@@ -65,7 +67,7 @@ pub fn parameter_value(parameter: &Parameter<'_>) -> ValueType
     };
     let length = parameter.length;
     match parameter.form {
-        Form::SingleWord => word(parameter.kind, parameter.label),
+        Form::SingleWord => ValueType::word(parameter.kind, parameter.label),
         Form::FixedArray => ValueType::Array(ArrayType { element, length }),
         Form::MutableArray => ValueType::Array(ArrayType { element, length }),
     }
@@ -77,7 +79,7 @@ fn parameter_as(parameter: &Parameter<'_>) -> Declared
 {
     Declared::Variable(VariableType {
         value: parameter_value(parameter),
-        mutable: is_mutable(parameter.form),
+        mutable: parameter.form.is_mutable(),
     })
 }
 
@@ -93,7 +95,8 @@ pub fn enter_procedure<'a>(
         number: earlier.len(),
         assigns_public: assigns_public(scope, procedure),
     };
-    scope.declare(procedure.name, Declared::Procedure(callee))
+    scope.declare(procedure.name, Declared::Procedure(callee))?;
+    Ok(())
 }
 
 /// Parameters are in scope.
@@ -103,6 +106,7 @@ pub fn enter_parameters<'a>(
 ) -> Result<(), AllocError>
     ensures scope { OnOk result (around.new.scope ≡ with_parameters around.old.scope (map parameter_tree parameters.now)) }
     ensures places { OnOk result (around.new.places ≡ places_of around.old.places (map parameter_tree parameters.now)) }
+    ensures under { around.new.under ≡ around.old.under }
 {
     for parameter in parameters {
         around.declare(parameter.name, parameter.place, parameter_as(parameter))?;
@@ -139,6 +143,25 @@ fn enter_turns<'a>(around: &mut Around<'a>, counter: &Counter<'a>) -> Result<(),
     around.declare(counter.name, counter.place, what)
 }
 
+/// Whether an expression is something secret.
+fn is_secret_expr(names: &Scope<'_>, expr: &Expr<'_>) -> bool
+    ensures { result ≡ of_one false is_hidden (type_of names.now (expr_tree expr.now)) }
+{
+    match type_of(names, expr) {
+        Some(value) => value.is_hidden(),
+        None => false,
+    }
+}
+
+/// Control in the arms of a conditional is secret under a secret condition.
+fn enter_arms(around: &mut Around<'_>, place: Place, condition: &Expr<'_>)
+    ensures { around.new ≡ in_arms around.old place (expr_tree condition.now) }
+{
+    if is_secret_expr(&around.scope, condition) {
+        around.under = Some(place);
+    }
+}
+
 /// What is in scope at a place in a statement.
 #[cycle(entering)]
 fn enter_statement<'a>(
@@ -154,12 +177,14 @@ fn enter_statement<'a>(
         Statement::Assign(_) => Ok(()),
         Statement::AssignElement(_) => Ok(()),
         Statement::Call(_) => Ok(()),
-        Statement::If(_, _, accepted, otherwise) => {
+        Statement::If(place, condition, accepted, otherwise) => {
             let (accepted, otherwise) = (accepted.as_slice(), otherwise.as_slice());
             if is_in(at, accepted) {
+                enter_arms(around, *place, condition);
                 return enter_block(at, around, accepted);
             }
             if is_in(at, otherwise) {
+                enter_arms(around, *place, condition);
                 return enter_block(at, around, otherwise);
             }
             Ok(())

@@ -15,18 +15,16 @@ ghost use Rattle.operand_types.specs.TypeLines.{argument_line, call_line, choice
 
 use crate::around::parameter_value;
 use crate::expressions::{name_type, type_of};
-use crate::kinds::callee;
 use crate::mismatch::{Mismatch, first_argument, first_value};
 use crate::nodes::Node;
 use crate::operators::element;
-use crate::scope::Scope;
 use crate::sites::Site;
 use crate::texts::{one_line, two_line};
-use crate::types::word;
 use language::{
     ArrayDeclaration, Call, Callee, Expr, Parameter, Procedure, Return, RightSide, Statement,
     ValueType, WordType,
 };
+use scopes::Scope;
 use std::alloc::{AllocError, Global};
 
 /// The line of one part, where it is well typed.
@@ -153,7 +151,7 @@ pub fn called_one<'p, 'a>(
     ensures { option_map (λ known. (known.0, procedure_tree known.1.now)) result
         ≡ called_one (map procedure_tree earlier.now) (callee (found names.now (call_tree call.now).name)) }
 {
-    let callee = callee(names.find(call.name))?;
+    let callee = names.callee(call.name)?;
     Some((callee, earlier.get(callee.number)?))
 }
 
@@ -255,7 +253,7 @@ pub fn first_of_values<'p, 'a>(
             first_value(
                 mismatch,
                 names,
-                word(array.kind, array.label),
+                ValueType::word(array.kind, array.label),
                 values.as_slice(),
             )
         }
@@ -275,7 +273,7 @@ fn element_line(
 {
     match first_of_values(mismatch, names, array) {
         Some(value) => {
-            let wanted = Some(word(array.kind, array.label));
+            let wanted = Some(ValueType::word(array.kind, array.label));
             value_line(alloc, mismatch, "element", wanted, type_of(names, value))
         }
         None => Ok(String::new(alloc)),
@@ -294,51 +292,43 @@ fn statement_line<'p, 'a>(
 {
     match statement {
         Statement::Declare(it) => {
-            let wanted = Some(word(it.kind, it.label));
-            value_line(
-                alloc,
-                mismatch,
-                "variable",
-                wanted,
-                right_gives(earlier, names, &it.value),
-            )
+            let wanted = Some(ValueType::word(it.kind, it.label));
+            let given = right_gives(earlier, names, &it.value);
+            value_line(alloc, mismatch, "variable", wanted, given)
         }
         Statement::DeclareArray(it) => element_line(alloc, mismatch, names, it),
         Statement::Assign(it) => {
             let wanted = name_type(names, it.name);
-            value_line(
-                alloc,
-                mismatch,
-                "variable",
-                wanted,
-                right_gives(earlier, names, &it.value),
-            )
+            let given = right_gives(earlier, names, &it.value);
+            value_line(alloc, mismatch, "variable", wanted, given)
         }
         Statement::AssignElement(it) => {
             let wanted = element(name_type(names, it.name), type_of(names, &it.index));
-            value_line(
-                alloc,
-                mismatch,
-                "element",
-                wanted,
-                right_gives(earlier, names, &it.value),
-            )
+            let given = right_gives(earlier, names, &it.value);
+            value_line(alloc, mismatch, "element", wanted, given)
         }
         Statement::Call(it) => call_line(alloc, mismatch, earlier, names, it),
         Statement::If(_, condition, _, _) => {
             line_of_one(alloc, mismatch, "condition", type_of(names, condition))
         }
-        Statement::For(_, _, low, high, _) => {
-            let parts = ("first bound", "second bound");
-            line_of_two(
-                alloc,
-                mismatch,
-                parts,
-                type_of(names, low),
-                type_of(names, high),
-            )
-        }
+        Statement::For(_, _, low, high, _) => bounds_line(alloc, mismatch, names, low, high),
     }
+}
+
+/// The line of the bounds of a loop.
+fn bounds_line(
+    alloc: Global,
+    mismatch: Mismatch,
+    names: &Scope<'_>,
+    low: &Expr<'_>,
+    high: &Expr<'_>,
+) -> Result<String, AllocError>
+    ensures { IfOk result (λ line. string_bytes line
+        ≡ of_two [] (two_line mismatch (codes "first bound") (codes "second bound")) (type_of names.now (expr_tree low.now)) (type_of names.now (expr_tree high.now))) }
+{
+    let parts = ("first bound", "second bound");
+    let (low, high) = (type_of(names, low), type_of(names, high));
+    line_of_two(alloc, mismatch, parts, low, high)
 }
 
 /// The line of a `return` in a procedure with this type of result.

@@ -4,11 +4,9 @@ ghost use Rattle.language.specs.ExprTyping.{name_type, type_of};
 ghost use Rattle.language.specs.Tree.{expr_tree};
 ghost use Rattle.language.specs.declared.typing.VariableType.{VariableType};
 
-use crate::kinds::variable;
 use crate::operators::{binary, choice, convert, element, number, prefix, rotate};
-use crate::scope::Scope;
-use crate::types::word;
 use language::{Expr, Kind, Label, ValueType, VariableType};
+use scopes::Scope;
 
 /// The type of a variable, where there is one.
 fn value_of(variable: Option<VariableType>) -> Option<ValueType>
@@ -24,7 +22,7 @@ fn value_of(variable: Option<VariableType>) -> Option<ValueType>
 pub fn name_type(names: &Scope<'_>, text: &str) -> Option<ValueType>
     ensures { result ≡ name_type names.now text.now }
 {
-    value_of(variable(names.find(text)))
+    value_of(names.variable(text))
 }
 
 /// The type of an expression, where it is well typed.
@@ -33,7 +31,7 @@ pub fn type_of(names: &Scope<'_>, expr: &Expr<'_>) -> Option<ValueType>
 {
     match expr {
         Expr::Number(_, value, kind) => number(*value, *kind),
-        Expr::Truth(_, _) => Some(word(Kind::Boolean, Label::Public)),
+        Expr::Truth(_, _) => Some(ValueType::word(Kind::Boolean, Label::Public)),
         Expr::Name(_, text) => name_type(names, text),
         Expr::Prefix(_, operator, operand) => {
             let operand = type_of(names, operand);

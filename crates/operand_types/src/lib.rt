@@ -6,24 +6,23 @@
 
 mod around;
 mod comparisons;
-mod effects;
+mod controls;
 mod expressions;
-mod kinds;
+mod literals;
 mod mismatch;
 mod nodes;
-mod operations;
 mod operators;
-mod scope;
 mod secrets;
 mod sites;
 mod texts;
-mod types;
 
 pub use around::Around;
-pub use comparisons::type_lines;
-pub use expressions::type_of;
+pub use comparisons::{called_one, type_lines};
+pub use controls::{control_line, under_at};
+pub use expressions::{name_type, type_of};
+pub use literals::literal_line;
 pub use mismatch::Mismatch;
 pub use nodes::Node;
-pub use scope::Scope;
 pub use secrets::secret_line;
 pub use sites::{Site, site_at};
+pub use texts::{kind_text, type_text};

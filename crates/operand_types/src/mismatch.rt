@@ -11,10 +11,8 @@ ghost use Rattle.operand_types.specs.TypeLines.{is_labelled};
 
 use crate::around::parameter_value;
 use crate::expressions::type_of;
-use crate::kinds::{is_same_kind, is_same_label, is_secret};
-use crate::scope::Scope;
-use crate::types::{are_alike, is_hidden, widths_differ};
 use language::{ArrayType, Expr, Parameter, ValueType, WordType};
+use scopes::Scope;
 
 /// In what two types differ, as a rule forbids.
 #[derive(Clone, Copy, Debug)]
@@ -45,9 +43,9 @@ impl Mismatch {
 fn is_same_array(one: ArrayType, other: ArrayType) -> bool
     ensures { result ≡ same_array one other }
 {
-    is_same_kind(one.element.kind, other.element.kind)
+    one.element.kind.is_same(other.element.kind)
         && one.length == other.length
-        && is_same_label(one.element.label, other.element.label)
+        && one.element.label.is_same(other.element.label)
 }
 
 /// Whether a value of one type violates the rule where a word of another is wanted.
@@ -55,10 +53,10 @@ fn value_violates(mismatch: Mismatch, wanted: WordType, given: ValueType) -> boo
     ensures { result ≡ list_any (λ rule. rank_of rule == rank_of (rule_of mismatch)) (value_rules wanted given) }
 {
     match mismatch {
-        Mismatch::Widths => widths_differ(ValueType::Word(wanted), given),
-        Mismatch::Kinds => !are_alike(ValueType::Word(wanted), given),
+        Mismatch::Widths => ValueType::Word(wanted).differs_in_width(given),
+        Mismatch::Kinds => !ValueType::Word(wanted).is_alike(given),
         Mismatch::Shapes => false,
-        Mismatch::Labels => !is_secret(wanted.label) && is_hidden(given),
+        Mismatch::Labels => !wanted.label.is_secret() && given.is_hidden(),
     }
 }
 

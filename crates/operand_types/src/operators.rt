@@ -3,16 +3,10 @@ ghost use Rattle.language.specs.ExprTyping.{binary_type, convert_type, element_t
 ghost use Rattle.language.specs.Types.{bits_of, of_one, of_two, of_three, unless, word};
 ghost use Rattle.language.specs.declared.signature.Label.TheVariants.{Public};
 
-use crate::kinds::{bits, join};
-use crate::operations::{divides_secret, is_uneven, multiplies_secret, takes};
-use crate::types::{
-    are_alike, is_array, is_bool, is_hidden, is_narrow, is_numeric, kind_of, label_of,
-    widths_differ, word,
-};
 use language::{BinaryOperator, Kind, Label, PrefixOperator, Profile, ValueType};
 
 /// Whether a number is one of its kind.
-fn is_within(value: u32, kind: Kind) -> bool
+pub fn is_within(value: u32, kind: Kind) -> bool
     ensures { result ≡ nat_lt value (2 ^ bits_of kind) }
 {
     let limit: u64 = match kind {
@@ -29,7 +23,7 @@ pub fn number(value: u32, kind: Kind) -> Option<ValueType>
     ensures { result ≡ unless (number_rules value kind) (word kind Public) }
 {
     let within = is_within(value, kind);
-    within.then_some(word(kind, Label::Public))
+    within.then_some(ValueType::word(kind, Label::Public))
 }
 
 /// A sign before an operand.
@@ -38,9 +32,9 @@ pub fn prefix(operator: PrefixOperator, operand: Option<ValueType>) -> Option<Va
 {
     let operand = operand?;
     let fits = match operator {
-        PrefixOperator::Not => is_bool(operand),
-        PrefixOperator::Complement => is_numeric(operand),
-        PrefixOperator::Negate => is_numeric(operand),
+        PrefixOperator::Not => operand.is_bool(),
+        PrefixOperator::Complement => operand.is_numeric(),
+        PrefixOperator::Negate => operand.is_numeric(),
     };
     fits.then_some(operand)
 }
@@ -58,15 +52,15 @@ pub fn binary(
         return None;
     };
     let operation = operator.operation();
-    let uneven = is_uneven(operation, left, right);
-    let wrong = !takes(operation, left, right);
-    let told = divides_secret(operation, left, right);
-    let shown = multiplies_secret(profile, operation, left, right);
+    let uneven = operation.is_uneven(left, right);
+    let wrong = !operation.takes(left, right);
+    let told = operation.divides_secret(left, right);
+    let shown = operation.multiplies_secret(profile, left, right);
     if uneven || wrong || told || shown {
         return None;
     }
-    let kind = operation.result_kind(kind_of(left));
-    Some(word(kind, join(label_of(left), label_of(right))))
+    let kind = operation.result_kind(left.kind());
+    Some(ValueType::word(kind, left.label().join(right.label())))
 }
 
 /// A rotation by so many bits.
@@ -74,9 +68,9 @@ pub fn rotate(amount: u32, operand: Option<ValueType>) -> Option<ValueType>
     ensures { result ≡ of_one None (rotate_type amount) operand }
 {
     let operand = operand?;
-    let wrong = !is_numeric(operand);
-    let within = 0 < amount && amount < bits(kind_of(operand));
-    let outside = is_numeric(operand) && !within;
+    let wrong = !operand.is_numeric();
+    let within = 0 < amount && amount < operand.kind().bits();
+    let outside = operand.is_numeric() && !within;
     if wrong || outside {
         return None;
     }
@@ -88,8 +82,8 @@ pub fn convert(kind: Kind, operand: Option<ValueType>) -> Option<ValueType>
     ensures { result ≡ of_one None (convert_type kind) operand }
 {
     let operand = operand?;
-    let fits = is_numeric(operand) || is_bool(operand);
-    fits.then_some(word(kind, label_of(operand)))
+    let fits = operand.is_numeric() || operand.is_bool();
+    fits.then_some(ValueType::word(kind, operand.label()))
 }
 
 /// A choice between two operands.
@@ -103,13 +97,13 @@ pub fn choice(
     let (Some(condition), Some(accepted), Some(otherwise)) = (condition, accepted, otherwise) else {
         return None;
     };
-    let uneven = widths_differ(accepted, otherwise);
-    let wrong = !(is_bool(condition) && are_alike(accepted, otherwise));
+    let uneven = accepted.differs_in_width(otherwise);
+    let wrong = !(condition.is_bool() && accepted.is_alike(otherwise));
     if uneven || wrong {
         return None;
     }
-    let label = join(label_of(accepted), label_of(otherwise));
-    Some(word(kind_of(accepted), join(label_of(condition), label)))
+    let label = accepted.label().join(otherwise.label());
+    Some(ValueType::word(accepted.kind(), condition.label().join(label)))
 }
 
 /// An element of an array.
@@ -119,11 +113,11 @@ pub fn element(array: Option<ValueType>, index: Option<ValueType>) -> Option<Val
     let (Some(array), Some(index)) = (array, index) else {
         return None;
     };
-    let uneven = is_narrow(index);
-    let wrong = !(is_array(array) && is_numeric(index));
-    let told = is_hidden(index);
+    let uneven = index.is_narrow();
+    let wrong = !(array.is_array() && index.is_numeric());
+    let told = index.is_hidden();
     if uneven || wrong || told {
         return None;
     }
-    Some(word(kind_of(array), label_of(array)))
+    Some(ValueType::word(array.kind(), array.label()))
 }

@@ -16,7 +16,6 @@ use crate::expressions::name_type;
 use crate::mismatch::{Mismatch, first_argument};
 use crate::nodes::Node;
 use crate::sites::Site;
-use crate::types::is_hidden;
 use language::{Call, Expr, Place, Procedure, RightSide, Statement};
 use std::alloc::{AllocError, Global};
 
@@ -31,7 +30,7 @@ pub struct Secret<'a> {
 fn secret_name<'a>(around: &Around<'_>, name: &'a str) -> Option<Secret<'a>>
     ensures { option_map secret result ≡ secret_name around.now name.now }
 {
-    if !is_hidden(name_type(&around.scope, name)?) {
+    if !name_type(&around.scope, name)?.is_hidden() {
         return None;
     }
     let place = around.places.find(name)?;
@@ -111,7 +110,7 @@ fn secret_operand<'a>(around: &Around<'_>, expr: &Expr<'a>) -> Option<Secret<'a>
     }
 }
 
-/// The first in a value, or in the bounds of a loop.
+/// The first in a value, in a condition, or in the bounds of a loop.
 fn secret_of_statement<'p, 'a>(
     earlier: &'p [Procedure<'a>],
     around: &Around<'_>,
@@ -127,7 +126,7 @@ fn secret_of_statement<'p, 'a>(
         Statement::Assign(it) => secret_in_right(around, &it.value),
         Statement::AssignElement(it) => secret_in_right(around, &it.value),
         Statement::Call(it) => secret_argument(earlier, around, it),
-        Statement::If(_, _, _, _) => None,
+        Statement::If(_, condition, _, _) => secret_in(around, condition),
         Statement::For(_, _, low, high, _) => secret_in(around, low).or(secret_in(around, high)),
     }
 }

@@ -9,9 +9,9 @@ ghost use Rattle.operand_types.specs.Sites.{around_in, in_body, site_at};
 
 use crate::around::{Around, enter_block, enter_parameters, enter_procedure};
 use crate::nodes::{Node, node_in_procedure};
-use crate::scope::Scope;
 use language::{Procedure, Profile, Program};
 use names::Names;
+use scopes::Scope;
 use std::alloc::{AllocError, Global};
 
 /// A node, what is in scope there, and the procedures before the one that it is in.
@@ -32,7 +32,11 @@ fn around_in<'a>(
     ensures { IfOk result (λ around. around ≡ around_in at (in_body scope.entry (procedure_tree procedure.now)) (procedure_tree procedure.now).body) }
 {
     let places = Names::new(alloc);
-    let mut around = Around { scope, places };
+    let mut around = Around {
+        scope,
+        places,
+        under: None,
+    };
     enter_parameters(&mut around, procedure.parameters.as_slice())?;
     enter_block(at, &mut around, procedure.body.as_slice())?;
     Ok(around)

@@ -9,7 +9,8 @@ use crate::mismatch::Mismatch;
 use language::{Kind, Label, ValueType, WordType};
 use std::alloc::{AllocError, Global};
 
-fn kind_text(kind: Kind) -> &'static str
+/// How a kind is written.
+pub fn kind_text(kind: Kind) -> &'static str
     ensures { result.now ≡ kind_text kind }
 {
     match kind {
@@ -44,7 +45,7 @@ fn word_text(alloc: Global, labelled: bool, word: WordType) -> Result<String, Al
 }
 
 /// A type, with its label or without.
-fn type_text(alloc: Global, labelled: bool, value: ValueType) -> Result<String, AllocError>
+pub fn type_text(alloc: Global, labelled: bool, value: ValueType) -> Result<String, AllocError>
     ensures { IfOk result (λ text. string_bytes text ≡ type_text labelled value) }
 {
     match value {

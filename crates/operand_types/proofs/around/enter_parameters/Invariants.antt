@@ -12,4 +12,5 @@ invariant-loop-parameter l =
     record {
       scope : with_parameters l.around.scope rest ≡ with_parameters l.fn.around.scope all;
       places : places_of l.around.places rest ≡ places_of l.fn.around.places all;
+      under : l.around.under ≡ l.fn.around.under;
     }
