@@ -2,31 +2,27 @@
 use Rattle.std.specs.Prelude.{◌≡◌, ℕ, ◌==◌, nat_eq, Bool, if◌then◌else◌, List, [], ◌∷◌, ◌++◌, take, drop, length, nat_lt, codes, Option, None, Some}
 use Rattle.std.specs.List.{starts_with}
 use Rattle.std.specs.Fmt.{decimal}
+use Rattle.std.specs.Option.{option_map}
 use Rattle.intervals.specs.declared.found.Cause.{Cause}
 use Rattle.intervals.specs.declared.found.Cause.TheVariants.{Index, Divisor}
 use Rattle.intervals.specs.declared.found.Finding.{Finding}
 use Rattle.intervals.specs.declared.interval.Interval.{Interval}
 use Rattle.refusal_details.specs.ExpectedLines.{SaysExpected}
-use Rattle.refusal_details.specs.Found.{Finds}
-use Rattle.refusal_details.specs.SizeLines.{declared_bytes_lines, inlined_size_lines}
+use Rattle.refusal_details.specs.Found.{IsExportOf, first_in, flat_of}
+use Rattle.refusal_details.specs.SizeLines.{declared_bytes_lines, inlined_size_lines, work_line}
+use Rattle.refusal_details.specs.TypingLines.{typing_lines}
 use Rattle.call_places.specs.CallPlaces.{call_places, procedure_at}
 use Rattle.language.specs.declared.refusal.Refusal.{Refusal}
 use Rattle.language.specs.declared.rule.Rule.{Rule}
-use Rattle.language.specs.declared.rule.Rule.TheVariants.{UnknownCharacter, UnexpectedToken, UndeclaredName, WidthsDiffer, WrongKind, ArrayShapeOrLabel, SecretToPublic, SecretIndex, SecretBound, SecretDivisionOperand, SecretMultiplicationOperand, InlinedSize, DeclaredBytes, IndexOutOfRange, DivisorMayBeZero}
+use Rattle.language.specs.declared.rule.Rule.TheVariants.{UnknownCharacter, UnexpectedToken, UndeclaredName, InlinedSize, DeclaredBytes, TooMuchWork, IndexOutOfRange, DivisorMayBeZero}
 use Rattle.language.specs.Signature.{exported}
 use Rattle.language.specs.Tree.{ProcedureTree, ProgramTree}
-use Rattle.language.specs.Types.{empty}
 use Rattle.name_uses.specs.Nearest.{nearest}
 use Rattle.name_uses.specs.Scopes.{Seen, Use, use_in_procedures}
-use Rattle.operand_types.specs.Secrets.{secret_at, secret_line}
-use Rattle.operand_types.specs.Sites.{Site, site_at}
-use Rattle.operand_types.specs.TypeLines.{type_lines}
-use Rattle.operand_types.specs.declared.mismatch.Mismatch.{Mismatch}
-use Rattle.operand_types.specs.declared.mismatch.Mismatch.TheVariants.{Widths, Kinds, Shapes, Labels}
+use Rattle.statement_work.specs.WorkCosts.{work_cost}
 use Rattle.syntax.specs.Reading.{Reads, accepted, refused}
 use Rattle.word.specs.declared.place.Place.{Place}
 use Rattle.word.specs.Places.{place_text}
-use Rattle.word.specs.declared.profile.Profile.TheVariants.{P1}
 
 -- X1: a byte order mark is named, as EF BB BF
 abbrev pub begins_with_mark : List ℕ → Bool
@@ -56,7 +52,8 @@ abbrev pub interval_text : Interval → List ℕ
 interval_text i = if i.low == i.high then decimal i.low else decimal i.low ++ (codes " to " ++ decimal i.high)
 
 abbrev pub cause_line : Cause → List ℕ
-cause_line (Index i size) = codes "  the index is " ++ (interval_text i ++ (codes ", and the array's length is " ++ (decimal size ++ codes "\n")))
+cause_line (Index i size) =
+    codes "  the index is " ++ (interval_text i ++ (codes ", and the array's length is " ++ (decimal size ++ codes "\n")))
 cause_line (Divisor i) = codes "  the divisor is " ++ (interval_text i ++ codes "\n")
 
 abbrev pub finding_line : Option Finding → List ℕ
@@ -87,37 +84,29 @@ abbrev pub calls_line : ℕ → List ProcedureTree → List ℕ
 calls_line at procedures = procedure_line procedures (procedure_at at procedures)
 
 pub record SaysRange (at : ℕ) (program : ProgramTree) (lines : List ℕ) : Type 0 where
-  pub found : Option Finding
-  pub finds : Finds program found
-  pub printed : lines ≡ finding_line found ++ calls_line at program.procedures
+  pub export : Option (List ProcedureTree × ProcedureTree)
+  pub is : IsExportOf program export
+  pub printed : lines ≡ finding_line (first_in (option_map flat_of export)) ++ calls_line at program.procedures
 
--- T1, T2, T5, L1: the types of what is compared at the place; L1, L3, L4, L5, L7: the first secret name among the operands there
-abbrev pub site_of : ℕ → ProgramTree → Option Site
-site_of at program = site_at at [] (empty P1) program.procedures
+-- S3: how much work the export has, how much is allowed, and the part that has most
+abbrev pub export_work : Option (List ProcedureTree × ProcedureTree) → List ℕ
+export_work None = []
+export_work (Some export) = work_line (work_cost export.0 export.1)
 
-abbrev pub SaysTypes : Mismatch → ℕ → ProgramTree → List ℕ → Type 0
-SaysTypes mismatch at program lines = lines ≡ type_lines mismatch (site_of at program)
-
-abbrev pub SaysSecret : ℕ → ProgramTree → List ℕ → Type 0
-SaysSecret at program lines = lines ≡ secret_line (secret_at (site_of at program))
+pub record SaysWork (program : ProgramTree) (lines : List ℕ) : Type 0 where
+  pub export : Option (List ProcedureTree × ProcedureTree)
+  pub is : IsExportOf program export
+  pub printed : lines ≡ export_work export
 
 -- of a program that violates a rule behind so many bytes
 abbrev pub SaysOfProgram : Rule → ℕ → ProgramTree → List ℕ → Type 0
 SaysOfProgram UndeclaredName at program lines = lines ≡ name_line (use_in_procedures at program.procedures)
 SaysOfProgram InlinedSize at program lines = lines ≡ inlined_size_lines (exported [] program.procedures)
 SaysOfProgram DeclaredBytes at program lines = lines ≡ declared_bytes_lines (exported [] program.procedures)
+SaysOfProgram TooMuchWork at program lines = SaysWork program lines
 SaysOfProgram IndexOutOfRange at program lines = SaysRange at program lines
 SaysOfProgram DivisorMayBeZero at program lines = SaysRange at program lines
-SaysOfProgram WidthsDiffer at program lines = SaysTypes Widths at program lines
-SaysOfProgram WrongKind at program lines = SaysTypes Kinds at program lines
-SaysOfProgram ArrayShapeOrLabel at program lines = SaysTypes Shapes at program lines
-SaysOfProgram SecretToPublic at program lines =
-    lines ≡ type_lines Labels (site_of at program) ++ secret_line (secret_at (site_of at program))
-SaysOfProgram SecretIndex at program lines = SaysSecret at program lines
-SaysOfProgram SecretBound at program lines = SaysSecret at program lines
-SaysOfProgram SecretDivisionOperand at program lines = SaysSecret at program lines
-SaysOfProgram SecretMultiplicationOperand at program lines = SaysSecret at program lines
-SaysOfProgram rule at program lines = lines ≡ []
+SaysOfProgram rule at program lines = lines ≡ typing_lines rule at program
 
 -- of a text that is no program
 abbrev pub SaysOfText : Rule → ℕ → List ℕ → List ℕ → Type 0

@@ -15,5 +15,8 @@ expected_line (name ∷ names) = codes "  expected: " ++ (name ++ (more_names na
 
 -- at a place behind so many bytes of a text, unless that is inside a character
 pub data SaysExpected (text : List ℕ) (at : ℕ) : List ℕ → Type 0 where
-  tried : {names : List (List ℕ)} → IsCharBoundary text at → Expects (take at text) candidates names → SaysExpected text at (expected_line names)
+  tried : {names : List (List ℕ)}
+      → IsCharBoundary text at
+      → Expects (take at text) candidates names
+      → SaysExpected text at (expected_line names)
   inside : ¬ IsCharBoundary text at → SaysExpected text at []

@@ -1,5 +1,6 @@
--- What there is at a program's first violation of ranges.
+-- The export of a program as the passes make one body of it, and what there is at its first violation of ranges.
 use Rattle.std.specs.Prelude.{◌≡◌, ℕ, List, [], length, fold, Option, None, Some}
+use Rattle.inline.specs.Flat.{FlatProgram}
 use Rattle.inline.specs.Numbering.{flattened}
 use Rattle.intervals.specs.declared.found.Finding.{Finding}
 use Rattle.intervals.specs.Findings.{range_findings, sooner_finding}
@@ -11,14 +12,24 @@ use Rattle.language.specs.Typing.{violations}
 use Rattle.language.specs.declared.typing.Violation.{Violation}
 use Rattle.word.specs.declared.profile.Profile.TheVariants.{P1}
 
--- the first that is found in the export, with the bodies that it calls; nothing where a pass before refuses the program
-pub data Finds (program : ProgramTree) : Option Finding → Type 0 where
-  ill_typed : {first : Violation} → IsFirst (violations P1 program) first → Finds program None
+-- the export with the procedures that it may call; nothing where a pass before the ranges refuses the program
+pub data IsExportOf (program : ProgramTree) : Option (List ProcedureTree × ProcedureTree) → Type 0 where
+  ill_typed : {first : Violation} → IsFirst (violations P1 program) first → IsExportOf program None
   too_large : {before : List ProcedureTree} {export : ProcedureTree} {first : Violation}
       → exported [] program.procedures ≡ Some (before, export)
       → IsFirst (size_violations before export) first
-      → Finds program None
-  in_export : {before : List ProcedureTree} {export : ProcedureTree} {found : Option Finding}
+      → IsExportOf program None
+  one_body : {before : List ProcedureTree} {export : ProcedureTree}
+      → length (violations P1 program) ≡ 0
       → exported [] program.procedures ≡ Some (before, export)
-      → found ≡ fold sooner_finding None (range_findings (flattened P1 before export))
-      → Finds program found
+      → length (size_violations before export) ≡ 0
+      → IsExportOf program (Some (before, export))
+
+-- as one body
+abbrev pub flat_of : List ProcedureTree × ProcedureTree → FlatProgram
+flat_of export = flattened P1 export.0 export.1
+
+-- the first violation of ranges in a body, with why it is one
+abbrev pub first_in : Option FlatProgram → Option Finding
+first_in None = None
+first_in (Some flat) = fold sooner_finding None (range_findings flat)

@@ -1,4 +1,5 @@
+pub mod Details
 pub mod ExpectedLines
 pub mod Found
 pub mod SizeLines
-pub mod Details
+pub mod TypingLines

@@ -1,6 +1,7 @@
 -- What is said of a size above its limit: how much the export has, how much is allowed, and where the part stands that has most.
 use Rattle.std.specs.Prelude.{ℕ, nat_lt, List, [], ◌++◌, codes, Option, None, Some, if◌then◌else◌}
 use Rattle.std.specs.Fmt.{decimal}
+use Rattle.intervals.specs.Limits.{most_work}
 use Rattle.language.specs.Limits.{most_bodies, most_declared_bytes, most_nodes}
 use Rattle.language.specs.Tree.{ProcedureTree}
 use Rattle.statement_costs.specs.Costs.{cost_of}
@@ -36,13 +37,14 @@ most_of DeclaredBytes = most_declared_bytes
 
 abbrev pub cost_line : Limit → Cost → List ℕ
 cost_line limit cost =
-    codes "  the export has " ++ (count_text cost.whole ++ (codes " " ++ (counted_things limit ++ (codes ", and at most " ++ (decimal (most_of limit)
-    ++ (codes " are allowed" ++ (part_text cost.costliest ++ codes "\n")))))))
+    codes "  the export has " ++ (count_text cost.whole ++ (codes " " ++ (counted_things limit
+    ++ (codes ", and at most " ++ (decimal (most_of limit) ++ (codes " are allowed" ++ (part_text cost.costliest ++ codes "\n")))))))
 
 -- S1: the nodes, and where they are within their limit the bodies that are open at once
 abbrev pub inlined_size_line : List ProcedureTree → ProcedureTree → List ℕ
 inlined_size_line before p =
-    if nat_lt most_nodes (cost_of Nodes before p).whole then cost_line Nodes (cost_of Nodes before p) else cost_line Bodies (cost_of Bodies before p)
+    if nat_lt most_nodes (cost_of Nodes before p).whole then cost_line Nodes (cost_of Nodes before p)
+    else cost_line Bodies (cost_of Bodies before p)
 
 abbrev pub inlined_size_lines : Option (List ProcedureTree × ProcedureTree) → List ℕ
 inlined_size_lines None = []
@@ -52,3 +54,9 @@ inlined_size_lines (Some export) = inlined_size_line export.0 export.1
 abbrev pub declared_bytes_lines : Option (List ProcedureTree × ProcedureTree) → List ℕ
 declared_bytes_lines None = []
 declared_bytes_lines (Some export) = cost_line DeclaredBytes (cost_of DeclaredBytes export.0 export.1)
+
+-- S3: the work
+abbrev pub work_line : Cost → List ℕ
+work_line cost =
+    codes "  the export's work is " ++ (count_text cost.whole ++ (codes ", and at most " ++ (decimal most_work
+    ++ (codes " is allowed" ++ (part_text cost.costliest ++ codes "\n")))))

@@ -2,17 +2,21 @@
 //
 // It promises which lines these are, by the source's tree or, where it has none, by its bytes (`specs/Details.antt`). It
 // stands on `syntax` for the tree, on `expected_tokens` for what may stand at a place, on `name_uses` for what is near a
-// name, on `operand_types` for types and secret names, on `call_places` for calls, on `statement_costs` for sizes, and on
-// `intervals` for the numbers that an index or a divisor may be: those by which it was refused.
+// name, on `operand_types` for types and secret names, on `misfits` for what does not fit, on `call_places` for calls, on
+// `statement_costs` and `statement_work` for sizes and work, and on `intervals` for the numbers that an index or a divisor may
+// be and for the turns of loops: those by which it was refused.
 #![tactic(auto)]
 
 mod calls;
 mod characters;
 mod expectations;
+mod exports;
 mod name_lines;
-mod operands;
 mod ranges;
 mod size_lines;
+mod topics;
+mod typing;
+mod work_lines;
 
 ghost use Rattle.std.specs.Prelude.{◌≡◌, IfOk, IfErr};
 ghost use Rattle.std.specs.String.{string_bytes};
@@ -23,11 +27,11 @@ ghost use Rattle.refusal_details.specs.Details.{Says, SaysOfProgram, SaysOfText}
 use crate::characters::character_line;
 use crate::expectations::expected_lines;
 use crate::name_lines::name_line;
-use crate::operands::{label_lines, secret_line, type_lines};
 use crate::ranges::range_lines;
 use crate::size_lines::{declared_bytes_lines, inlined_size_lines};
+use crate::typing::typing_lines;
+use crate::work_lines::work_lines;
 use language::{Place, Program, Refusal, Rule};
-use operand_types::Mismatch;
 use std::alloc::Global;
 use syntax::parse;
 
@@ -62,18 +66,11 @@ fn program_lines(
     let at = place.offset;
     match rule {
         Rule::UndeclaredName => Ok(name_line(alloc, at, program)?),
-        Rule::WidthsDiffer => Ok(type_lines(alloc, Mismatch::Widths, at, program)?),
-        Rule::WrongKind => Ok(type_lines(alloc, Mismatch::Kinds, at, program)?),
-        Rule::ArrayShapeOrLabel => Ok(type_lines(alloc, Mismatch::Shapes, at, program)?),
-        Rule::SecretToPublic => Ok(label_lines(alloc, at, program)?),
-        Rule::SecretIndex | Rule::SecretBound => Ok(secret_line(alloc, at, program)?),
-        Rule::SecretDivisionOperand | Rule::SecretMultiplicationOperand => {
-            Ok(secret_line(alloc, at, program)?)
-        }
         Rule::InlinedSize => Ok(inlined_size_lines(alloc, program)?),
         Rule::DeclaredBytes => Ok(declared_bytes_lines(alloc, program)?),
+        Rule::TooMuchWork => work_lines(alloc, program),
         Rule::IndexOutOfRange | Rule::DivisorMayBeZero => range_lines(alloc, at, program),
-        _ => Ok(String::new(alloc)),
+        _ => Ok(typing_lines(alloc, rule, at, program)?),
     }
 }
 

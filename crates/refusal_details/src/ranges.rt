@@ -5,13 +5,12 @@ ghost use Rattle.std.specs.String.{string_bytes};
 ghost use Rattle.language.specs.Tree.{program_tree};
 ghost use Rattle.language.specs.WantOfMemory.{IsWantOfMemory};
 ghost use Rattle.refusal_details.specs.Details.{SaysRange, finding_line, cause_line, interval_text};
-ghost use Rattle.refusal_details.specs.Found.{Finds};
-ghost use Rattle.word.specs.declared.place.Place.{Place};
+ghost use Rattle.refusal_details.specs.Found.{first_in};
 
 use crate::calls::calls_line;
-use inline::inline;
+use crate::exports::flat_in;
+use inline::Flat;
 use intervals::{Cause, Finding, Interval, first_finding};
-use labels::check;
 use language::{Program, Refusal};
 use std::alloc::{AllocError, Global};
 
@@ -21,38 +20,23 @@ pub fn range_lines(alloc: Global, at: u32, program: &Program<'_>) -> Result<Stri
     ensures said { IfOk result (λ lines. SaysRange at (program_tree program.now) (string_bytes lines)) }
     ensures memory { IfErr result (λ refusal. IsWantOfMemory refusal.rule refusal.place) }
 {
-    let found = finding_in(alloc, program)?;
-    let line = finding_line(alloc, found)?;
+    let flat = flat_in(alloc, program)?;
+    let line = found_line(alloc, &flat)?;
     let calls = calls_line(alloc, at, program)?;
     let lines = format!(in alloc; "{line}{calls}")?;
     Ok(lines)
 }
 
-/// The first violation of ranges, as the passes find it; none where one before them refuses the program.
-fn finding_in(alloc: Global, program: &Program<'_>) -> Result<Option<Finding>, Refusal>
-    ensures found { IfOk result (Finds (program_tree program.now)) }
-    ensures memory { IfErr result (λ refusal. IsWantOfMemory refusal.rule refusal.place) }
+/// What is said of the first violation of ranges in a body, where there is a body.
+fn found_line(alloc: Global, flat: &Option<Flat>) -> Result<String, AllocError>
+    ensures { IfOk result (λ line. string_bytes line ≡ finding_line (first_in flat.now)) }
 {
-    let checked = match check(alloc, program) {
-        Ok(checked) => checked,
-        Err(refusal) => return none_for(refusal),
-    };
-    let flat = match inline(alloc, &checked) {
-        Ok(flat) => flat,
-        Err(refusal) => return none_for(refusal),
-    };
-    let found = first_finding(alloc, &flat)?;
-    Ok(found)
-}
-
-/// Nothing is found where a pass refuses a program at a place; where it ran out of memory, that is answered.
-fn none_for(refusal: Refusal) -> Result<Option<Finding>, Refusal>
-    ensures none { IfOk result (λ found. (found ≡ None) × ((place : Place) × (refusal.place ≡ Some place))) }
-    ensures memory { IfErr result (λ handed. (handed ≡ refusal) × (refusal.place ≡ None)) }
-{
-    match refusal.place {
-        Some(_) => Ok(None),
-        None => Err(refusal),
+    match flat {
+        Some(flat) => {
+            let found = first_finding(alloc, flat)?;
+            finding_line(alloc, found)
+        }
+        None => Ok(String::new(alloc)),
     }
 }
 

@@ -83,7 +83,7 @@ fn most_of(limit: Limit) -> u32
 }
 
 /// Where the part stands that has most, and how much it has.
-fn part_text(alloc: Global, part: Option<Part>) -> Result<String, AllocError>
+pub fn part_text(alloc: Global, part: Option<Part>) -> Result<String, AllocError>
     ensures { IfOk result (λ text. string_bytes text ≡ part_text part) }
 {
     match part {
@@ -109,7 +109,7 @@ fn part_head(count: u64) -> &'static str
 }
 
 /// A count. The greatest number stands for those above it too.
-fn count_text(alloc: Global, count: u64) -> Result<String, AllocError>
+pub fn count_text(alloc: Global, count: u64) -> Result<String, AllocError>
     ensures { IfOk result (λ text. string_bytes text ≡ count_text count) }
 {
     if count < u64::MAX {
