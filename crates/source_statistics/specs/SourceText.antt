@@ -3,6 +3,7 @@ use Rattle.std.specs.Prelude.{◌≡◌, ℕ, List, [], ◌++◌, codes, Option,
 use Rattle.std.specs.Fmt.{decimal}
 use Rattle.hepurita.specs.Built.{Judges, accepts}
 use Rattle.hepurita.specs.Exact.{image_for}
+use Rattle.hepurita.specs.declared.optimisation.Optimisation.TheVariants.{Off}
 use Rattle.image_fields.specs.Fields.{Fields}
 use Rattle.inline.specs.Numbering.{flattened}
 use Rattle.intervals.specs.Ranged.{RangedProgram}
@@ -12,6 +13,7 @@ use Rattle.statement_costs.specs.Costs.{cost_of}
 use Rattle.statement_costs.specs.declared.costs.Cost.{Cost}
 use Rattle.statement_costs.specs.declared.costs.Limit.TheVariants.{Nodes, Bodies, DeclaredBytes}
 use Rattle.statement_costs.specs.declared.costs.Part.{Part}
+use Rattle.statement_work.specs.WorkCosts.{work_cost}
 use Rattle.statistics.specs.FieldsText.{fields_text}
 use Rattle.word.specs.declared.profile.Profile.{Profile}
 use Rattle.word.specs.Places.{place_text}
@@ -24,26 +26,28 @@ costs_text body fields =
 -- the first of the parts that have most of something: how much, and where it stands
 abbrev pub most_line : List ℕ → Option Part → List ℕ
 most_line name None = []
-most_line name (Some p) = codes "most " ++ (name ++ (codes " " ++ (decimal p.cost ++ (codes " at " ++ (place_text p.place ++ codes "\n")))))
+most_line name (Some p) =
+    codes "most " ++ (name ++ (codes " " ++ (decimal p.cost ++ (codes " at " ++ (place_text p.place ++ codes "\n")))))
 
 -- of an export behind the procedures that it may call: the bodies that are open at once, the declared bytes, and the parts with
--- most nodes and most declared bytes
-abbrev pub size_text : Cost → Cost → Cost → List ℕ
-size_text nodes bodies bytes =
+-- most nodes, most declared bytes and most work
+abbrev pub size_text : Cost → Cost → Cost → Cost → List ℕ
+size_text nodes bodies bytes work =
     codes "bodies " ++ (decimal bodies.whole ++ (codes "\ndeclared_bytes " ++ (decimal bytes.whole ++ (codes "\n"
-    ++ (most_line (codes "nodes") nodes.costliest ++ most_line (codes "declared_bytes") bytes.costliest)))))
+    ++ (most_line (codes "nodes") nodes.costliest
+    ++ (most_line (codes "declared_bytes") bytes.costliest ++ most_line (codes "work") work.costliest))))))
 
 abbrev pub size_lines : List ProcedureTree → ProcedureTree → List ℕ
-size_lines before p = size_text (cost_of Nodes before p) (cost_of Bodies before p) (cost_of DeclaredBytes before p)
+size_lines before p = size_text (cost_of Nodes before p) (cost_of Bodies before p) (cost_of DeclaredBytes before p) (work_cost before p)
 
 abbrev pub export_lines : Option (List ProcedureTree × ProcedureTree) → List ℕ
 export_lines None = []
 export_lines (Some export) = size_lines export.0 export.1
 
--- the source is accepted, and the text has what its passes counted, the fields of its image and the sizes of its export
+-- the source is accepted, and the text has what its passes counted, the fields of its plain image and the sizes of its export
 pub record SaysCosts (profile : Profile) (source text : List ℕ) : Type 0 where
   pub program : ProgramTree
   pub before : List ProcedureTree
   pub export : ProcedureTree
   pub judged : Judges profile source (accepts program before export)
-  pub printed : text ≡ costs_text (ranged (flattened profile before export)) (image_for profile before export) ++ size_lines before export
+  pub printed : text ≡ costs_text (ranged (flattened profile before export)) (image_for Off profile before export) ++ size_lines before export

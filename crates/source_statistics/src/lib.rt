@@ -1,14 +1,14 @@
 // What an accepted source costs, as lines: its nodes and its work, which have limits, then the fields of its image, and
 // then what else has a limit: the bodies that are open at once and the declared bytes, with the parts that have most.
 //
-// It promises that these are the numbers that the passes used to judge the source, and the fields of the one image that
-// is built of it (`specs/SourceText.antt`); and that a source is refused exactly as `build` refuses it. It stands on the
+// It promises that these are the numbers that the passes used to judge the source, and the fields of the one plain
+// image that is built of it (`specs/SourceText.antt`); and that a source is refused exactly as `build` refuses it. It stands on the
 // passes, on `statistics` and on `statement_costs`.
 #![tactic(auto)]
 
 mod sizes;
 
-ghost use Rattle.std.specs.Prelude.{◌≡◌, [], List, ◌++◌, IfOk, IfErr};
+ghost use Rattle.std.specs.Prelude.{◌≡◌, [], List, ◌++◌, IfOk, IfErr, IfSome};
 ghost use Rattle.std.specs.String.{string_bytes};
 ghost use Rattle.branch_removal.specs.Exact.{straight_of};
 ghost use Rattle.codegen.specs.Exact.{fields_of};
@@ -54,11 +54,12 @@ fn flat_of(alloc: Global, program: &Program<'_>, profile: Profile) -> Result<Fla
 
 /// The lines of a body with what was counted for it, and of the program whose export it is. Only memory refuses them.
 fn costs(alloc: Global, ranged: &Ranged<'_>, program: &Program<'_>) -> Result<String, Refusal>
+    requires { IfSome (exported [] (program_tree program.now).procedures) (λ export. ranged.now.flat ≡ flattened ranged.now.flat.profile export.0 export.1) }
     ensures said { IfOk result (λ text. string_bytes text ≡ costs_text ranged.now (fields_of (straight_of ranged.now)) ++ export_lines (exported [] (program_tree program.now).procedures)) }
     ensures memory { IfErr result (λ refusal. IsWantOfMemory refusal.rule refusal.place) }
 {
     let mut text = body_costs(alloc, ranged)?;
-    push_sizes(alloc, &mut text, program)?;
+    push_sizes(alloc, &mut text, ranged, program)?;
     Ok(text)
 }
 

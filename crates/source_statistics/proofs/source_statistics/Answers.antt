@@ -1,4 +1,4 @@
-use Rattle.std.proofs.Common.{ap, subst, ◌∙◌, ◌≡◌, List, [], ◌++◌, length, inl, IfOk, Option}
+use Rattle.std.proofs.Common.{ap, subst, ◌∙◌, ◌≡◌, List, [], ◌++◌, length, inl, IfOk, IfSome, Option, sym}
 use Rattle.std.proofs.lemmas.Result.{err_from_is_err_and, IfOk-weaker, IfErr-weaker}
 use Rattle.std.specs.String.{string_bytes}
 use Rattle.branch_removal.specs.Exact.{straight_of}
@@ -12,6 +12,7 @@ use Rattle.language.specs.Signature.{exported}
 use Rattle.language.specs.Tree.{ProcedureTree, program_tree}
 use Rattle.hepurita.specs.Built.{fine, readable}
 use Rattle.hepurita.specs.Exact.{image_for}
+use Rattle.word.specs.declared.profile.Profile.{Profile}
 use Rattle.source_statistics.proofs.Below.{refusal_of_text, refusal_of_program, refusal_of_ranges, grammatical_export, same_violations}
 use Rattle.source_statistics.specs.SourceText.{costs_text, export_lines}
 use Rattle.source_statistics.proofs.source_statistics.Goals as goal
@@ -51,3 +52,11 @@ returns-clause-said c =
     let body = ranged (flattened c.args.profile made.0 made.1) in
     let printed = subst (λ (o : Option (List ProcedureTree × ProcedureTree)). IfOk c.costs.result (λ text. string_bytes text ≡ costs_text body (fields_of (straight_of body)) ++ export_lines o)) made.2.well_formed.is_export by_body in
     IfOk-weaker c.costs.result _ _ (λ text exact. record { program = program_tree c.in_ok-program.program; before = made.0; export = made.1; judged = judged; printed = exact }) printed
+
+pub costs-requires : goal.costs-requires
+costs-requires c =
+    let made = c.in_ok-flat.ensures.accepted in
+    let is = ap (λ (r : RangedProgram). r.flat) c.in_ok-ranged.ensures.accepted ∙ made.3 in
+    subst (λ (o : Option (List ProcedureTree × ProcedureTree)). IfSome o (λ export. c.in_ok-ranged.ranged.flat ≡ flattened c.in_ok-ranged.ranged.flat.profile export.0 export.1))
+    (sym made.2.well_formed.is_export)
+    (is ∙ ap (λ (profile : Profile). flattened profile made.0 made.1) (sym (ap (λ (f : FlatProgram). f.profile) is)))
