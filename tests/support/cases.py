@@ -9,6 +9,9 @@ import tempfile
 TOP = os.path.dirname(os.path.dirname(os.path.dirname(os.path.abspath(__file__))))
 DEFAULT = os.path.join(TOP, "crates", "factc", "out", "factc")
 
+# The codes of a source: what tests call the image of each, and the flags of `build` and `function` that ask for it.
+CODES = (("image", []), ("optimised", ["-O"]))
+
 
 class Cases:
     """Runs cases in a folder of their own, and counts them."""
