@@ -11,6 +11,8 @@ use Rattle.hepurita.specs.Bases.{frame_base}
 use Rattle.hepurita.specs.Executed.{Executed, refused, out_of_memory, ran, answer_at}
 use Rattle.hepurita.specs.declared.fault.RunFault.{RunFault}
 use Rattle.hepurita.specs.declared.fault.RunFault.TheVariants.{Memory, Stopped}
+use Rattle.hepurita.specs.declared.optimisation.Optimisation.{Optimisation}
+use Rattle.hepurita.specs.declared.optimisation.Optimisation.TheVariants.{Off}
 use Rattle.image_fields.specs.Fields.{Fields, IsImage, AreSlots, slot_end, is_length}
 use Rattle.image_fields.specs.declared.slot.Slot.{Slot}
 use Rattle.language.specs.Limits.{most_elements}
@@ -30,15 +32,15 @@ use Rattle.word.specs.declared.profile.Profile.{Profile}
 
 -- the law of the crate below
 abbrev pub GivesMeaning : Type 0
-GivesMeaning = (profile : Profile) (text bytes : List ℕ) (program : ProgramTree) (before : List ProcedureTree) (export : ProcedureTree) (image : Fields) (args : List Arg) (keeps : Bool) (list after : List Observation) (answer : Result Results RunFault)
-    → Builds profile text bytes program before export image → AreWithin (params_of image) args
+GivesMeaning = (optimisation : Optimisation) (profile : Profile) (text bytes : List ℕ) (program : ProgramTree) (before : List ProcedureTree) (export : ProcedureTree) (image : Fields) (args : List Arg) (keeps : Bool) (list after : List Observation) (answer : Result Results RunFault)
+    → Builds optimisation profile text bytes program before export image → AreWithin (params_of image) args
     → Executed image args keeps list answer after → IsTheOutcome program args answer
 
 pub meant : GivesMeaning → (program : ProgramTree) (image : Fields) (args : List Arg) (keeps : Bool) (list after : List Observation) (answer : Result Results RunFault) → IsImageOf program image → AreWithin (params_of image) args
     → Executed image args keeps list answer after → IsTheOutcome program args answer
 meant law program image args keeps list after answer is within executed =
     let source = is.2 in
-    law is.0 is.1 source.bytes program source.before source.export image args keeps list after answer source.builds within executed
+    law Off is.0 is.1 source.bytes program source.before source.export image args keeps list after answer source.builds within executed
 
 -- where the recorder does not refuse, a run fails when out of memory alone
 abbrev failing : RunFault → Result Results RunFault

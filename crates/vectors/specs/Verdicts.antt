@@ -11,6 +11,7 @@ use Rattle.certified_runs.specs.declared.shifts.Shifts.TheVariants.{Hidden}
 use Rattle.codegen.specs.Loaded.{params_of}
 use Rattle.hepurita.specs.Answers.{Builds}
 use Rattle.hepurita.specs.Meant.{Means}
+use Rattle.hepurita.specs.declared.optimisation.Optimisation.TheVariants.{Off}
 use Rattle.image_fields.specs.Fields.{Fields}
 use Rattle.language.specs.Results.{Results}
 use Rattle.language.specs.Tree.{ProcedureTree, ProgramTree}
@@ -20,12 +21,12 @@ use Rattle.vectors.specs.Spelled.{AreSpelled, Spell, lists_of, publics}
 use Rattle.vectors.specs.Texts.{plain, difference_text}
 use Rattle.word.specs.declared.profile.Profile.{Profile}
 
--- a source that is accepted for an observer: its program, and its image
+-- a source that is accepted for an observer: its program, and its plain image
 pub record IsSource (profile : Profile) (source : List ℕ) (program : ProgramTree) (image : Fields) : Type 0 where
   pub bytes : List ℕ
   pub before : List ProcedureTree
   pub export : ProcedureTree
-  pub builds : Builds profile source bytes program before export image
+  pub builds : Builds Off profile source bytes program before export image
 
 -- the same, whatever the source and the observer
 abbrev pub IsImageOf : ProgramTree → Fields → Type 0
